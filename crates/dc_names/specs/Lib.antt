@@ -1,0 +1,4 @@
+-- What a name and a path are, as lists of bytes.
+pub mod Bytes
+pub mod Paths
+pub mod Names

@@ -1,0 +1,12 @@
+//! Names and paths of directory entries, as bytes. Nothing here takes memory.
+#![tactic(auto)]
+
+mod fault;
+mod kind;
+mod name;
+mod path;
+
+pub use fault::{NoMemory, TextFault};
+pub use kind::Kind;
+pub use name::{Name, Part};
+pub use path::{PathText, parse};

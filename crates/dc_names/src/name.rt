@@ -1,0 +1,73 @@
+ghost use Rattle.std.specs.Prelude.{◌≡◌, ◌↔◌, ◌==◌, ◌||◌, ◌&&◌, not, nat_lt, length, IsTrue, IsSome, IfSome};
+ghost use Rattle.std.specs.List.{list_any};
+ghost use Rattle.dc_names.specs.Bytes.{is_empty, is_name, is_dot, is_dot_dot};
+
+/// The name of an entry: 1 to 255 bytes, no slash and no zero byte among them, neither `.` nor `..`.
+#[derive(Clone, Copy)]
+pub struct Name<'a> {
+    bytes: &'a [u8],
+    ghost valid: { IsTrue (is_name bytes.now) },
+}
+
+impl<'a> Name<'a> {
+    /// The name of these bytes, or `None` where they are none.
+    pub fn new(bytes: &'a [u8]) -> Option<Name<'a>>
+        ensures named { IsSome result ↔ IsTrue (is_name bytes.now) }
+        ensures bytes { IfSome result (λ name. name.bytes.now ≡ bytes.now) }
+    {
+        if is_name(bytes) {
+            Some(Name { bytes })
+        } else {
+            None
+        }
+    }
+
+    pub fn bytes(&self) -> &'a [u8]
+        ensures bytes { result.now ≡ self.now.bytes.now }
+        ensures named { IsTrue (is_name result.now) }
+    {
+        self.bytes
+    }
+}
+
+/// A component of a path (POSIX.1-2017 XBD 4.13).
+#[derive(Clone, Copy)]
+pub enum Part<'a> {
+    Normal(Name<'a>),
+    Dot,
+    DotDot,
+}
+
+/// Whether the bytes are one dot.
+pub(crate) fn is_dot(bytes: &[u8]) -> bool
+    ensures { result ≡ is_dot bytes.now }
+{
+    matches!(bytes, [b'.'])
+}
+
+/// Whether the bytes are two dots.
+pub(crate) fn is_dot_dot(bytes: &[u8]) -> bool
+    ensures { result ≡ is_dot_dot bytes.now }
+{
+    matches!(bytes, [b'.', b'.'])
+}
+
+/// Whether the bytes are as many as a name may have.
+fn has_name_length(bytes: &[u8]) -> bool
+    ensures { result ≡ (not (is_empty bytes.now) && not (nat_lt 255 (length bytes.now))) }
+{
+    !bytes.is_empty() && bytes.len() <= 255
+}
+
+/// Whether a byte stands there that no name has.
+fn has_barred_byte(bytes: &[u8]) -> bool
+    ensures { result ≡ list_any (λ b. b == 47 || b == 0) bytes.now }
+{
+    bytes.iter().any(|b| *b == b'/' || *b == 0)
+}
+
+fn is_name(bytes: &[u8]) -> bool
+    ensures { result ≡ is_name bytes.now }
+{
+    has_name_length(bytes) && !has_barred_byte(bytes) && !is_dot(bytes) && !is_dot_dot(bytes)
+}

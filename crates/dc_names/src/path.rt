@@ -1,0 +1,76 @@
+ghost use Rattle.std.specs.Prelude.{◌≡◌, ◌==◌, IfOk, IfErr, None, Some, length, nat_lt};
+ghost use Rattle.std.specs.List.{list_any, list_all};
+ghost use Rattle.dc_names.specs.Bytes.{pieces};
+ghost use Rattle.dc_names.specs.Paths.{fault_of, has_end_slash, begins_with_slash, ends_in_slash};
+
+use crate::TextFault;
+
+/// The bytes of a path without a fault: 1 to 4,095 bytes, none of them zero, with components of at
+/// most 255 bytes.
+#[derive(Clone, Copy)]
+pub struct PathText<'a> {
+    bytes: &'a [u8],
+    ghost valid: { fault_of bytes.now ≡ None },
+}
+
+/// The path that the bytes are, or their first fault.
+pub fn parse(bytes: &[u8]) -> Result<PathText<'_>, TextFault>
+    ensures path { IfOk result (λ path. path.bytes.now ≡ bytes.now) }
+    ensures sound { IfOk result (λ path. fault_of bytes.now ≡ None) }
+    ensures fault { IfErr result (λ fault. fault_of bytes.now ≡ Some fault) }
+{
+    if bytes.is_empty() {
+        Err(TextFault::Empty)
+    } else if bytes.len() > 4095 || has_long_piece(bytes) {
+        Err(TextFault::Long)
+    } else if bytes.contains(&0) {
+        Err(TextFault::Zero)
+    } else {
+        Ok(PathText { bytes })
+    }
+}
+
+/// Whether a component has more than 255 bytes.
+fn has_long_piece(bytes: &[u8]) -> bool
+    ensures { result ≡ list_any (λ piece. nat_lt 255 (length piece)) (pieces bytes.now) }
+{
+    bytes.split(|b| *b == b'/').any(|piece| piece.len() > 255)
+}
+
+impl<'a> PathText<'a> {
+    pub fn bytes(&self) -> &'a [u8]
+        ensures bytes { result.now ≡ self.now.bytes.now }
+        ensures valid { fault_of result.now ≡ None }
+    {
+        self.bytes
+    }
+
+    /// Whether the path is resolved from the root.
+    pub fn is_absolute(&self) -> bool
+        ensures { result ≡ begins_with_slash self.now.bytes.now }
+    {
+        matches!(self.bytes.first(), Some(b'/'))
+    }
+
+    /// Whether the last byte is a slash and some byte isn't.
+    pub fn has_end_slash(&self) -> bool
+        ensures { result ≡ has_end_slash self.now.bytes.now }
+    {
+        ends_in_slash(self.bytes) && !is_all_slashes(self.bytes)
+    }
+}
+
+fn ends_in_slash(bytes: &[u8]) -> bool
+    ensures { result ≡ ends_in_slash bytes.now }
+{
+    match bytes.last() {
+        Some(byte) => *byte == b'/',
+        None => false,
+    }
+}
+
+fn is_all_slashes(bytes: &[u8]) -> bool
+    ensures { result ≡ list_all (λ b. b == 47) bytes.now }
+{
+    bytes.iter().all(|b| *b == b'/')
+}
