@@ -1,0 +1,155 @@
+-- What each call answers on a tree, and the tree that it leaves.
+use Rattle.std.specs.Prelude.{ℕ, zero, suc, List, Bool, true, false, not, ◌==◌, ◌&&◌, ◌||◌, nat_le, length, Option, Some, None, is_some, if◌then◌else◌, Result, Ok, Err}
+use Rattle.dc_names.specs.Bytes.{is_empty}
+use Rattle.dc_plain.specs.declared.call.Follow.{Follow}
+use Rattle.dc_plain.specs.declared.call.Follow.TheVariants as follow
+use Rattle.dc_plain.specs.Facts.{Place, Label}
+use Rattle.dc_plain.specs.Facts.Label.{Entry}
+use Rattle.dc_plain.specs.Resolution.{is_directory}
+use Rattle.dc_plain.specs.Trees.{Tree, Inode, entry_of, text_of, names_of, names_in, holder_of, if_held}
+use Rattle.dc_plain.specs.Trees.Inode.{Directory, Regular, Symbolic}
+use Rattle.dc_plain.specs.Requests.{Request, Answer}
+use Rattle.dc_plain.specs.Requests.Request.{Look, Readlink, Stat, List_names, Mkdir, Create, Hard_link, Symlink, Unlink, Rmdir, Rename}
+use Rattle.dc_plain.specs.Requests.Answer.{Found, Done, Nothing, Bytes, Names, Counted, Refused}
+use Rattle.dc_plain.specs.Refusals.{◌>>=◌, refuse, path_or_fault, walk_on, place_on, spot_on, name_or, name_or_each, present, is_full}
+use Rattle.dc_plain.specs.Effects.{with_new, with_entry_for, without_entry, without_entry_alone, without_there}
+
+-- the answer with the tree that is left, or a refusal
+
+abbrev pub Change : Type 0
+Change = Result (Answer × Tree) ℕ
+
+-- a new inode of this kind, with its entry (mkdir, mknod, symlink)
+abbrev pub make : ℕ → Tree → ℕ → List ℕ → Bool → Inode → Change
+make limit t base text may_end_in_slash inode = do
+  at ← spot_on t base text
+  name ← name_or 17 at.last
+  free ← refuse (is_some (entry_of t at.directory (Entry name))) 17
+  ends ← refuse (at.slash && not may_end_in_slash) 2
+  room ← refuse (is_full limit t) 28
+  Ok (Done t.next, with_new t at.directory name inode)
+
+-- a further name of an inode (link: without AT_SYMLINK_FOLLOW)
+abbrev pub link : Tree → ℕ → List ℕ → List ℕ → Change
+link t base old new = do
+  old_path ← path_or_fault old
+  new_path ← path_or_fault new
+  from ← place_on t base old_path
+  to ← place_on t base new_path
+  old_name ← name_or 1 from.last
+  new_name ← name_or 17 to.last
+  inode ← present 2 (entry_of t from.directory (Entry old_name))
+  no_directory ← refuse (is_directory inode) 1
+  old_ends ← refuse from.slash 20
+  free ← refuse (is_some (entry_of t to.directory (Entry new_name))) 17
+  new_ends ← refuse to.slash 2
+  room ← refuse (nat_le 65000 (names_of t inode.0)) 31
+  Ok (Done inode.0, with_entry_for t to.directory new_name inode.0)
+
+-- a name that is no directory's goes
+abbrev pub unlink : Tree → ℕ → List ℕ → Change
+unlink t base text = do
+  at ← spot_on t base text
+  name ← name_or 1 at.last
+  inode ← present 2 (entry_of t at.directory (Entry name))
+  no_directory ← refuse (is_directory inode) 1
+  ends ← refuse at.slash 20
+  Ok (Nothing, without_entry t at.directory name inode.0)
+
+-- an empty directory goes
+abbrev pub rmdir : Tree → ℕ → List ℕ → Change
+rmdir t base text = do
+  at ← spot_on t base text
+  name ← name_or_each 16 22 39 at.last
+  inode ← present 2 (entry_of t at.directory (Entry name))
+  directory ← refuse (not (is_directory inode)) 20
+  empty ← refuse (not (is_empty (names_in t inode.0))) 39
+  Ok (Nothing, without_entry t at.directory name inode.0)
+
+-- going up from d one meets n, or doesn't come to the root within so many steps
+abbrev pub is_beneath : ℕ → Tree → ℕ → ℕ → Bool
+is_beneath zero t d n = true
+is_beneath (suc steps) t d n = d == n || not (d == 1) && if_held (holder_of t d) (λ up. is_beneath steps t up n)
+
+-- what may stand at the new name
+abbrev pub replaceable : Tree → Place → Option Place → Result Bool ℕ
+replaceable t moved None = Ok true
+replaceable t moved (Some there) =
+    if is_directory moved then (if not (is_directory there) then Err 20 else refuse (not (is_empty (names_in t there.0))) 39)
+    else refuse (is_directory there) 21
+
+-- whether both names lead to one inode
+abbrev pub same_inode : Place → Option Place → Bool
+same_inode moved None = false
+same_inode moved (Some there) = moved.0 == there.0
+
+-- an inode gets another name in place of one of its names
+abbrev pub rename : Tree → ℕ → List ℕ → List ℕ → Change
+rename t base old new = do
+  old_path ← path_or_fault old
+  new_path ← path_or_fault new
+  from ← place_on t base old_path
+  to ← place_on t base new_path
+  old_name ← name_or_each 16 22 22 from.last
+  new_name ← name_or_each 16 22 22 to.last
+  moved ← present 2 (entry_of t from.directory (Entry old_name))
+  ends ← refuse (not (is_directory moved) && (from.slash || to.slash)) 20
+  let there = entry_of t to.directory (Entry new_name)
+  if same_inode moved there then Ok (Nothing, t) else do
+    apart ← refuse (is_directory moved && is_beneath (length t.inodes) t to.directory moved.0) 22
+    may ← replaceable t moved there
+    Ok (Nothing, with_entry_for (without_entry_alone (without_there t to.directory new_name there) from.directory old_name) to.directory new_name moved.0)
+
+-- a link whose text has a path
+abbrev pub symlink : ℕ → Tree → ℕ → List ℕ → List ℕ → Change
+symlink limit t base text path = do
+  link_text ← path_or_fault text
+  make limit t base path false (Symbolic text)
+
+abbrev pub look : Tree → ℕ → List ℕ → Follow → Result Answer ℕ
+look t base text how = do
+  place ← walk_on t base text how
+  Ok (Found place.0 place.1)
+
+abbrev pub readlink : Tree → ℕ → List ℕ → Result Answer ℕ
+readlink t base text = do
+  place ← walk_on t base text follow.No
+  elim (text_of t place.0) [ None ↦ Err 22 | Some bytes ↦ Ok (Bytes bytes) ]
+
+abbrev pub count_at : Tree → Place → ℕ
+count_at t place = if is_directory place then length (names_in t place.0) else names_of t place.0
+
+abbrev pub stat : Tree → ℕ → List ℕ → Result Answer ℕ
+stat t base text = do
+  place ← walk_on t base text follow.Yes
+  Ok (Counted place.0 place.1 (count_at t place))
+
+abbrev pub list_names : Tree → ℕ → List ℕ → Result Answer ℕ
+list_names t base text = do
+  place ← walk_on t base text follow.Dir
+  Ok (Names (names_in t place.0))
+
+abbrev pub left_alone : Tree → Result Answer ℕ → Change
+left_alone t answered = answered >>= λ answer. Ok (answer, t)
+
+abbrev pub change_of : ℕ → Tree → Request → Change
+change_of limit t (Look base path how) = left_alone t (look t base path how)
+change_of limit t (Readlink base path) = left_alone t (readlink t base path)
+change_of limit t (Stat base path) = left_alone t (stat t base path)
+change_of limit t (List_names base path) = left_alone t (list_names t base path)
+change_of limit t (Mkdir base path) = make limit t base path true Directory
+change_of limit t (Create base path) = make limit t base path false Regular
+change_of limit t (Hard_link base old new) = link t base old new
+change_of limit t (Symlink base text path) = symlink limit t base text path
+change_of limit t (Unlink base path) = unlink t base path
+change_of limit t (Rmdir base path) = rmdir t base path
+change_of limit t (Rename base old new) = rename t base old new
+
+-- a refusal leaves the tree as it was
+abbrev pub settled : Tree → Change → Answer × Tree
+settled t (Ok done) = done
+settled t (Err number) = (Refused number, t)
+
+-- what a call answers with so many inodes allowed, and the tree after it
+abbrev pub operation : ℕ → Tree → Request → Answer × Tree
+operation limit t request = settled t (change_of limit t request)

@@ -1,0 +1,35 @@
+use dc_names::Kind;
+
+/// What becomes of a link that a path ends in.
+#[derive(Clone, Copy, Debug, PartialEq, Eq)]
+pub enum Follow {
+    Yes,
+    No,
+    Dir,
+}
+
+/// A call on a tree.
+#[derive(Clone, Copy)]
+pub enum Call<'a> {
+    Look {
+        base: u64,
+        path: &'a [u8],
+        follow: Follow,
+    },
+    Mkdir {
+        base: u64,
+        path: &'a [u8],
+    },
+}
+
+/// What a call is answered.
+#[derive(Drop)]
+pub enum Reply {
+    Found(u64, Kind),
+    Done(u64),
+    Unit,
+    Text(Vec<u8>),
+    Names(Vec<Vec<u8>>),
+    Stat(u64, Kind, u64),
+    Refused(u64),
+}

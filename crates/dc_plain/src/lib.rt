@@ -1,0 +1,13 @@
+//! The plain tree: the slow machine, its calls and replies.
+#![tactic(auto)]
+
+mod call;
+mod calls;
+mod plain;
+mod resolve;
+mod rows;
+mod text;
+
+pub use call::{Call, Follow, Reply};
+pub use plain::PlainTree;
+pub use resolve::{Place, Step, Walked};
