@@ -1,19 +1,17 @@
 -- Where a path leads, an inode lives.
-use Rattle.std.proofs.Common.{◌≡◌, ℕ, zero, suc, List, [], ◌∷◌, ◌++◌, ◌==◌, ◌&&◌, ◌||◌, not, Bool, true, false, cond, Option, Some, None, IsTrue, refl, ap, sym, ◌∙◌, option_map, option_and_then, find, subst, if◌then◌else◌}
+use Rattle.std.proofs.Common.{◌≡◌, ℕ, zero, suc, List, [], ◌∷◌, ◌++◌, ◌==◌, ◌&&◌, ◌||◌, not, Bool, true, false, cond, Option, Some, None, refl, ap, sym, ◌∙◌, option_map, option_and_then, subst, if◌then◌else◌}
 use Rattle.dc_names.specs.Bytes.{is_empty}
 use Rattle.dc_names.specs.Paths.{Part, path_in}
 use Rattle.dc_names.specs.Paths.Part.{Name, Dot, DotDot}
-use Rattle.dc_names.specs.declared.kind.Kind.TheVariants.{Dir, File, Link}
 use Rattle.dc_plain.specs.declared.call.Follow.{Follow}
 use Rattle.dc_plain.specs.declared.call.Follow.TheVariants as follow
-use Rattle.dc_plain.specs.Facts.{Place, Label, Teller}
+use Rattle.dc_plain.specs.Facts.{Place, Label}
 use Rattle.dc_plain.specs.Facts.Label.{Entry, Parent, Text}
 use Rattle.dc_plain.specs.Resolution.{Outcome, Met, root, is_directory, is_link, met_by, at_part, with_met, with_text, ending, over_parts, resolve, wants_directory, keeps_link}
 use Rattle.dc_plain.specs.Resolution.Outcome.{Found, Refused}
 use Rattle.dc_plain.specs.Resolution.Met.{Goes, Stops, Meets}
-use Rattle.dc_plain.specs.Trees.{Tree, Inode, inode_of, place_at, entry_of, target_of, holder_of, told_of, text_of, kind_of, is_live_directory, is_directory_inode}
-use Rattle.dc_plain.specs.Trees.Inode.{Directory, Regular, Symbolic}
-use Rattle.dc_plain.specs.IsWellFormed.{IsWellFormed}
+use Rattle.dc_plain.specs.Trees.{Tree, Inode, inode_of, place_at, entry_of, target_of, holder_of, told_of, text_of, kind_of, is_live_directory}
+use Rattle.dc_plain.specs.Trees.Inode.{Directory}
 
 -- a place that is as the tree has it
 abbrev pub Stands_at : Tree → Place → Type 0

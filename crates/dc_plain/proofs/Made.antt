@@ -1,22 +1,21 @@
 -- A tree with a new inode stays well formed.
-use Rattle.std.proofs.Common.{◌≡◌, ◌≢◌, ℕ, zero, suc, ◌+◌, ◌≤◌, ◌<◌, ◌==◌, ◌||◌, ◌^◌, List, [], ◌∷◌, Bool, true, false, cond, Option, Some, None, is_some, is_ok, IsTrue, T, refl, ap, sym, ◌∙◌, arith, find, length, option_map, option_and_then, subst}
+use Rattle.std.proofs.Common.{◌≡◌, ◌≢◌, ℕ, zero, suc, ◌≤◌, ◌<◌, ◌==◌, ◌||◌, ◌^◌, List, [], ◌∷◌, Bool, true, false, cond, Option, Some, None, is_some, is_ok, IsTrue, T, refl, ap, sym, ◌∙◌, arith, find, length, option_map, option_and_then, subst}
 use Rattle.std.specs.declared.cmp.Ordering.{Ordering}
 use Rattle.dc_plain.specs.Facts.Label.{Entry}
 use Rattle.std.specs.List.{AllByRecursion}
 use Rattle.std.specs.Cmp.{nat_cmp_total, IsTotalOrder}
-use Rattle.std.specs.Cmp.Lexicographic.{slice_cmp, nat_list_cmp_total}
+use Rattle.std.specs.Cmp.Lexicographic.{nat_list_cmp_total}
 use Rattle.std.specs.Ordering.{nat_cmp, eq_by_cmp}
-use Rattle.std.specs.FinMap.Entries.{put, is_sorted, is_sorted-put, find-put, length-put}
+use Rattle.std.specs.FinMap.Entries.{put, is_sorted-put, find-put, length-put}
 use Rattle.std.specs.FinMap.Entries.{find as lookup}
 use Rattle.std.proofs.lemmas.Cmp.{on_total, then_total}
 use Rattle.std.proofs.lemmas.Bool.Decides.{nat_tests}
 use Rattle.dc_names.specs.Bytes.{is_name}
 use Rattle.dc_names.specs.Paths.{path_of}
-use Rattle.dc_plain.specs.Trees.{entry_of, place_at, Tree, Spot, Inode, spot_cmp, inode_of, target_of, names_of, holder_of, how_many, is_live_directory, is_directory_inode}
+use Rattle.dc_plain.specs.Trees.{entry_of, place_at, Tree, Spot, Inode, spot_cmp, inode_of, target_of, names_of, holder_of, is_live_directory, is_directory_inode}
 use Rattle.dc_plain.specs.Trees.Inode.{Directory, Regular, Symbolic}
 use Rattle.dc_plain.specs.Trees.{if_held}
 use Rattle.dc_plain.specs.Effects.{with_new}
-use Rattle.dc_plain.specs.Refusals.{is_full}
 use Rattle.dc_plain.specs.IsWellFormed.{IsWellFormed, Stands, Lives, IsReached, comes_up}
 use Rattle.dc_plain.proofs.Puts.{count-put, All-put, find-put_no, find-put_yes, All-weaker, count_none}
 
@@ -82,7 +81,7 @@ held_later : (o : Option ℕ) (f g : ℕ → Bool) → ((k : ℕ) → o ≡ Some
 held_later None f g so h = h
 held_later (Some k) f g so h = so k refl h
 
-module _ (limit : ℕ) (t : Tree) (d : ℕ) (name : List ℕ) (inode : Inode) (well : IsWellFormed limit t) (in_directory : IsTrue (is_live_directory t d))
+module _ (t : Tree) (d : ℕ) (name : List ℕ) (inode : Inode) (well : IsWellFormed t) (in_directory : IsTrue (is_live_directory t d))
     (free : target_of t (record { directory = d; name = name }) ≡ None) where
   new : Tree
   new = with_new t d name inode
@@ -188,15 +187,14 @@ module _ (limit : ℕ) (t : Tree) (d : ℕ) (name : List ℕ) (inode : Inode) (w
   stands_new : IsTrue (is_name name) → Stands (with_new t d name inode) (record { directory = d; name = name }, t.next)
   stands_new named = record { named = named; held = directory_kept d in_directory; leads = rw made refl }
 
-  pub with_new-IsWellFormed : IsGood inode → IsTrue (is_name name) → length t.inodes < limit → t.next < 2 ^ 63 → IsWellFormed limit (with_new t d name inode)
-  with_new-IsWellFormed good named room low = record {
+  pub with_new-IsWellFormed : IsGood inode → IsTrue (is_name name) → t.next < 2 ^ 63 → IsWellFormed (with_new t d name inode)
+  with_new-IsWellFormed good named low = record {
     entries_in_order = from_test _ (is_sorted-put spot_cmp spots_total (record { directory = d; name = name }) t.next t.entries (to_test _ well.entries_in_order));
     inodes_in_order = from_test _ (is_sorted-put nat_cmp nat_cmp_total t.next inode t.inodes (to_test _ well.inodes_in_order));
     root_is = kept 1 Directory well.root_is;
     no_entry_leads_to_root = names_kept 1 (apart 1 Directory well.root_is) ∙ well.no_entry_leads_to_root;
     entries = All-put spot_cmp (record { directory = d; name = name }) t.next (Stands (with_new t d name inode)) t.entries free (stands_new named) (All-weaker (Stands t) (Stands (with_new t d name inode)) stands_kept t.entries well.entries);
     inodes = λ n i e. lives_new good n i (eq_by_cmp nat_cmp n t.next) refl (sym (inode_new n) ∙ e);
-    within = omega (arith, length_new);
     next_is = omega arith;
   }
 
@@ -212,8 +210,8 @@ All-lookup R P q (x ∷ xs) all v e =
 pub absent : (t : Tree) (n : ℕ) (i : Inode) → inode_of t n ≡ Some i → is_some (place_at t n) ≡ false → ⊥
 absent t n i e none = let there : is_some (place_at t n) ≡ true = rw e refl in cc
 
-pub free_spot : (limit : ℕ) (t : Tree) (d : ℕ) (name : List ℕ) → IsWellFormed limit t → is_some (entry_of t d (Entry name)) ≡ false → target_of t (record { directory = d; name = name }) ≡ None
-free_spot limit t d name well none = by_target (target_of t (record { directory = d; name = name })) refl none
+pub free_spot : (t : Tree) (d : ℕ) (name : List ℕ) → IsWellFormed t → is_some (entry_of t d (Entry name)) ≡ false → target_of t (record { directory = d; name = name }) ≡ None
+free_spot t d name well none = by_target (target_of t (record { directory = d; name = name })) refl none
   where
     by_target : (o : Option ℕ) → target_of t (record { directory = d; name = name }) ≡ o → is_some (option_and_then (place_at t) o) ≡ false → o ≡ None
     by_target None e none' = refl
@@ -222,8 +220,8 @@ free_spot limit t d name well none = by_target (target_of t (record { directory 
         let i = some_in (inode_of t n) live in
         absurd (absent t n i.0 i.1 none')
 
-pub unused_number : (limit : ℕ) (t : Tree) → IsWellFormed limit t → inode_of t t.next ≡ None
-unused_number limit t well = by_inode (inode_of t t.next) refl
+pub unused_number : (t : Tree) → IsWellFormed t → inode_of t t.next ≡ None
+unused_number t well = by_inode (inode_of t t.next) refl
   where
     by_inode : (o : Option Inode) → inode_of t t.next ≡ o → o ≡ None
     by_inode None e = refl

@@ -1,8 +1,8 @@
 -- The opening tree is well formed.
-use Rattle.std.proofs.Common.{◌≡◌, ◌≢◌, ℕ, ◌≤◌, ◌<◌, ◌==◌, Bool, true, false, cond, Option, Some, None, IfSome, IsTrue, refl, arith, ap, subst, sym, lit≤}
+use Rattle.std.proofs.Common.{◌≡◌, ℕ, Bool, true, false, cond, Some, None, refl, arith, subst, sym, lit≤}
 use Rattle.std.specs.Ordering.{nat_cmp, eq_by_cmp}
 use Rattle.std.proofs.lemmas.Bool.Decides.{nat_tests}
-use Rattle.dc_plain.specs.Trees.{empty_tree, Inode, inode_of}
+use Rattle.dc_plain.specs.Trees.{empty_tree, Inode}
 use Rattle.dc_plain.specs.Trees.Inode.{Directory}
 use Rattle.dc_plain.specs.IsWellFormed.{IsWellFormed, Lives}
 
@@ -17,7 +17,7 @@ the_root n inode true e is =
     subst (λ i. Lives empty_tree n i) directory (subst (λ k. Lives empty_tree k Directory) one
     (record { made = omega arith; counted = omega arith; reached = (λ apart. absurd (apart refl), 0, refl) }))
 
-pub opening : IsWellFormed 16 empty_tree
+pub opening : IsWellFormed empty_tree
 opening = record {
   entries_in_order = refl;
   inodes_in_order = refl;
@@ -25,6 +25,5 @@ opening = record {
   no_entry_leads_to_root = refl;
   entries = tt;
   inodes = λ n inode e. the_root n inode (eq_by_cmp nat_cmp n 1) refl e;
-  within = omega arith;
   next_is = lit≤ tt;
 }

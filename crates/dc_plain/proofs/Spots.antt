@@ -1,12 +1,11 @@
 -- The last part of a path, and its front.
-use Rattle.std.proofs.Common.{◌≡◌, ℕ, suc, ◌+◌, ◌-◌, ◌<◌, List, [], ◌∷◌, ◌++◌, Bool, Option, Some, None, Result, Ok, Err, map, length, slice_get, refl, ap, sym, ◌∙◌, arith, add-one}
-use Rattle.std.proofs.lemmas.List.{map-append, length-append, length-map}
-use Rattle.dc_names.specs.Paths.{Part, Path, part_of, words_of, parts_of, path_in, has_end_slash}
-use Rattle.dc_plain.specs.Facts.{Place}
+use Rattle.std.proofs.Common.{◌≡◌, ℕ, suc, ◌-◌, List, [], ◌∷◌, ◌++◌, Bool, Option, Some, None, Result, Ok, Err, map, length, slice_get, refl, ap, sym, ◌∙◌, arith}
+use Rattle.std.proofs.lemmas.List.{map-append, length-append}
+use Rattle.dc_names.specs.Paths.{Part, part_of, words_of, parts_of, path_in, has_end_slash}
 use Rattle.dc_plain.specs.Resolution.{Outcome, settled_walk}
 use Rattle.dc_plain.specs.Resolution.Outcome.{Found, Refused}
 use Rattle.dc_plain.specs.Trees.{Tree, told_of}
-use Rattle.dc_plain.specs.Places.{Where, Placed, front_of, place, placed_by, last_part}
+use Rattle.dc_plain.specs.Places.{Where, front_of, place, placed_by, last_part}
 use Rattle.dc_plain.specs.Refusals.{place_on, where_of, spot_on, path_or_fault, ◌>>=◌}
 
 abbrev pub located : Part → Bool → Outcome → Result Where ℕ

@@ -1,5 +1,5 @@
 -- Trees that the calls can make.
-use Rattle.std.specs.Prelude.{◌≡◌, ◌≢◌, ℕ, zero, suc, ◌==◌, ◌||◌, ◌<◌, ◌≤◌, ◌^◌, List, length, Bool, true, false, Option, Some, None, is_some, is_ok, IsTrue}
+use Rattle.std.specs.Prelude.{◌≡◌, ◌≢◌, ℕ, zero, suc, ◌==◌, ◌||◌, ◌<◌, ◌≤◌, ◌^◌, length, Bool, Some, is_some, is_ok, IsTrue}
 use Rattle.std.specs.Ordering.{nat_cmp}
 use Rattle.std.specs.List.{AllByRecursion}
 use Rattle.std.specs.FinMap.Entries.{is_sorted}
@@ -25,17 +25,23 @@ pub record Stands (t : Tree) (e : Spot × ℕ) : Type 0 where
   pub held : IsTrue (is_live_directory t e.0.directory)
   pub leads : IsTrue (is_some (inode_of t e.1))
 
+-- an inode has a number below the next one, and is reached
 pub record Lives (t : Tree) (n : ℕ) (inode : Inode) : Type 0 where
   pub made : n < t.next
   pub counted : 0 < n
   pub reached : IsReached t n inode
 
-pub record IsWellFormed (limit : ℕ) (t : Tree) : Type 0 where
+-- the tree that calls can make: the root, one holder for each other directory, a name for each other inode,
+-- entries in live directories, numbers below the next one
+pub record IsWellFormed (t : Tree) : Type 0 where
   pub entries_in_order : IsTrue (is_sorted spot_cmp t.entries)
   pub inodes_in_order : IsTrue (is_sorted nat_cmp t.inodes)
   pub root_is : inode_of t 1 ≡ Some Directory
   pub no_entry_leads_to_root : names_of t 1 ≡ 0
   pub entries : AllByRecursion (Stands t) t.entries
   pub inodes : (n : ℕ) (inode : Inode) → inode_of t n ≡ Some inode → Lives t n inode
-  pub within : length t.inodes ≤ limit
   pub next_is : t.next ≤ 2 ^ 63
+
+-- no more inodes live than are allowed
+abbrev pub IsWithin : ℕ → Tree → Type 0
+IsWithin limit t = length t.inodes ≤ limit

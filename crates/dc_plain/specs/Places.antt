@@ -1,12 +1,11 @@
 -- Where a whole path leads from a starting directory, and where its last part is to be looked up (POSIX.1-2017 XBD 4.13).
-use Rattle.std.specs.Prelude.{ℕ, List, Bool, true, false, ◌==◌, ◌||◌, ◌-◌, length, take, slice_get, option_map, Option, Some, None, if◌then◌else◌}
+use Rattle.std.specs.Prelude.{ℕ, List, Bool, false, ◌==◌, ◌||◌, ◌-◌, length, take, slice_get, option_map, Option, Some, None, if◌then◌else◌}
 use Rattle.dc_names.specs.Paths.{Part, Path}
 use Rattle.dc_names.specs.Paths.Part.{Name as PartName, Dot as PartDot, DotDot as PartDotDot}
-use Rattle.dc_names.specs.declared.kind.Kind.{Kind}
 use Rattle.dc_names.specs.declared.kind.Kind.TheVariants.{Dir}
 use Rattle.dc_plain.specs.declared.call.Follow.{Follow}
 use Rattle.dc_plain.specs.declared.call.Follow.TheVariants as follow
-use Rattle.dc_plain.specs.Facts.{Place, Label, Teller}
+use Rattle.dc_plain.specs.Facts.{Place, Teller}
 use Rattle.dc_plain.specs.Facts.Label.{Parent}
 use Rattle.dc_plain.specs.Resolution.{Outcome, root, resolve}
 use Rattle.dc_plain.specs.Resolution.Outcome.{Found, Refused}

@@ -1,5 +1,5 @@
 -- Whole runs, which calls alter a tree, and which keys they touch.
-use Rattle.std.specs.Prelude.{◌≡◌, ◌≢◌, ℕ, ◌+◌, List, [], ◌∷◌, Bool, true, false, not, ◌==◌, ◌&&◌, if◌then◌else◌}
+use Rattle.std.specs.Prelude.{◌≢◌, ℕ, ◌+◌, List, [], ◌∷◌, Bool, true, false, not, ◌==◌, ◌&&◌, if◌then◌else◌}
 use Rattle.std.specs.Cmp.Lexicographic.{pointwise}
 use Rattle.dc_plain.specs.Facts.{Key, same_bytes}
 use Rattle.dc_plain.specs.Trees.{Tree, Spot, Inode, fact_at}

@@ -192,7 +192,7 @@ impl PlainTree {
     }
 
     pub fn mkdir(&mut self, alloc: Global, base: u64, path: &[u8]) -> Result<Reply, AllocError>
-        requires { IsWellFormed self.old.limit (tree_of self.old) }
+        requires { IsWellFormed (tree_of self.old) }
         ensures reply { IfOk result (λ reply. answer_of reply ≡ reply_of self.old.limit (tree_of self.old) (MkdirAt base path.now)) }
         ensures tree { OnOk result (tree_of self.new ≡ tree_after self.old.limit (tree_of self.old) (MkdirAt base path.now)) }
         ensures err { OnErr result (tree_of self.new ≡ tree_of self.old) }
@@ -218,7 +218,7 @@ impl PlainTree {
 
     /// Answers a call.
     pub fn apply(&mut self, alloc: Global, call: &Call) -> Result<Reply, AllocError>
-        requires { IsWellFormed self.old.limit (tree_of self.old) }
+        requires { IsWellFormed (tree_of self.old) }
         ensures reply { IfOk result (λ reply. answer_of reply ≡ reply_of self.old.limit (tree_of self.old) (request_of call.now)) }
         ensures tree { OnOk result (tree_of self.new ≡ tree_after self.old.limit (tree_of self.old) (request_of call.now)) }
         ensures err { OnErr result (tree_of self.new ≡ tree_of self.old) }
@@ -232,7 +232,7 @@ impl PlainTree {
 
     /// Whether a call would change the tree.
     pub fn alters(&self, alloc: Global, call: &Call) -> Result<bool, AllocError>
-        requires { IsWellFormed self.now.limit (tree_of self.now) }
+        requires { IsWellFormed (tree_of self.now) }
         ensures { IfOk result (λ changes. IsTrue changes ↔ Alters self.now.limit (tree_of self.now) (request_of call.now)) }
     {
         match *call {

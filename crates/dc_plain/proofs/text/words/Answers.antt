@@ -1,4 +1,4 @@
-use Rattle.std.proofs.Common.{rules, tests, ◌==◌, not, length, List, ℕ}
+use Rattle.std.proofs.Common.{rules, tests, ◌==◌, not, length}
 use Rattle.std.proofs.lemmas.Iterator.Splits.{YieldsList-from_slice_split}
 use Rattle.std.proofs.lemmas.Iterator.Consumers.{YieldsList-at, YieldsList-from_filter, map_from_collect}
 use Rattle.dc_plain.proofs.text.words.Goals as goal
