@@ -1,0 +1,4 @@
+-- The texts of commands and of replies.
+pub mod Words
+pub mod Commands
+pub mod Replies

@@ -1,0 +1,34 @@
+/// What a command asks for.
+#[derive(Clone, Copy, Debug, PartialEq, Eq)]
+pub enum Verb {
+    Look,
+    Llook,
+    Cd,
+    Mkdir,
+}
+
+/// A command of a session.
+#[derive(Debug, Drop)]
+pub struct Command {
+    /// From 0 to 15.
+    pub session: u64,
+    pub verb: Verb,
+    /// The bytes that each word after the verb stands for, its escapes read.
+    pub words: Vec<Vec<u8>>,
+}
+
+/// A line of the input.
+#[derive(Debug, Drop)]
+pub enum Line {
+    /// All commands before it are answered before any after it begins.
+    Sync,
+    Command(Command),
+}
+
+/// Why a line wasn't read.
+#[derive(Clone, Copy, Debug, PartialEq, Eq)]
+pub enum LineFault {
+    /// It is no line of the grammar.
+    Bad,
+    NoMemory,
+}
