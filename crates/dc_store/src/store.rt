@@ -1,0 +1,70 @@
+ghost use Rattle.std.specs.Prelude.{◌≡◌, ℕ, None, length, option_map, IsTrue, IfOk, OnOk, OnErr};
+ghost use Rattle.dc_plain.specs.Facts.Label.{Parent};
+ghost use Rattle.dc_plain.specs.IsWellFormed.{IsWellFormed};
+ghost use Rattle.dc_plain.specs.Trees.{Tree, target_of, inode_of, entry_of, text_of, kind_of, is_live_directory};
+ghost use Rattle.dc_store.specs.Added.{CanAdd, tree_added, number_added};
+ghost use Rattle.dc_store.specs.Spots.{spot_at};
+
+use dc_names::{Kind, Name, NoMemory};
+use std::alloc::Global;
+
+/// What a new entry leads to.
+#[derive(Clone, Copy)]
+pub enum New<'a> {
+    /// A new directory.
+    Dir,
+    /// A new file.
+    File,
+    /// A new link with this text.
+    Link(&'a [u8]),
+    /// The inode of this number, which is no directory.
+    Same(u64),
+}
+
+/// Inodes by their numbers and entries by their directories and names, as a plain tree.
+pub trait Store {
+    /// The plain tree that it stands for.
+    ghost tree: { Self → Tree };
+
+    /// The number that a name in a directory leads to.
+    fn find(&self, dir: u64, name: Name<'_>) -> Option<u64>
+        ensures { result ≡ target_of (tree self.now) (spot_at dir name.entry.bytes.now) };
+
+    /// The kind of a live inode.
+    fn kind(&self, number: u64) -> Option<Kind>
+        ensures { result ≡ option_map kind_of (inode_of (tree self.now) number) };
+
+    /// The directory that holds a live directory's entry. The root holds itself.
+    fn parent(&self, number: u64) -> Option<u64>
+        ensures { result ≡ option_map (λ place. place.0) (entry_of (tree self.now) number Parent) };
+
+    /// The text of a live link.
+    fn text(&self, number: u64) -> Option<&[u8]>
+        ensures { option_map (λ text. text.now) result ≡ text_of (tree self.now) number };
+
+    /// How many inodes live, the root among them.
+    fn live(&self) -> u64
+        ensures count { result ≡ length (tree self.now).inodes }
+        ensures well { IsWellFormed (tree self.now) };
+
+    /// The number of the next new inode, at most 2^63.
+    fn next(&self) -> u64
+        ensures next { result ≡ (tree self.now).next }
+        ensures well { IsWellFormed (tree self.now) };
+
+    /// Adds an entry, with a new inode or for one that lives, and answers the number that it leads to.
+    /// `NoMemory` where memory was refused: then nothing has changed.
+    fn add(
+        &mut self,
+        alloc: Global,
+        dir: u64,
+        name: Name<'_>,
+        new: New<'_>,
+    ) -> Result<u64, NoMemory>
+        requires directory { IsTrue (is_live_directory (tree self.old) dir) }
+        requires free { target_of (tree self.old) (spot_at dir name.bytes.now) ≡ None }
+        requires can { CanAdd (tree self.old) new }
+        ensures ok { OnOk result (tree self.new ≡ tree_added (tree self.old) dir name.entry.bytes.now new.entry) }
+        ensures number { IfOk result (λ number. number ≡ number_added (tree self.old) new.entry) }
+        ensures err { OnErr result (tree self.new ≡ tree self.old) };
+}
