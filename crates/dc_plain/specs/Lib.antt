@@ -14,3 +14,4 @@ pub mod Plain
 pub mod Walks
 pub mod Calls
 pub mod LastParts
+pub mod KeysShown

@@ -19,8 +19,8 @@ ghost use Rattle.dc_plain.specs.LastParts.{last_shown, at_shown};
 
 use crate::resolve::{Place, ROOT, Walked, resolve};
 use crate::rows::{Node, insert_entry, insert_inode};
-use crate::{Call, Follow, PlainTree, Reply};
 use crate::text::{begins_with_slash, has_end_slash, is_dot, is_dot_dot, words};
+use crate::{Call, Follow, PlainTree, Reply};
 use dc_names::{Kind, parse};
 use std::alloc::{AllocError, Global};
 

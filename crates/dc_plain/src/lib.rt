@@ -3,11 +3,13 @@
 
 mod call;
 mod calls;
+mod key;
 mod plain;
 mod resolve;
 mod rows;
 mod text;
 
 pub use call::{Call, Follow, Reply};
+pub use key::{Key, Label};
 pub use plain::PlainTree;
 pub use resolve::{Place, Step, Walked};

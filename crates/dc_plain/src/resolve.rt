@@ -6,8 +6,8 @@ ghost use Rattle.dc_plain.specs.Trees.{told_of};
 ghost use Rattle.dc_plain.specs.Plain.{tree_of, stacked};
 ghost use Rattle.dc_plain.specs.Walks.{met_shown, outcome_of, walked_shown};
 
-use crate::{Follow, PlainTree};
 use crate::text::{begins_with_slash, has_end_slash, is_dot, is_dot_dot, words as words_in};
+use crate::{Follow, PlainTree};
 use dc_names::Kind;
 use std::alloc::{AllocError, Global};
 

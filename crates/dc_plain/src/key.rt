@@ -1,0 +1,19 @@
+use dc_names::Name;
+
+/// What is asked of an inode.
+#[derive(Clone, Copy)]
+pub enum Label<'a> {
+    /// The entry of this name in a directory.
+    Name(Name<'a>),
+    /// The entry dot-dot of a directory.
+    DotDot,
+    /// The text of a symbolic link.
+    Text,
+}
+
+/// What a row of the cache tells of: an entry, a dot-dot or a link's text, of the inode of a number.
+#[derive(Clone, Copy)]
+pub struct Key<'a> {
+    pub number: u64,
+    pub label: Label<'a>,
+}
