@@ -1,5 +1,5 @@
 -- The pieces of a path's text, and which of them are a name (POSIX.1-2017 XBD 3.170, 4.13).
-use Rattle.std.specs.Prelude.{ℕ, List, [], ◌∷◌, Bool, false, not, ◌&&◌, ◌||◌, ◌==◌, nat_lt, length}
+use Rattle.std.specs.Prelude.{ℕ, List, [], ◌∷◌, Bool, false, not, ◌&&◌, ◌||◌, ◌==◌, ◌≡◌, ◌≤◌, ◌-◌, nat_lt, length, drop}
 use Rattle.std.specs.List.{list_any, list_all, slice_split}
 
 -- the bytes between slashes, empty pieces too
@@ -23,6 +23,14 @@ is_name bytes = not (is_empty bytes) && not (nat_lt 255 (length bytes))
     && not (list_any (λ b. b == 47 || b == 0) bytes)
     && not (is_dot bytes) && not (is_dot_dot bytes)
 
--- each piece is empty, dot, dot-dot or a name
+-- a piece that a path may have
+abbrev pub is_part : List ℕ → Bool
+is_part piece = is_empty piece || is_dot piece || is_dot_dot piece || is_name piece
+
 abbrev pub has_parts : List ℕ → Bool
-has_parts text = list_all (λ piece. is_empty piece || is_dot piece || is_dot_dot piece || is_name piece) (pieces text)
+has_parts text = list_all is_part (pieces text)
+
+-- the last bytes of a text
+pub record IsRest (rest text : List ℕ) : Type 0 where
+  pub within : length rest ≤ length text
+  pub bytes : rest ≡ drop (length text - length rest) text

@@ -22,6 +22,14 @@ impl<'a> Name<'a> {
         }
     }
 
+    /// The name of bytes of which the caller knows that they are one.
+    pub fn known(bytes: &'a [u8]) -> Name<'a>
+        requires { IsTrue (is_name bytes.now) }
+        ensures { result.bytes.now ≡ bytes.now }
+    {
+        Name { bytes }
+    }
+
     pub fn bytes(&self) -> &'a [u8]
         ensures bytes { result.now ≡ self.now.bytes.now }
         ensures named { IsTrue (is_name result.now) }

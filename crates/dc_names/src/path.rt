@@ -1,9 +1,9 @@
-ghost use Rattle.std.specs.Prelude.{◌≡◌, ◌==◌, IfOk, IfErr, None, Some, length, nat_lt};
+ghost use Rattle.std.specs.Prelude.{◌≡◌, ◌==◌, IfOk, IfErr, IsTrue, None, Some, length, nat_lt};
 ghost use Rattle.std.specs.List.{list_any, list_all};
-ghost use Rattle.dc_names.specs.Bytes.{pieces};
-ghost use Rattle.dc_names.specs.Paths.{fault_of, has_end_slash, begins_with_slash, ends_in_slash};
+ghost use Rattle.dc_names.specs.Bytes.{pieces, has_parts};
+ghost use Rattle.dc_names.specs.Paths.{fault_of, parts_of, has_end_slash, begins_with_slash, ends_in_slash};
 
-use crate::TextFault;
+use crate::{Components, TextFault};
 
 /// The bytes of a path without a fault: 1 to 4,095 bytes, none of them zero, with components of at
 /// most 255 bytes.
@@ -38,11 +38,27 @@ fn has_long_piece(bytes: &[u8]) -> bool
 }
 
 impl<'a> PathText<'a> {
+    /// The path that the bytes are, where the caller knows that they have no fault.
+    pub fn new(bytes: &'a [u8]) -> PathText<'a>
+        requires { fault_of bytes.now ≡ None }
+        ensures { result.bytes.now ≡ bytes.now }
+    {
+        PathText { bytes }
+    }
+
     pub fn bytes(&self) -> &'a [u8]
         ensures bytes { result.now ≡ self.now.bytes.now }
         ensures valid { fault_of result.now ≡ None }
+        ensures parts { IsTrue (has_parts result.now) }
     {
         self.bytes
+    }
+
+    /// The components from first to last.
+    pub fn components(&self) -> Components<'a>
+        ensures { parts_of result.rest.now ≡ parts_of self.now.bytes.now }
+    {
+        Components::new(self.bytes())
     }
 
     /// Whether the path is resolved from the root.

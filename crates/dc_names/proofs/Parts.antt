@@ -1,0 +1,79 @@
+-- The first piece of a text, and what comes after it.
+use Rattle.std.proofs.Common.{◌≡◌, ℕ, suc, ◌+◌, ◌<◌, ◌≤◌, ◌==◌, ◌&&◌, ◌∷◌, [], List, take, drop, map, length, Bool, true, false, cond, not, refl, ap, sym, ◌∙◌, arith, Option, Some, None, IsTrue, nat_lt, rules, tests}
+use Rattle.std.specs.Option.{unwrap_or}
+use Rattle.std.specs.List.{position_or_len, prefix_len, onto_first, list_all, filter}
+use Rattle.std.proofs.lemmas.List.Sums.{prefix_len-le-length}
+use Rattle.std.proofs.lemmas.Grind.{common_steps}
+use Rattle.dc_names.specs.Bytes.{pieces, is_empty, is_part, has_parts}
+use Rattle.dc_names.specs.Paths.{words_of, parts_of, part_of}
+
+abbrev pub piece_end : List ℕ → ℕ
+piece_end text = position_or_len (λ b. b == 47) text
+
+pub piece_end-le : (text : List ℕ) → piece_end text ≤ length text
+piece_end-le text = prefix_len-le-length _ text
+
+one_more : (n : ℕ) → 1 + n ≡ suc n
+one_more n = omega arith
+
+-- the pieces after the first
+abbrev others : List ℕ → List (List ℕ)
+others [] = []
+others (b ∷ bs) = pieces bs
+
+pieces_cut : (text : List ℕ) → pieces text ≡ take (piece_end text) text ∷ others (drop (piece_end text) text)
+pieces_cut [] = refl
+pieces_cut (b ∷ bs) =
+    let more = pieces_cut bs in
+    elim (b == 47) as (λ t. cond t ([] ∷ pieces bs) (onto_first b (pieces bs)) ≡ take (cond (not t) (1 + piece_end bs) 0) (b ∷ bs) ∷ others (drop (cond (not t) (1 + piece_end bs) 0) (b ∷ bs))) [
+      | true ↦ refl
+      | false ↦ rw (one_more (piece_end bs)) (ap (onto_first b) more)
+    ]
+
+-- the rest begins with the slash, before which an empty piece stands, or is empty
+words_after : (text : List ℕ) → filter (λ piece. not (is_empty piece)) (others (drop (piece_end text) text)) ≡ words_of (drop (piece_end text) text)
+words_after [] = refl
+words_after (b ∷ bs) =
+    let more = words_after bs in
+    elim (b == 47) as (λ t. (b == 47) ≡ t → filter (λ piece. not (is_empty piece)) (others (drop (cond (not t) (1 + piece_end bs) 0) (b ∷ bs))) ≡ words_of (drop (cond (not t) (1 + piece_end bs) 0) (b ∷ bs))) [
+      | true ↦ λ e. rw e refl
+      | false ↦ λ e. rw (one_more (piece_end bs)) more
+    ] refl
+
+valid_after : (text : List ℕ) → list_all is_part (others (drop (piece_end text) text)) ≡ has_parts (drop (piece_end text) text)
+valid_after [] = refl
+valid_after (b ∷ bs) =
+    let more = valid_after bs in
+    elim (b == 47) as (λ t. (b == 47) ≡ t → list_all is_part (others (drop (cond (not t) (1 + piece_end bs) 0) (b ∷ bs))) ≡ has_parts (drop (cond (not t) (1 + piece_end bs) 0) (b ∷ bs))) [
+      | true ↦ λ e. rw e refl
+      | false ↦ λ e. rw (one_more (piece_end bs)) more
+    ] refl
+
+-- a text that is cut at the end of its first piece
+pub record IsCut (text piece rest : List ℕ) : Type 0 where
+  pub front : piece ≡ take (piece_end text) text
+  pub back : rest ≡ drop (piece_end text) text
+
+pub cut_at : {text piece rest : List ℕ} {n : ℕ} → n ≡ piece_end text → piece ≡ take n text → rest ≡ drop n text → IsCut text piece rest
+cut_at {text} is front back = record {
+  front = front ∙ ap (λ (n : ℕ). take n text) is;
+  back = back ∙ ap (λ (n : ℕ). drop n text) is;
+}
+
+pub first_word : {text piece rest : List ℕ} → IsCut text piece rest → (length piece == 0) ≡ false → parts_of text ≡ part_of piece ∷ parts_of rest
+first_word {text} {piece} {rest} cut some =
+    rw (pieces_cut text, ← cut.front, ← cut.back, some) (ap (λ ws. part_of piece ∷ map part_of ws) (rw cut.back (words_after text)))
+
+first_valid : {text piece rest : List ℕ} → IsCut text piece rest → has_parts text ≡ (is_part piece && has_parts rest)
+first_valid {text} {piece} {rest} cut =
+    rw (pieces_cut text, ← cut.front, ← cut.back) (ap (λ v. is_part piece && v) (rw cut.back (valid_after text)))
+
+both : (a b : Bool) → (a && b) ≡ true → (a ≡ true) × (b ≡ true)
+both true b e = (refl, e)
+both false b e = absurd (cc)
+
+pub valid_cut : {text piece rest : List ℕ} → IsCut text piece rest → IsTrue (has_parts text) → IsTrue (is_part piece) × IsTrue (has_parts rest)
+valid_cut {text} {piece} {rest} cut valid = both (is_part piece) (has_parts rest) (sym (first_valid cut) ∙ valid)
+
+pub end_of_position : (n len : ℕ) → n ≤ len → unwrap_or (cond (nat_lt n len) (Some n) None) len ≡ n
+end_of_position n len le = grind (arith, common_steps)

@@ -1,0 +1,93 @@
+ghost use Rattle.std.specs.Prelude.{◌≡◌, ◌<◌, ◌==◌, ◌∷◌, [], false, length, drop, IsTrue, IfSome, IfNone};
+ghost use Rattle.std.specs.Iterator.{YieldsFirstBy, item_count};
+ghost use Rattle.std.specs.List.{position_or_len};
+ghost use Rattle.dc_names.specs.Bytes.{has_parts, is_part, IsRest};
+ghost use Rattle.dc_names.specs.Names.{part_shown};
+ghost use Rattle.dc_names.specs.Paths.{part_of, parts_of, begins_with_slash};
+
+use crate::name::{is_dot, is_dot_dot};
+use crate::{Name, Part};
+
+/// The first component and the bytes after it, or `None` where slashes alone are left.
+pub fn first_part(bytes: &[u8]) -> Option<(Part<'_>, &[u8])>
+    requires { IsTrue (has_parts bytes.now) }
+    ensures first { IfSome result (λ r. parts_of bytes.now ≡ part_shown r.0 ∷ parts_of r.1.now) }
+    ensures last { IfNone result (parts_of bytes.now ≡ []) }
+    ensures parts { IfSome result (λ r. IsTrue (has_parts r.1.now)) }
+    ensures rest { IfSome result (λ r. IsRest r.1.now bytes.now) }
+    ensures shorter { IfSome result (λ r. length r.1.now < length bytes.now) }
+{
+    let text = after_slashes(bytes);
+    let (piece, rest) = text.split_at(piece_len(text));
+    if piece.is_empty() {
+        None
+    } else {
+        Some((part_of(piece), rest))
+    }
+}
+
+/// The bytes from the first that is no slash.
+fn after_slashes(bytes: &[u8]) -> &[u8]
+    ensures parts { parts_of result.now ≡ parts_of bytes.now }
+    ensures valid { has_parts result.now ≡ has_parts bytes.now }
+    ensures start { begins_with_slash result.now ≡ false }
+    ensures rest { IsRest result.now bytes.now }
+{
+    let mut rest = bytes;
+    'slashes: while let [b'/', more @ ..] = rest {
+        rest = more;
+    }
+    rest
+}
+
+/// How many bytes stand before the first slash.
+fn piece_len(bytes: &[u8]) -> usize
+    ensures { result ≡ position_or_len (λ b. b == 47) bytes.now }
+{
+    bytes.iter().position(|b| *b == b'/').unwrap_or(bytes.len())
+}
+
+/// The component that these bytes are, of which there is one at least.
+fn part_of(piece: &[u8]) -> Part<'_>
+    requires some { 0 < length piece.now }
+    requires part { IsTrue (is_part piece.now) }
+    ensures { part_shown result ≡ part_of piece.now }
+{
+    if is_dot(piece) {
+        Part::Dot
+    } else if is_dot_dot(piece) {
+        Part::DotDot
+    } else {
+        Part::Normal(Name::known(piece))
+    }
+}
+
+/// The components that are left of a path, from first to last.
+#[derive(Clone, Copy)]
+pub struct Components<'a> {
+    rest: &'a [u8],
+    ghost valid: { IsTrue (has_parts rest.now) },
+}
+
+impl<'a> Components<'a> {
+    pub(crate) fn new(text: &'a [u8]) -> Components<'a>
+        requires { IsTrue (has_parts text.now) }
+        ensures { result.rest.now ≡ text.now }
+    {
+        Components { rest: text }
+    }
+}
+
+impl<'a> Iterator for Components<'a> {
+    type Item = Part<'a>;
+
+    ghost next_gives = { YieldsFirstBy part_shown (λ s. parts_of s.rest.now) };
+
+    ghost remaining = { item_count (λ s. parts_of s.rest.now) };
+
+    fn next(&mut self) -> Option<Part<'a>> {
+        let (part, rest) = first_part(self.rest)?;
+        self.rest = rest;
+        Some(part)
+    }
+}
