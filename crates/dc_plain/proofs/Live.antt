@@ -90,7 +90,7 @@ wanted_is true w false e wanted = cc
 wanted_is false true false e wanted = cc
 wanted_is false false false e wanted = cc
 
-and_last : (a b : Bool) → (a && b) ≡ true → b ≡ true
+pub and_last : (a b : Bool) → (a && b) ≡ true → b ≡ true
 and_last true b e = e
 and_last false b e = cc
 
@@ -134,7 +134,7 @@ over_stands t is_root how follow_link so (part ∷ rest) place slash q stands e 
           | false ↦ λ test is. so place link.0 rest slash q stands is
         ] refl e'
 
-root_stands : (t : Tree) → inode_of t 1 ≡ Some Directory → Stands_at t root
+pub root_stands : (t : Tree) → inode_of t 1 ≡ Some Directory → Stands_at t root
 root_stands t is_root = rw is_root refl
 
 by_text : (t : Tree) → inode_of t 1 ≡ Some Directory → (how : Follow) (left : ℕ) {k : Place} → ((p : Place) (parts : List Part) (s : Bool) → Stands_at t p → resolve (told_of t) how left p parts s ≡ Some (Found k) → Ends t how k)

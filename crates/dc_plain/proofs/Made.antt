@@ -144,7 +144,7 @@ module _ (t : Tree) (d : ℕ) (name : List ℕ) (inode : Inode) (well : IsWellFo
       (λ up. subst (λ o. IsTrue (if_held o later)) (sym (holder_kept n other))
       (held_later (holder_of t n) old later (λ k e. up_kept steps k (holder_live_by n (find (λ e'. e'.1 == n) t.entries) refl k e)) up)) h
 
-  length_new : length (put nat_cmp t.next inode t.inodes) ≡ suc (length t.inodes)
+  pub length_new : length (put nat_cmp t.next inode t.inodes) ≡ suc (length t.inodes)
   length_new = length-put nat_cmp nat_cmp_total t.next inode t.inodes (to_test _ well.inodes_in_order) ∙ rw unused (omega arith)
 
   -- how each inode is reached

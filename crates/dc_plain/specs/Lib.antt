@@ -15,3 +15,4 @@ pub mod Walks
 pub mod Calls
 pub mod LastParts
 pub mod KeysShown
+pub mod Laws

@@ -4,6 +4,7 @@
 mod call;
 mod calls;
 mod key;
+mod laws;
 mod plain;
 mod resolve;
 mod rows;
@@ -11,5 +12,6 @@ mod text;
 
 pub use call::{Call, Follow, Reply};
 pub use key::{Key, Label};
+pub use laws::{opening_tree_is_well_formed, operations_keep_trees_well_formed};
 pub use plain::PlainTree;
 pub use resolve::{Place, Step, Walked};
