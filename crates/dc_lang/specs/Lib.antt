@@ -1,4 +1,5 @@
 -- The texts of commands and of replies.
 pub mod Words
 pub mod Commands
+pub mod Reading
 pub mod Replies

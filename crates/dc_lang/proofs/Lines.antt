@@ -1,0 +1,143 @@
+-- What a line says is what reading computes, and nothing else.
+use Rattle.std.proofs.Common.{◌≡◌, ℕ, ◌≤◌, ◌==◌, ◌||◌, Bool, true, false, List, [], ◌∷◌, ◌++◌, Option, Some, None, option_map, map, length,  refl, sym, ap, ◌∙◌, ◌⊎◌, inl, inr, cond, codes, subst, arith, find}
+use Rattle.std.specs.Fmt.{decimal}
+use Rattle.std.specs.List.{AllByRecursion, list_any}
+use Rattle.std.specs.Str.{bytes_eq}
+use Rattle.std.proofs.lemmas.Bool.Decides.{Decides-eqb}
+use Rattle.std.proofs.lemmas.List.Splits.{join_with_byte-slice_split}
+use Rattle.std.proofs.lemmas.Slice.Eq.{bytes_eq-Decides}
+use Rattle.std.proofs.lemmas.List.{length-map}
+use Rattle.dc_lang.specs.declared.line.Verb.{Verb}
+use Rattle.dc_lang.specs.declared.line.Verb.TheVariants.{Look, Llook, Cd, Mkdir}
+use Rattle.dc_lang.specs.Words.{spelled, spaced}
+use Rattle.dc_lang.specs.Commands.{Order, IsOrder, Said, Says, IsSaid, verb_text, word_count, line_text}
+use Rattle.dc_lang.specs.Commands.Said.{Sync, Orders}
+use Rattle.dc_lang.specs.Reading.{session_in, verbs, verb_in, words_in, counted_words, ◌>>=◌, order_in, parts, said_in}
+use Rattle.dc_lang.proofs.Words.{chosen, words_in-spelled, words_in_spells}
+use Rattle.dc_lang.proofs.Parts.{HasNoSpace, all_spelled, parts-spaced}
+use Rattle.dc_lang.proofs.Sessions.{session_in-decimal, session_in_spells, HasNoSpace-session}
+
+-- the words of a command's line
+abbrev pub order_words : Order → List (List ℕ)
+order_words order = decimal order.session ∷ verb_text order.verb ∷ map spelled order.words
+
+verb_in-verb_text : (verb : Verb) → verb_in (verb_text verb) ≡ Some verb
+verb_in-verb_text Look = refl
+verb_in-verb_text Llook = refl
+verb_in-verb_text Cd = refl
+verb_in-verb_text Mkdir = refl
+
+neither : (a b : Bool) → (a || b) ≡ false → (a ≡ false) × (b ≡ false)
+neither true b e = cc
+neither false b e = (refl, e)
+
+no_space_tested : (text : List ℕ) → list_any (λ b. b == 32) text ≡ false → HasNoSpace text
+no_space_tested [] e = tt
+no_space_tested (b ∷ text) e =
+    let each = neither (b == 32) (list_any (λ c. c == 32) text) e in
+    (each.0, no_space_tested text each.1)
+
+HasNoSpace-verb_text : (verb : Verb) → HasNoSpace (verb_text verb)
+HasNoSpace-verb_text Look = no_space_tested (codes "look") refl
+HasNoSpace-verb_text Llook = no_space_tested (codes "llook") refl
+HasNoSpace-verb_text Cd = no_space_tested (codes "cd") refl
+HasNoSpace-verb_text Mkdir = no_space_tested (codes "mkdir") refl
+
+found_passes : {A : Type 0} (p : A → Bool) (xs : List A) (x : A) → find p xs ≡ Some x → p x ≡ true
+found_passes p [] x e = cc
+found_passes p (y ∷ ys) x e = elim (chosen (p y) (Some y) (find p ys) (Some x) e) [
+    inl here ↦ let same : y ≡ x = cc in subst (λ z. p z ≡ true) same here.0 |
+    inr later ↦ found_passes p ys x later.1 ]
+
+verb_in_spells : (text : List ℕ) (verb : Verb) → verb_in text ≡ Some verb → verb_text verb ≡ text
+verb_in_spells text verb e = (bytes_eq-Decides (verb_text verb) text).0 (found_passes (λ v. bytes_eq (verb_text v) text) verbs verb e)
+
+bind_at : {A B : Type 0} (found : Option A) (x : A) (next : A → Option B) (y : Option B) → found ≡ Some x → next x ≡ y → (found >>= next) ≡ y
+bind_at found x next y e f = ap (λ o. o >>= next) e ∙ f
+
+bind_some : {A B : Type 0} (found : Option A) (next : A → Option B) (y : B) → (found >>= next) ≡ Some y → (x : A) × (found ≡ Some x) × (next x ≡ Some y)
+bind_some None next y e = cc
+bind_some (Some x) next y e = (x, refl, e)
+
+counted_words_at : (verb : Verb) (words : List (List ℕ)) → length words ≡ word_count verb → counted_words verb (map spelled words) ≡ Some words
+counted_words_at verb words count =
+    ap (λ test. cond test (words_in (map spelled words)) None) ((Decides-eqb (length (map spelled words)) (word_count verb)).1 (length-map words spelled ∙ count))
+    ∙ words_in-spelled words
+
+order_in-order_words : (order : Order) → IsOrder order → order_in (order_words order) ≡ Some order
+order_in-order_words order is =
+    bind_at _ order.session _ _ (session_in-decimal order.session is.session)
+    (bind_at _ order.verb _ _ (verb_in-verb_text order.verb)
+    (bind_at _ order.words _ _ (counted_words_at order.verb order.words is.words) refl))
+
+counted_words_spells : (verb : Verb) (texts words : List (List ℕ)) → counted_words verb texts ≡ Some words
+    → (length words ≡ word_count verb) × (map spelled words ≡ texts)
+counted_words_spells verb texts words e = elim (chosen (length texts == word_count verb) (words_in texts) None (Some words) e) [
+    inl counted ↦ (let spells : map spelled words ≡ texts = words_in_spells texts words counted.1 in
+        (sym (length-map words spelled) ∙ ap length spells ∙ (Decides-eqb (length texts) (word_count verb)).0 counted.0, spells)) |
+    inr other ↦ cc ]
+
+order_fields : (session : Option ℕ) (verb : Option Verb) (words : Verb → Option (List (List ℕ))) (order : Order)
+    → (session >>= λ s. verb >>= λ v. words v >>= λ w. Some (record { session = s; verb = v; words = w })) ≡ Some order
+    → (session ≡ Some order.session) × (verb ≡ Some order.verb) × (words order.verb ≡ Some order.words)
+order_fields None verb words order e = cc
+order_fields (Some s) None words order e = cc
+order_fields (Some s) (Some v) words order e =
+    let w = bind_some (words v) (λ w. Some (record { session = s; verb = v; words = w })) order e in
+    let same : record { session = s; verb = v; words = w.0 } ≡ order = cc in
+    (ap (λ o. Some o.session) same, ap (λ o. Some o.verb) same, ap (λ o. words o.verb) (sym same) ∙ w.1 ∙ ap (λ o. Some o.words) same)
+
+order_in_spells : (texts : List (List ℕ)) (order : Order) → order_in texts ≡ Some order → IsOrder order × (order_words order ≡ texts)
+order_in_spells [] order e = cc
+order_in_spells (session ∷ []) order e = cc
+order_in_spells (session ∷ verb ∷ texts) order e =
+    let fields = order_fields (session_in session) (verb_in verb) (λ v. counted_words v texts) order e in
+    let number = session_in_spells session order.session fields.0 in
+    let name = verb_in_spells verb order.verb fields.1 in
+    let words = counted_words_spells order.verb texts order.words fields.2 in
+    (record { session = number.0; words = words.0 }, cc)
+
+parts_order : (order : Order) → IsOrder order → parts (line_text (Orders order)) ≡ order_words order
+parts_order order is = parts-spaced (decimal order.session) (verb_text order.verb ∷ map spelled order.words)
+    (HasNoSpace-session order.session is.session, (HasNoSpace-verb_text order.verb, all_spelled order.words))
+
+-- a line with a space isn't the word `sync`
+-- a line with a space isn't the word `sync`
+no_sync : (line : List ℕ) (a b : List ℕ) (rest : List (List ℕ)) → parts line ≡ a ∷ b ∷ rest → bytes_eq line (codes "sync") ≡ false
+no_sync line a b rest e = go (bytes_eq line (codes "sync")) refl
+  where
+    go : (test : Bool) → bytes_eq line (codes "sync") ≡ test → test ≡ false
+    go false same = refl
+    go true same =
+        let is : line ≡ codes "sync" = (bytes_eq-Decides line (codes "sync")).0 same in
+        let one : codes "sync" ∷ [] ≡ a ∷ b ∷ rest = ap parts (sym is) ∙ e in cc
+
+pub said_in_from_says : (line : List ℕ) (said : Said) → Says line said → said_in line ≡ Some said
+unfolding said_in
+said_in_from_says line Sync says = ap said_in (sym says.text)
+said_in_from_says line (Orders order) says =
+    let cut : parts line ≡ order_words order = ap parts (sym says.text) ∙ parts_order order says.is in
+    ap (λ test. cond test (Some Sync) (option_map Orders (order_in (parts line)))) (no_sync line (decimal order.session) (verb_text order.verb) (map spelled order.words) cut)
+    ∙ ap (λ texts. option_map Orders (order_in texts)) cut
+    ∙ ap (option_map Orders) (order_in-order_words order says.is)
+
+orders_some : (found : Option Order) (said : Said) → option_map Orders found ≡ Some said → (order : Order) × (found ≡ Some order) × (said ≡ Orders order)
+orders_some None said e = cc
+orders_some (Some order) said e = (order, refl, cc)
+
+says_order : (line : List ℕ) (order : Order) → order_in (parts line) ≡ Some order → Says line (Orders order)
+says_order line order e =
+    let read = order_in_spells (parts line) order e in
+    record { is = read.0; text = ap spaced read.1 ∙ join_with_byte-slice_split 32 line }
+
+pub says_from_said_in : (line : List ℕ) (said : Said) → said_in line ≡ Some said → Says line said
+unfolding said_in
+says_from_said_in line said e = elim (chosen (bytes_eq line (codes "sync")) (Some Sync) (option_map Orders (order_in (parts line))) (Some said) e) [
+    inl sync ↦ (let is : Sync ≡ said = cc in
+        subst (Says line) is (record { is = tt; text = sym ((bytes_eq-Decides line (codes "sync")).0 sync.0) })) |
+    inr other ↦ (let found = orders_some (order_in (parts line)) said other.1 in
+        subst (Says line) (sym found.2) (says_order line found.0 found.1)) ]
+
+pub one_thing : (line : List ℕ) (a b : Said) → Says line a → Says line b → a ≡ b
+one_thing line a b first second =
+    let same : Some a ≡ Some b = sym (said_in_from_says line a first) ∙ said_in_from_says line b second in cc
