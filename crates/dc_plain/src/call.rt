@@ -33,3 +33,11 @@ pub enum Reply {
     Stat(u64, Kind, u64),
     Refused(u64),
 }
+
+/// A reply with its place in the run: `at` counts the changes that altered the tree before the call
+/// took effect.
+#[derive(Drop)]
+pub struct Stamped {
+    pub reply: Reply,
+    pub at: u64,
+}

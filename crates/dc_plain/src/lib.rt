@@ -10,7 +10,7 @@ mod resolve;
 mod rows;
 mod text;
 
-pub use call::{Call, Follow, Reply};
+pub use call::{Call, Follow, Reply, Stamped};
 pub use key::{Key, Label};
 pub use laws::{opening_tree_is_well_formed, operations_keep_trees_well_formed};
 pub use plain::PlainTree;
