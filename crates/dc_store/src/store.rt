@@ -1,4 +1,5 @@
-ghost use Rattle.std.specs.Prelude.{◌≡◌, ℕ, None, length, option_map, IsTrue, IfOk, OnOk, OnErr};
+ghost use Rattle.std.specs.Prelude.{◌≡◌, ℕ, None, length, option_map, IsTrue, IfSome, IfOk, OnOk, OnErr};
+ghost use Rattle.dc_names.specs.Paths.{fault_of};
 ghost use Rattle.dc_plain.specs.Facts.Label.{Parent};
 ghost use Rattle.dc_plain.specs.IsWellFormed.{IsWellFormed};
 ghost use Rattle.dc_plain.specs.Trees.{Tree, target_of, inode_of, entry_of, text_of, kind_of, is_live_directory};
@@ -36,11 +37,13 @@ pub trait Store {
 
     /// The directory that holds a live directory's entry. The root holds itself.
     fn parent(&self, number: u64) -> Option<u64>
-        ensures { result ≡ option_map (λ place. place.0) (entry_of (tree self.now) number Parent) };
+        ensures parent { result ≡ option_map (λ place. place.0) (entry_of (tree self.now) number Parent) }
+        ensures directory { IfSome result (λ up. IsTrue (is_live_directory (tree self.now) up)) };
 
-    /// The text of a live link.
+    /// The text of a live link, which is a path.
     fn text(&self, number: u64) -> Option<&[u8]>
-        ensures { option_map (λ text. text.now) result ≡ text_of (tree self.now) number };
+        ensures text { option_map (λ text. text.now) result ≡ text_of (tree self.now) number }
+        ensures path { IfSome result (λ text. fault_of text.now ≡ None) };
 
     /// How many inodes live, the root among them.
     fn live(&self) -> u64
