@@ -2,7 +2,7 @@
 
 ghost use Rattle.dc_plain.specs.Trees.{empty_tree};
 ghost use Rattle.dc_plain.specs.IsWellFormed.{IsWellFormed};
-ghost use Rattle.dc_plain.specs.Laws.{KeepsTreesWellFormed, makes_or_reads};
+ghost use Rattle.dc_plain.specs.Laws.{KeepsTreesWellFormed, makes_or_reads, WalksRefuseByThree, PlacesRefuseByThree, WalksStay, PlacesStay};
 
 /// The tree that is opened is well formed.
 pub fn opening_tree_is_well_formed()
@@ -12,4 +12,16 @@ pub fn opening_tree_is_well_formed()
 /// Calls keep a tree well formed, and within the limit of inodes.
 pub fn operations_keep_trees_well_formed()
     ensures { KeepsTreesWellFormed makes_or_reads }
+{}
+
+/// A path is refused by ENOENT, ENOTDIR or ELOOP alone, whoever tells where entries lead.
+pub fn resolution_refuses_with_few_numbers()
+    ensures walks { WalksRefuseByThree }
+    ensures places { PlacesRefuseByThree }
+{}
+
+/// What a path leads to stays the same where more is told.
+pub fn resolution_stays_as_more_is_told()
+    ensures walks { WalksStay }
+    ensures places { PlacesStay }
 {}

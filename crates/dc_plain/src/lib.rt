@@ -12,6 +12,9 @@ mod text;
 
 pub use call::{Call, Follow, Reply, Stamped};
 pub use key::{Key, Label};
-pub use laws::{opening_tree_is_well_formed, operations_keep_trees_well_formed};
+pub use laws::{
+    opening_tree_is_well_formed, operations_keep_trees_well_formed,
+    resolution_refuses_with_few_numbers, resolution_stays_as_more_is_told,
+};
 pub use plain::PlainTree;
 pub use resolve::{Place, Step, Walked};
