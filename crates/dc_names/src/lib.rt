@@ -6,6 +6,8 @@ mod fault;
 mod kind;
 mod name;
 mod path;
+#[cfg(test)]
+mod tests;
 
 pub use components::{Components, first_part};
 pub use fault::{NoMemory, TextFault};

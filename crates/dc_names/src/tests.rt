@@ -1,0 +1,85 @@
+ghost use Rattle.std.specs.Prelude.{◌≡◌, IfOk, map};
+ghost use Rattle.dc_names.specs.Names.{part_shown};
+ghost use Rattle.dc_names.specs.Paths.{parts_of};
+
+use crate::{Name, NoMemory, Part, PathText, TextFault, parse};
+use std::alloc::{AllocError, Global};
+use std::test::Fail;
+
+/// The components in one list.
+fn parts_in<'a>(alloc: Global, path: &PathText<'a>) -> Result<Vec<Part<'a>>, AllocError>
+    ensures { IfOk result (λ parts. map part_shown parts.items ≡ parts_of path.now.bytes.now) }
+{
+    path.components().collect(alloc)
+}
+
+/// A component as its path spells it.
+fn spelled<'a>(part: &Part<'a>) -> &'a [u8] {
+    match part {
+        Part::Normal(name) => name.bytes(),
+        Part::Dot => b".",
+        Part::DotDot => b"..",
+    }
+}
+
+fn fault(bytes: &[u8]) -> Option<TextFault> {
+    parse(bytes).err()
+}
+
+#[test]
+fn splits_a_path(rt: HostRuntime) -> Result<(), Fail> {
+    let path = parse(b"//a/.//bc/../...")?;
+    let parts = parts_in(rt.alloc(), &path)?;
+    let want: [&[u8]; 5] = [b"a", b".", b"bc", b"..", b"..."];
+    assert_eq!(rt; parts.len(), 5);
+    for (part, text) in parts.iter().zip(want) {
+        assert!(rt; spelled(part) == text);
+    }
+    Ok(())
+}
+
+#[test]
+fn tells_the_first_fault(rt: HostRuntime) {
+    assert_eq!(rt; fault(b""), Some(TextFault::Empty));
+    assert_eq!(rt; fault(b"a\0b"), Some(TextFault::Zero));
+    assert_eq!(rt; fault(&[b'a'; 256]), Some(TextFault::Long));
+    assert_eq!(rt; fault(&[0; 256]), Some(TextFault::Long));
+    assert_eq!(rt; fault(&[b'/'; 4096]), Some(TextFault::Long));
+    assert_eq!(rt; fault(&[b'/'; 4095]), None);
+    assert_eq!(rt; fault(&[b'a'; 255]), None);
+    assert_eq!(rt; TextFault::Long.number(), 36);
+}
+
+#[test]
+fn reads_the_slashes(rt: HostRuntime) -> Result<(), Fail> {
+    let cases: [(&[u8], bool, bool); 5] = [
+        (b"/", true, false),
+        (b"//", true, false),
+        (b"a/", false, true),
+        (b"/a//", true, true),
+        (b"a/b", false, false),
+    ];
+    for (text, absolute, slash) in cases {
+        let path = parse(text)?;
+        assert_eq!(rt; path.is_absolute(), absolute);
+        assert_eq!(rt; path.has_end_slash(), slash);
+        assert!(rt; PathText::new(path.bytes()).bytes() == text);
+    }
+    Ok(())
+}
+
+#[test]
+fn knows_a_name(rt: HostRuntime) {
+    let names: [&[u8]; 4] = [b"a", b"...", b" ", &[255; 255]];
+    assert!(rt; names.iter().all(|bytes| Name::new(bytes).is_some()));
+    let others: [&[u8]; 6] = [b"", b".", b"..", b"a/b", b"a\0", &[b'a'; 256]];
+    assert!(rt; others.iter().all(|bytes| Name::new(bytes).is_none()));
+}
+
+#[test]
+fn takes_a_refused_push(rt: HostRuntime) -> Result<(), Fail> {
+    let mut list = Vec::new(rt.alloc());
+    let pushed: Result<(), NoMemory> = list.push(1u8).map_err(NoMemory::from);
+    assert_eq!(rt; pushed, Ok(()));
+    Ok(())
+}
