@@ -1,7 +1,7 @@
 -- What a line says is what reading computes, and nothing else.
-use Rattle.std.proofs.Common.{◌≡◌, ℕ, ◌≤◌, ◌==◌, ◌||◌, Bool, true, false, List, [], ◌∷◌, ◌++◌, Option, Some, None, option_map, map, length,  refl, sym, ap, ◌∙◌, ◌⊎◌, inl, inr, cond, codes, subst, arith, find}
+use Rattle.std.proofs.Common.{◌≡◌, ℕ, ◌==◌, ◌||◌, Bool, true, false, List, [], ◌∷◌, Option, Some, None, option_map, map, length, refl, sym, ap, ◌∙◌, inl, inr, cond, codes, subst, find}
 use Rattle.std.specs.Fmt.{decimal}
-use Rattle.std.specs.List.{AllByRecursion, list_any}
+use Rattle.std.specs.List.{list_any}
 use Rattle.std.specs.Str.{bytes_eq}
 use Rattle.std.proofs.lemmas.Bool.Decides.{Decides-eqb}
 use Rattle.std.proofs.lemmas.List.Splits.{join_with_byte-slice_split}
@@ -10,7 +10,7 @@ use Rattle.std.proofs.lemmas.List.{length-map}
 use Rattle.dc_lang.specs.declared.line.Verb.{Verb}
 use Rattle.dc_lang.specs.declared.line.Verb.TheVariants.{Look, Llook, Cd, Mkdir}
 use Rattle.dc_lang.specs.Words.{spelled, spaced}
-use Rattle.dc_lang.specs.Commands.{Order, IsOrder, Said, Says, IsSaid, verb_text, word_count, line_text}
+use Rattle.dc_lang.specs.Commands.{Order, IsOrder, Said, Says, verb_text, word_count, line_text}
 use Rattle.dc_lang.specs.Commands.Said.{Sync, Orders}
 use Rattle.dc_lang.specs.Reading.{session_in, verbs, verb_in, words_in, counted_words, ◌>>=◌, order_in, parts, said_in}
 use Rattle.dc_lang.proofs.Words.{chosen, words_in-spelled, words_in_spells}
@@ -46,8 +46,9 @@ HasNoSpace-verb_text Mkdir = no_space_tested (codes "mkdir") refl
 found_passes : {A : Type 0} (p : A → Bool) (xs : List A) (x : A) → find p xs ≡ Some x → p x ≡ true
 found_passes p [] x e = cc
 found_passes p (y ∷ ys) x e = elim (chosen (p y) (Some y) (find p ys) (Some x) e) [
-    inl here ↦ let same : y ≡ x = cc in subst (λ z. p z ≡ true) same here.0 |
-    inr later ↦ found_passes p ys x later.1 ]
+  | inl here ↦ let same : y ≡ x = cc in subst (λ z. p z ≡ true) same here.0
+  | inr later ↦ found_passes p ys x later.1
+]
 
 verb_in_spells : (text : List ℕ) (verb : Verb) → verb_in text ≡ Some verb → verb_text verb ≡ text
 verb_in_spells text verb e = (bytes_eq-Decides (verb_text verb) text).0 (found_passes (λ v. bytes_eq (verb_text v) text) verbs verb e)
@@ -73,9 +74,10 @@ order_in-order_words order is =
 counted_words_spells : (verb : Verb) (texts words : List (List ℕ)) → counted_words verb texts ≡ Some words
     → (length words ≡ word_count verb) × (map spelled words ≡ texts)
 counted_words_spells verb texts words e = elim (chosen (length texts == word_count verb) (words_in texts) None (Some words) e) [
-    inl counted ↦ (let spells : map spelled words ≡ texts = words_in_spells texts words counted.1 in
-        (sym (length-map words spelled) ∙ ap length spells ∙ (Decides-eqb (length texts) (word_count verb)).0 counted.0, spells)) |
-    inr other ↦ cc ]
+  | inl counted ↦ (let spells : map spelled words ≡ texts = words_in_spells texts words counted.1 in
+      (sym (length-map words spelled) ∙ ap length spells ∙ (Decides-eqb (length texts) (word_count verb)).0 counted.0, spells))
+  | inr other ↦ cc
+]
 
 order_fields : (session : Option ℕ) (verb : Option Verb) (words : Verb → Option (List (List ℕ))) (order : Order)
     → (session >>= λ s. verb >>= λ v. words v >>= λ w. Some (record { session = s; verb = v; words = w })) ≡ Some order
@@ -133,10 +135,11 @@ says_order line order e =
 pub says_from_said_in : (line : List ℕ) (said : Said) → said_in line ≡ Some said → Says line said
 unfolding said_in
 says_from_said_in line said e = elim (chosen (bytes_eq line (codes "sync")) (Some Sync) (option_map Orders (order_in (parts line))) (Some said) e) [
-    inl sync ↦ (let is : Sync ≡ said = cc in
-        subst (Says line) is (record { is = tt; text = sym ((bytes_eq-Decides line (codes "sync")).0 sync.0) })) |
-    inr other ↦ (let found = orders_some (order_in (parts line)) said other.1 in
-        subst (Says line) (sym found.2) (says_order line found.0 found.1)) ]
+  | inl sync ↦ (let is : Sync ≡ said = cc in
+      subst (Says line) is (record { is = tt; text = sym ((bytes_eq-Decides line (codes "sync")).0 sync.0) }))
+  | inr other ↦ (let found = orders_some (order_in (parts line)) said other.1 in
+      subst (Says line) (sym found.2) (says_order line found.0 found.1))
+]
 
 pub one_thing : (line : List ℕ) (a b : Said) → Says line a → Says line b → a ≡ b
 one_thing line a b first second =

@@ -1,5 +1,5 @@
 -- Words without a space, with spaces between them, are the parts of their line.
-use Rattle.std.proofs.Common.{◌≡◌, ℕ, ◌==◌, false, List, [], ◌∷◌, ◌++◌, map, refl, ap, ◌∙◌, ◌⊎◌, inl, inr, subst, sym, arith, Option, Some}
+use Rattle.std.proofs.Common.{◌≡◌, ℕ, ◌==◌, false, List, [], ◌∷◌, ◌++◌, map, refl, ap, ◌∙◌, inl, inr, subst, sym, arith, Some}
 use Rattle.std.specs.List.{AllByRecursion, flat_map}
 use Rattle.std.proofs.lemmas.Bool.Decides.{nat_tests}
 use Rattle.std.proofs.lemmas.List.Elements.{All-from_recursion}
@@ -23,8 +23,9 @@ byte_no_space b e = grind (arith, nat_tests)
 
 HasNoSpace-spelled_byte : (b : ℕ) → HasNoSpace (spelled_byte b)
 HasNoSpace-spelled_byte b = elim (spells b) [
-    inl letter ↦ subst HasNoSpace (sym letter.2) (refl, (letter_no_space letter.0 b letter.1, tt)) |
-    inr itself ↦ subst HasNoSpace (sym itself.1) (byte_no_space b itself.0, tt) ]
+  | inl letter ↦ subst HasNoSpace (sym letter.2) (refl, (letter_no_space letter.0 b letter.1, tt))
+  | inr itself ↦ subst HasNoSpace (sym itself.1) (byte_no_space b itself.0, tt)
+]
 
 HasNoSpace-spelled_bytes : (bytes : List ℕ) → HasNoSpace (flat_map spelled_byte bytes)
 HasNoSpace-spelled_bytes [] = tt

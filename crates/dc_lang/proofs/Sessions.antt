@@ -1,5 +1,5 @@
 -- A session is read from its decimal digits, and from nothing else.
-use Rattle.std.proofs.Common.{◌≡◌, ℕ, ◌+◌, ◌-◌, ◌/◌, ◌%◌, ◌≤◌, ◌<◌, ◌==◌, ◌&&◌, nat_le, List, [], ◌∷◌, ◌++◌, Option, Some, None, refl, sym, ap, ◌∙◌, ◌⊎◌, inl, inr, cond, true, arith, lit<, subst}
+use Rattle.std.proofs.Common.{◌≡◌, ℕ, ◌+◌, ◌/◌, ◌%◌, ◌≤◌, List, [], ◌∷◌, ◌++◌, Some, refl, sym, ap, ◌∙◌, ◌⊎◌, inl, inr, arith, lit<, subst}
 use Rattle.std.specs.Fmt.{decimal}
 use Rattle.std.proofs.lemmas.Bool.Decides.{nat_tests, leb_tells}
 use Rattle.std.proofs.lemmas.Fmt.{decimal_digit, decimal_step}
@@ -16,18 +16,21 @@ two_digits n low high =
 -- one digit, or two
 session_digits : (n : ℕ) → n ≤ 15 → ((n ≤ 9) × (decimal n ≡ (48 + n) ∷ [])) ⊎ ((10 ≤ n) × (decimal n ≡ 49 ∷ (38 + n) ∷ []))
 session_digits n h = elim (leb_tells n 9) [
-    inl one ↦ inl (one.1, decimal_digit n (omega arith)) |
-    inr two ↦ inr (omega arith, two_digits n (omega arith) h) ]
+  | inl one ↦ inl (one.1, decimal_digit n (omega arith))
+  | inr two ↦ inr (omega arith, two_digits n (omega arith) h)
+]
 
 pub session_in-decimal : (n : ℕ) → n ≤ 15 → session_in (decimal n) ≡ Some n
 session_in-decimal n h = elim (session_digits n h) [
-    inl one ↦ ap session_in one.1 ∙ grind (arith, nat_tests) |
-    inr two ↦ ap session_in two.1 ∙ grind (arith, nat_tests) ]
+  | inl one ↦ ap session_in one.1 ∙ grind (arith, nat_tests)
+  | inr two ↦ ap session_in two.1 ∙ grind (arith, nat_tests)
+]
 
 pub HasNoSpace-session : (n : ℕ) → n ≤ 15 → HasNoSpace (decimal n)
 HasNoSpace-session n h = elim (session_digits n h) [
-    inl one ↦ subst HasNoSpace (sym one.1) (grind (arith, nat_tests), tt) |
-    inr two ↦ subst HasNoSpace (sym two.1) (refl, (grind (arith, nat_tests), tt)) ]
+  | inl one ↦ subst HasNoSpace (sym one.1) (grind (arith, nat_tests), tt)
+  | inr two ↦ subst HasNoSpace (sym two.1) (refl, (grind (arith, nat_tests), tt))
+]
 
 one_digit : (a n : ℕ) → session_in (a ∷ []) ≡ Some n → (n ≤ 9) × (48 + n ≡ a)
 one_digit a n e = (grind (arith, nat_tests), grind (arith, nat_tests))

@@ -1,11 +1,11 @@
 -- Lines spelled by the definitions.
-use Rattle.std.proofs.Common.{◌≡◌, ℕ, List, [], ◌∷◌, ◌++◌, refl, codes}
+use Rattle.std.proofs.Common.{◌≡◌, [], ◌∷◌, ◌++◌, refl, codes}
 use Rattle.std.specs.Fmt.{digits}
 use Rattle.dc_names.specs.declared.kind.Kind.TheVariants.{Dir}
 use Rattle.dc_plain.specs.Requests.Answer.{Found, Names}
 use Rattle.dc_lang.specs.declared.line.Verb.TheVariants.{Mkdir}
 use Rattle.dc_lang.specs.Words.{spelled}
-use Rattle.dc_lang.specs.Commands.{Said, line_text}
+use Rattle.dc_lang.specs.Commands.{line_text}
 use Rattle.dc_lang.specs.Commands.Said.{Orders}
 use Rattle.dc_lang.specs.Replies.{reply_text}
 

@@ -1,5 +1,5 @@
 -- The lines of commands, and the calls that they ask for.
-use Rattle.std.specs.Prelude.{◌≡◌, ℕ, ◌≤◌, List, [], ◌∷◌, map, length, slice_get, codes, decimal, Option, Some, None}
+use Rattle.std.specs.Prelude.{◌≡◌, ℕ, ◌≤◌, List, [], ◌∷◌, map, length, slice_get, codes, decimal, Some, None}
 use Rattle.dc_lang.specs.Words.{spelled, spaced}
 use Rattle.dc_lang.specs.declared.line.Verb.{Verb}
 use Rattle.dc_lang.specs.declared.line.Verb.TheVariants.{Look, Llook, Cd, Mkdir}

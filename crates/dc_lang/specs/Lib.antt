@@ -3,3 +3,4 @@ pub mod Words
 pub mod Commands
 pub mod Reading
 pub mod Replies
+pub mod Writing

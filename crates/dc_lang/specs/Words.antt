@@ -1,5 +1,5 @@
 -- How a word of a line is spelled, and words one after the other.
-use Rattle.std.specs.Prelude.{ℕ, List, [], ◌∷◌, ◌==◌, map, codes, if◌then◌else◌}
+use Rattle.std.specs.Prelude.{ℕ, List, [], ◌∷◌, ◌==◌, codes, if◌then◌else◌}
 use Rattle.std.specs.List.{flat_map, join_with_byte}
 
 -- a space, a newline and a backslash are written \s, \n and \\, every other byte stands for itself
