@@ -1,6 +1,8 @@
 -- A tree with a new inode stays well formed.
 use Rattle.std.proofs.Common.{◌≡◌, ◌≢◌, ℕ, zero, suc, ◌≤◌, ◌<◌, ◌==◌, ◌||◌, ◌^◌, List, [], ◌∷◌, Bool, true, false, cond, Option, Some, None, is_some, is_ok, IsTrue, T, refl, ap, sym, ◌∙◌, arith, find, length, option_map, option_and_then, subst}
 use Rattle.std.specs.declared.cmp.Ordering.{Ordering}
+use Rattle.std.specs.Prelude.{IfNone}
+use Rattle.dc_plain.specs.Facts.{Place}
 use Rattle.dc_plain.specs.Facts.Label.{Entry}
 use Rattle.std.specs.List.{AllByRecursion}
 use Rattle.std.specs.Cmp.{nat_cmp_total, IsTotalOrder}
@@ -37,7 +39,7 @@ other_test m n e = grind (arith, nat_tests)
 same_test : (n : ℕ) → (n == n) ≡ true
 same_test n = grind (arith, nat_tests)
 
-pub or_later : (a b c : Bool) → (IsTrue b → IsTrue c) → IsTrue (a || b) → IsTrue (a || c)
+or_later : (a b c : Bool) → (IsTrue b → IsTrue c) → IsTrue (a || b) → IsTrue (a || c)
 or_later true b c so h = h
 or_later false b c so h = so h
 
@@ -51,7 +53,7 @@ pub some_in : (o : Option Inode) → is_some o ≡ true → (i : Inode) × (o �
 some_in None e = absurd cc
 some_in (Some i) e = (i, refl)
 
-pub All-find : {X : Type 0} (P : X → Type 0) (p : X → Bool) (xs : List X) → AllByRecursion P xs → (x : X) → find p xs ≡ Some x → P x
+All-find : {X : Type 0} (P : X → Type 0) (p : X → Bool) (xs : List X) → AllByRecursion P xs → (x : X) → find p xs ≡ Some x → P x
 All-find P p [] all x e = cc
 All-find P p (y ∷ ys) all x e =
     elim (p y) as (λ b. cond b (Some y) (find p ys) ≡ Some x → P x) [
@@ -63,7 +65,7 @@ pub to_test : (b : Bool) → b ≡ true → T b
 to_test true e = tt
 to_test false e = cc
 
-pub from_test : (b : Bool) → T b → b ≡ true
+from_test : (b : Bool) → T b → b ≡ true
 from_test true t = refl
 from_test false t = absurd t
 
@@ -77,7 +79,7 @@ or_right : (a b : Bool) → IsTrue b → IsTrue (a || b)
 or_right true b h = refl
 or_right false b h = h
 
-pub held_later : (o : Option ℕ) (f g : ℕ → Bool) → ((k : ℕ) → o ≡ Some k → IsTrue (f k) → IsTrue (g k)) → IsTrue (if_held o f) → IsTrue (if_held o g)
+held_later : (o : Option ℕ) (f g : ℕ → Bool) → ((k : ℕ) → o ≡ Some k → IsTrue (f k) → IsTrue (g k)) → IsTrue (if_held o f) → IsTrue (if_held o g)
 held_later None f g so h = h
 held_later (Some k) f g so h = so k refl h
 
@@ -219,6 +221,10 @@ free_spot t d name well none = by_target (target_of t (record { directory = d; n
         let live = All-lookup spot_cmp (λ k. IsTrue (is_some (inode_of t k))) (record { directory = d; name = name }) t.entries (All-weaker (Stands t) (λ s. IsTrue (is_some (inode_of t s.1))) (λ x s. s.leads) t.entries well.entries) n e in
         let i = some_in (inode_of t n) live in
         absurd (absent t n i.0 i.1 none')
+
+pub free_if_none : (t : Tree) (d : ℕ) (name : List ℕ) → IsWellFormed t → (found : Option Place) → found ≡ entry_of t d (Entry name) → IfNone found (target_of t (record { directory = d; name = name }) ≡ None)
+free_if_none t d name well None e = free_spot t d name well (ap is_some (sym e))
+free_if_none t d name well (Some place) e = tt
 
 pub unused_number : (t : Tree) → IsWellFormed t → inode_of t t.next ≡ None
 unused_number t well = by_inode (inode_of t t.next) refl

@@ -10,9 +10,11 @@ pub mod Refusals
 pub mod Effects
 pub mod Operations
 pub mod Runs
+pub mod Laws
+pub mod Stops
+pub mod Machines
 pub mod Plain
 pub mod Walks
-pub mod Calls
+pub mod Plans
 pub mod LastParts
 pub mod KeysShown
-pub mod Laws

@@ -23,7 +23,7 @@ pub enum Call<'a> {
 }
 
 /// What a call is answered.
-#[derive(Drop)]
+#[derive(Debug, Drop, PartialEq, Eq)]
 pub enum Reply {
     Found(u64, Kind),
     Done(u64),
@@ -36,7 +36,7 @@ pub enum Reply {
 
 /// A reply with its place in the run: `at` counts the changes that altered the tree before the call
 /// took effect.
-#[derive(Drop)]
+#[derive(Debug, Drop, PartialEq, Eq)]
 pub struct Stamped {
     pub reply: Reply,
     pub at: u64,

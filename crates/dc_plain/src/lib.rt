@@ -1,14 +1,19 @@
 //! The plain tree: the slow machine, its calls and replies.
 #![tactic(auto)]
 
+mod apply;
 mod call;
-mod calls;
+mod carry;
 mod key;
 mod laws;
+mod place;
 mod plain;
+mod plan;
 mod resolve;
 mod rows;
-mod text;
+mod stop;
+#[cfg(test)]
+mod tests;
 
 pub use call::{Call, Follow, Reply, Stamped};
 pub use key::{Key, Label};
@@ -17,4 +22,3 @@ pub use laws::{
     resolution_refuses_with_few_numbers, resolution_stays_as_more_is_told,
 };
 pub use plain::PlainTree;
-pub use resolve::{Place, Step, Walked};

@@ -1,0 +1,42 @@
+-- What a call was found to answer, or to change.
+use Rattle.std.specs.Prelude.{◌≡◌, ℕ, None, Ok, IsTrue}
+use Rattle.dc_plain.specs.declared.plan.New as rust_new
+use Rattle.dc_plain.specs.declared.plan.New.TheVariants as news
+use Rattle.dc_plain.specs.declared.plan.Change as rust_change
+use Rattle.dc_plain.specs.declared.plan.Change.TheVariants as changes
+use Rattle.dc_plain.specs.declared.plan.Plan as rust_plan
+use Rattle.dc_plain.specs.declared.plan.Plan.TheVariants as plans
+use Rattle.dc_plain.specs.Trees.{Tree, Inode, target_of}
+use Rattle.dc_plain.specs.Trees.Inode.{Directory, Regular, Symbolic}
+use Rattle.dc_plain.specs.Requests.{Request, Answer, answer_of}
+use Rattle.dc_plain.specs.Requests.Answer.{Done}
+use Rattle.dc_plain.specs.Effects.{with_new}
+use Rattle.dc_plain.specs.Operations.{change_of}
+use Rattle.dc_plain.specs.Laws.{makes_or_reads}
+
+abbrev pub new_shown : rust_new.New → Inode
+new_shown news.Directory = Directory
+new_shown news.File = Regular
+new_shown (news.Link text) = Symbolic text.bytes.now
+
+-- what a change answers, and the tree that it makes
+abbrev pub changed : Tree → rust_change.Change → Answer × Tree
+changed t (changes.Make directory name new) = (Done t.next, with_new t directory name.bytes.now (new_shown new))
+
+abbrev pub planned : Tree → rust_plan.Plan → Answer × Tree
+planned t (plans.Answer reply) = (answer_of reply, t)
+planned t (plans.Change change) = changed t change
+
+-- the names that a change makes aren't there
+abbrev pub HasSpots : Tree → rust_change.Change → Type 0
+HasSpots t (changes.Make directory name new) = target_of t (record { directory = directory; name = name.bytes.now }) ≡ None
+
+abbrev pub HasSpotsIfChange : Tree → rust_plan.Plan → Type 0
+HasSpotsIfChange t (plans.Answer reply) = Unit {0}
+HasSpotsIfChange t (plans.Change change) = HasSpots t change
+
+-- some request answers so, and leaves this tree
+pub record IsMade (limit : ℕ) (t : Tree) (done : Answer × Tree) : Type 0 where
+  pub request : Request
+  pub covered : IsTrue (makes_or_reads request)
+  pub found : change_of limit t request ≡ Ok done

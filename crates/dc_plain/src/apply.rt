@@ -1,0 +1,37 @@
+ghost use Rattle.std.specs.Prelude.{◌≡◌, ◌↔◌, IsTrue, IfOk, OnOk, OnErr};
+ghost use Rattle.dc_plain.specs.Requests.{answer_of, request_of};
+ghost use Rattle.dc_plain.specs.Runs.{reply_of, tree_after, Alters};
+
+use crate::plan::Plan;
+use crate::stop::Stop;
+use crate::{Call, PlainTree, Reply};
+use dc_names::NoMemory;
+use std::alloc::Global;
+
+impl PlainTree {
+    /// Answers a call, and makes its change. After `NoMemory` nothing is changed.
+    pub fn apply(&mut self, alloc: Global, call: &Call) -> Result<Reply, NoMemory>
+        ensures reply { IfOk result (λ reply. answer_of reply ≡ reply_of self.old.limit self.old.tree (request_of call.now)) }
+        ensures tree { OnOk result (self.new.tree ≡ tree_after self.old.limit self.old.tree (request_of call.now)) }
+        ensures limit { self.new.limit ≡ self.old.limit }
+        ensures err { OnErr result (self.new ≡ self.old) }
+    {
+        match self.plan(alloc, call) {
+            Ok(Plan::Answer(reply)) => Ok(reply),
+            Ok(Plan::Change(change)) => self.carry(alloc, change),
+            Err(Stop::Refused(number)) => Ok(Reply::Refused(number)),
+            Err(Stop::OutOfMemory) => Err(NoMemory),
+        }
+    }
+
+    /// Whether a call would change the tree.
+    pub fn alters(&self, alloc: Global, call: &Call) -> Result<bool, NoMemory>
+        ensures { IfOk result (λ alters. IsTrue alters ↔ Alters self.now.limit self.now.tree (request_of call.now)) }
+    {
+        match self.plan(alloc, call) {
+            Ok(Plan::Answer(_)) | Err(Stop::Refused(_)) => Ok(false),
+            Ok(Plan::Change(_)) => Ok(true),
+            Err(Stop::OutOfMemory) => Err(NoMemory),
+        }
+    }
+}

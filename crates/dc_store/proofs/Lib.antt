@@ -1,5 +1,0 @@
-pub mod Keys
-pub mod Maps
-pub mod Nodes
-pub mod Entries
-pub mod Made
