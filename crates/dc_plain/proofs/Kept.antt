@@ -1,18 +1,16 @@
 -- Calls that change nothing and calls that make an inode keep a tree well formed.
-use Rattle.std.proofs.Common.{◌≡◌, ℕ, ◌≤◌, ◌<◌, ◌^◌, ◌==◌, ◌&&◌, ◌||◌, not, List, Bool, true, false, Result, Ok, Err, is_some, is_ok, IsTrue, refl, arith, length}
+use Rattle.std.proofs.Common.{◌≡◌, ℕ, ◌≤◌, ◌<◌, ◌^◌, ◌==◌, ◌&&◌, ◌||◌, not, List, Bool, false, Result, Ok, Err, is_some, is_ok, IsTrue, refl, arith, length}
 use Rattle.std.specs.Prelude.{nat_le}
 use Rattle.std.proofs.lemmas.Bool.Decides.{nat_tests}
 use Rattle.dc_plain.specs.Facts.Label.{Entry}
 use Rattle.dc_plain.specs.Trees.{Tree, Inode, entry_of, is_live_directory}
-use Rattle.dc_plain.specs.Trees.Inode.{Directory, Regular, Symbolic}
-use Rattle.dc_plain.specs.Requests.{Answer, Request}
+use Rattle.dc_plain.specs.Trees.Inode.{Symbolic}
+use Rattle.dc_plain.specs.Requests.{Answer}
 use Rattle.dc_plain.specs.Requests.Answer.{Done}
-use Rattle.dc_plain.specs.Requests.Request.{Look, Readlink, Stat, List_names, Mkdir, Create, Hard_link, Symlink, Unlink, Rmdir, Rename}
-use Rattle.dc_plain.specs.Laws.{KeepsTreesWellFormed, makes_or_reads}
 use Rattle.dc_names.specs.Paths.{Path, path_of}
 use Rattle.dc_plain.specs.Refusals.{spot_on, name_or, is_full, path_or_fault}
 use Rattle.dc_plain.specs.Effects.{with_new}
-use Rattle.dc_plain.specs.Operations.{make, symlink, look, readlink, stat, list_names, left_alone, change_of, settled, Change}
+use Rattle.dc_plain.specs.Operations.{make, symlink, left_alone}
 use Rattle.dc_plain.specs.IsWellFormed.{IsWellFormed, IsWithin}
 use Rattle.dc_plain.proofs.Made.{with_new-IsWellFormed, IsGood, free_spot, length_new}
 use Rattle.dc_plain.proofs.Chains.{after, after_test, named, left_with}
@@ -48,31 +46,10 @@ make-keeps limit t base text may inode done well good e =
     ) in
     left_with (IsKept limit) (Done t.next) (with_new t at.directory name inode) done e made)))))
 
-symlink-keeps : (limit : ℕ) (t : Tree) (base : ℕ) (text path : List ℕ) (done : Answer × Tree) → IsWellFormed t → symlink limit t base text path ≡ Ok done → IsKept limit done.1
+pub symlink-keeps : (limit : ℕ) (t : Tree) (base : ℕ) (text path : List ℕ) (done : Answer × Tree) → IsWellFormed t → symlink limit t base text path ≡ Ok done → IsKept limit done.1
 symlink-keeps limit t base text path done well e =
     after (path_or_fault text) _ done e (λ link_path good e. make-keeps limit t base path false (Symbolic text) done well (good_text text link_path good) e)
 
-reads-keeps : (limit : ℕ) (t : Tree) (answered : Result Answer ℕ) (done : Answer × Tree) → IsKept limit t → left_alone t answered ≡ Ok done → IsKept limit done.1
+pub reads-keeps : (limit : ℕ) (t : Tree) (answered : Result Answer ℕ) (done : Answer × Tree) → IsKept limit t → left_alone t answered ≡ Ok done → IsKept limit done.1
 reads-keeps limit t (Ok answer) done kept e = left_with (IsKept limit) answer t done e kept
 reads-keeps limit t (Err number) done kept e = absurd cc
-
--- of every request there is
-pub change-keeps : (limit : ℕ) (t : Tree) (request : Request) (done : Answer × Tree) → IsTrue (makes_or_reads request) → IsKept limit t → change_of limit t request ≡ Ok done → IsKept limit done.1
-change-keeps limit t (Look base path how) done covered kept e = reads-keeps limit t (look t base path how) done kept e
-change-keeps limit t (Readlink base path) done covered kept e = reads-keeps limit t (readlink t base path) done kept e
-change-keeps limit t (Stat base path) done covered kept e = reads-keeps limit t (stat t base path) done kept e
-change-keeps limit t (List_names base path) done covered kept e = reads-keeps limit t (list_names t base path) done kept e
-change-keeps limit t (Mkdir base path) done covered kept e = make-keeps limit t base path true Directory done kept.0 tt e
-change-keeps limit t (Create base path) done covered kept e = make-keeps limit t base path false Regular done kept.0 tt e
-change-keeps limit t (Hard_link base old new) done covered kept e = cc
-change-keeps limit t (Symlink base text path) done covered kept e = symlink-keeps limit t base text path done kept.0 e
-change-keeps limit t (Unlink base path) done covered kept e = cc
-change-keeps limit t (Rmdir base path) done covered kept e = cc
-change-keeps limit t (Rename base old new) done covered kept e = cc
-
-settled-keeps : (limit : ℕ) (t : Tree) (change : Change) → IsKept limit t → ((done : Answer × Tree) → change ≡ Ok done → IsKept limit done.1) → IsKept limit (settled t change).1
-settled-keeps limit t (Ok done) kept so = so done refl
-settled-keeps limit t (Err number) kept so = kept
-
-pub keeps : KeepsTreesWellFormed makes_or_reads
-keeps limit t request covered well within = settled-keeps limit t (change_of limit t request) (well, within) (λ done. change-keeps limit t request done covered (well, within))

@@ -39,7 +39,7 @@ other_test m n e = grind (arith, nat_tests)
 same_test : (n : ℕ) → (n == n) ≡ true
 same_test n = grind (arith, nat_tests)
 
-or_later : (a b c : Bool) → (IsTrue b → IsTrue c) → IsTrue (a || b) → IsTrue (a || c)
+pub or_later : (a b c : Bool) → (IsTrue b → IsTrue c) → IsTrue (a || b) → IsTrue (a || c)
 or_later true b c so h = h
 or_later false b c so h = so h
 
@@ -53,7 +53,7 @@ pub some_in : (o : Option Inode) → is_some o ≡ true → (i : Inode) × (o �
 some_in None e = absurd cc
 some_in (Some i) e = (i, refl)
 
-All-find : {X : Type 0} (P : X → Type 0) (p : X → Bool) (xs : List X) → AllByRecursion P xs → (x : X) → find p xs ≡ Some x → P x
+pub All-find : {X : Type 0} (P : X → Type 0) (p : X → Bool) (xs : List X) → AllByRecursion P xs → (x : X) → find p xs ≡ Some x → P x
 All-find P p [] all x e = cc
 All-find P p (y ∷ ys) all x e =
     elim (p y) as (λ b. cond b (Some y) (find p ys) ≡ Some x → P x) [
@@ -65,7 +65,7 @@ pub to_test : (b : Bool) → b ≡ true → T b
 to_test true e = tt
 to_test false e = cc
 
-from_test : (b : Bool) → T b → b ≡ true
+pub from_test : (b : Bool) → T b → b ≡ true
 from_test true t = refl
 from_test false t = absurd t
 
@@ -79,7 +79,7 @@ or_right : (a b : Bool) → IsTrue b → IsTrue (a || b)
 or_right true b h = refl
 or_right false b h = h
 
-held_later : (o : Option ℕ) (f g : ℕ → Bool) → ((k : ℕ) → o ≡ Some k → IsTrue (f k) → IsTrue (g k)) → IsTrue (if_held o f) → IsTrue (if_held o g)
+pub held_later : (o : Option ℕ) (f g : ℕ → Bool) → ((k : ℕ) → o ≡ Some k → IsTrue (f k) → IsTrue (g k)) → IsTrue (if_held o f) → IsTrue (if_held o g)
 held_later None f g so h = h
 held_later (Some k) f g so h = so k refl h
 

@@ -1,5 +1,5 @@
 -- What calls make of the machine is sound.
-use Rattle.std.proofs.Common.{◌≡◌, ℕ, ◌≤◌, subst, sym, ap, ◌∙◌}
+use Rattle.std.proofs.Common.{◌≡◌, ◌≤◌, subst, sym}
 use Rattle.dc_plain.specs.Trees.{Tree}
 use Rattle.dc_plain.specs.Requests.{Answer}
 use Rattle.dc_plain.specs.IsWellFormed.{IsWellFormed, IsWithin}

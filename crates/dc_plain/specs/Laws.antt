@@ -11,22 +11,13 @@ use Rattle.dc_plain.specs.Places.Placed.{Not}
 use Rattle.dc_plain.specs.Trees.{Tree}
 use Rattle.dc_plain.specs.IsWellFormed.{IsWellFormed, IsWithin}
 use Rattle.dc_plain.specs.Requests.{Request}
-use Rattle.dc_plain.specs.Requests.Request.{Look, Readlink, Stat, List_names, Mkdir, Create, Hard_link, Symlink, Unlink, Rmdir, Rename}
+use Rattle.dc_plain.specs.Requests.Request.{Rename}
 use Rattle.dc_plain.specs.Runs.{tree_after}
 
--- a request that takes no name away and gives none to an inode that lives
-abbrev pub makes_or_reads : Request → Bool
-makes_or_reads (Look base path how) = true
-makes_or_reads (Readlink base path) = true
-makes_or_reads (Stat base path) = true
-makes_or_reads (List_names base path) = true
-makes_or_reads (Mkdir base path) = true
-makes_or_reads (Create base path) = true
-makes_or_reads (Hard_link base old new) = false
-makes_or_reads (Symlink base text path) = true
-makes_or_reads (Unlink base path) = false
-makes_or_reads (Rmdir base path) = false
-makes_or_reads (Rename base old new) = false
+-- every request but a rename
+abbrev pub is_no_rename : Request → Bool
+is_no_rename (Rename base old new) = false
+is_no_rename _ = true
 
 -- a well-formed tree within the limit stays so, whatever request of these comes
 abbrev pub KeepsTreesWellFormed : (Request → Bool) → Type 0

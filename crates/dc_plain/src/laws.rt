@@ -2,7 +2,7 @@
 
 ghost use Rattle.dc_plain.specs.Trees.{empty_tree};
 ghost use Rattle.dc_plain.specs.IsWellFormed.{IsWellFormed};
-ghost use Rattle.dc_plain.specs.Laws.{KeepsTreesWellFormed, makes_or_reads, WalksRefuseByThree, PlacesRefuseByThree, WalksStay, PlacesStay};
+ghost use Rattle.dc_plain.specs.Laws.{KeepsTreesWellFormed, is_no_rename, WalksRefuseByThree, PlacesRefuseByThree, WalksStay, PlacesStay};
 
 /// The tree that is opened is well formed.
 pub fn opening_tree_is_well_formed()
@@ -11,7 +11,7 @@ pub fn opening_tree_is_well_formed()
 
 /// Calls keep a tree well formed, and within the limit of inodes.
 pub fn operations_keep_trees_well_formed()
-    ensures { KeepsTreesWellFormed makes_or_reads }
+    ensures { KeepsTreesWellFormed is_no_rename }
 {}
 
 /// A path is refused by ENOENT, ENOTDIR or ELOOP alone, whoever tells where entries lead.

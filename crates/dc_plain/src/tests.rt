@@ -96,19 +96,26 @@ fn starts_at_a_directory(rt: HostRuntime) -> Result<(), Fail> {
     Ok(())
 }
 
+/// A slash and 255 letters.
+const LONGEST: &[u8] = b"/\
+    nnnnnnnnnnnnnnnnnnnnnnnnnnnnnnnnnnnnnnnnnnnnnnnnnnnnnnnnnnnnnnnn\
+    nnnnnnnnnnnnnnnnnnnnnnnnnnnnnnnnnnnnnnnnnnnnnnnnnnnnnnnnnnnnnnnn\
+    nnnnnnnnnnnnnnnnnnnnnnnnnnnnnnnnnnnnnnnnnnnnnnnnnnnnnnnnnnnnnnnn\
+    nnnnnnnnnnnnnnnnnnnnnnnnnnnnnnnnnnnnnnnnnnnnnnnnnnnnnnnnnnnnnnn";
+
+/// A name of 256 letters below a directory.
+const TOO_LONG: &[u8] = b"/x/\
+    nnnnnnnnnnnnnnnnnnnnnnnnnnnnnnnnnnnnnnnnnnnnnnnnnnnnnnnnnnnnnnnn\
+    nnnnnnnnnnnnnnnnnnnnnnnnnnnnnnnnnnnnnnnnnnnnnnnnnnnnnnnnnnnnnnnn\
+    nnnnnnnnnnnnnnnnnnnnnnnnnnnnnnnnnnnnnnnnnnnnnnnnnnnnnnnnnnnnnnnn\
+    nnnnnnnnnnnnnnnnnnnnnnnnnnnnnnnnnnnnnnnnnnnnnnnnnnnnnnnnnnnnnnnn";
+
 #[test]
 fn tests_a_text_before_its_place(rt: HostRuntime) -> Result<(), Fail> {
-    let name = [b'n'; 255];
-    let mut long = [b'n'; 259];
-    long[0] = b'/';
-    long[1] = b'x';
-    long[2] = b'/';
-    let mut whole = [b'n'; 256];
-    whole[0] = b'/';
     let rows = [
-        (mkdir(1, &whole), Reply::Done(2), true),
-        (mkdir(1, &long), Reply::Refused(36), false),
-        (look(1, &name), dir(2), false),
+        (mkdir(1, LONGEST), Reply::Done(2), true),
+        (mkdir(1, TOO_LONG), Reply::Refused(36), false),
+        (look(1, LONGEST), dir(2), false),
         (look(1, b"a\0"), Reply::Refused(22), false),
     ];
     assert_eq!(rt; first_other(rt.alloc(), 16, &rows)?, rows.len());

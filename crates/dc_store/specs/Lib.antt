@@ -1,3 +1,5 @@
 -- What a store's calls say of the plain tree that it stands for.
 pub mod Spots
 pub mod Added
+pub mod Keys
+pub mod Maps

@@ -1,6 +1,10 @@
 //! Stores of inodes and entries: each stands for a plain tree.
 #![tactic(auto)]
 
+mod key;
+mod map_store;
+mod node;
 mod store;
 
+pub use map_store::MapStore;
 pub use store::{New, Store};

@@ -1,4 +1,4 @@
-use Rattle.std.proofs.Common.{Some, ap, sym, ◌∙◌, cond, map, Bool}
+use Rattle.std.proofs.Common.{Some, ap, sym, ◌∙◌, cond, Bool}
 use Rattle.dc_plain.specs.Resolution.Met.{Goes, Stops, Meets}
 use Rattle.dc_plain.specs.Resolution.{over_parts}
 use Rattle.dc_plain.specs.Resolution.Outcome.{Found}

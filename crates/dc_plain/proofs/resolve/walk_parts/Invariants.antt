@@ -1,4 +1,4 @@
-use Rattle.std.proofs.Common.{◌≡◌, ℕ, List, Bool, Option, map, length}
+use Rattle.std.proofs.Common.{◌≡◌, ℕ, List, Bool, Option, length}
 use Rattle.dc_names.specs.Paths.{Part}
 use Rattle.dc_plain.specs.Facts.{Place}
 use Rattle.dc_plain.specs.Resolution.{Outcome, over_parts}

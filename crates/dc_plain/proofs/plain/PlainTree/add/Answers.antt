@@ -1,9 +1,8 @@
-use Rattle.std.proofs.Common.{◌≡◌, ◌+◌, None, map, ap, ◌∙◌, refl}
+use Rattle.std.proofs.Common.{◌+◌, map, ap, ◌∙◌, refl}
 use Rattle.std.specs.Ordering.{nat_cmp}
 use Rattle.std.specs.FinMap.Entries.{find as lookup}
 use Rattle.std.specs.FinMap.Entries.{put}
-use Rattle.dc_plain.specs.Machines.{Machine}
-use Rattle.dc_plain.specs.Plain.{tree_of, entry_shown, inode_shown}
+use Rattle.dc_plain.specs.Plain.{tree_of, inode_shown}
 use Rattle.dc_plain.specs.Plans.{new_shown}
 use Rattle.dc_plain.specs.Trees.{spot_cmp}
 use Rattle.dc_plain.proofs.Made.{unused_number}

@@ -1,4 +1,4 @@
-use Rattle.std.proofs.Common.{◌≡◌, Some, ap, ◌∙◌, map, option_and_then, subst}
+use Rattle.std.proofs.Common.{ap, ◌∙◌, map, option_and_then, subst}
 use Rattle.std.specs.FinMap.Entries.{find as lookup}
 use Rattle.dc_plain.specs.IsWellFormed.{IsWellFormed}
 use Rattle.dc_plain.specs.Machines.{Machine}

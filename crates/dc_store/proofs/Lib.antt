@@ -1,0 +1,5 @@
+pub mod Keys
+pub mod Maps
+pub mod Nodes
+pub mod Entries
+pub mod Made

@@ -1,0 +1,66 @@
+-- What a node says of the tree that its maps stand for.
+use Rattle.std.proofs.Common.{◌≡◌, ℕ, ◌==◌, List, [], ◌∷◌, Bool, true, false, not, cond, if◌then◌else◌, Option, Some, None, Bor, option_map, option_and_then, IfSome, IsTrue, find, refl, ap, sym, ◌∙◌, subst}
+use Rattle.std.specs.Global.{Vec}
+use Rattle.std.specs.Option.{option_copied}
+use Rattle.std.specs.Ordering.{nat_cmp}
+use Rattle.std.specs.List.{AllByRecursion}
+use Rattle.dc_plain.proofs.Made.{is_directory_in}
+use Rattle.dc_plain.specs.Facts.{Place}
+use Rattle.dc_plain.specs.Facts.Label.{Parent}
+use Rattle.dc_plain.specs.IsWellFormed.{Stands}
+use Rattle.dc_plain.specs.Resolution.{root}
+use Rattle.dc_plain.specs.Trees.{Tree, Inode, Spot, inode_of, entry_of, place_at, holder_of, kind_of, is_live_directory, is_directory_inode}
+use Rattle.dc_store.specs.Maps.{node_shown, parent_kept, tree_in, node_at, IsSound}
+use Rattle.dc_store.specs.declared.node.Node as rust_node
+use Rattle.dc_store.specs.declared.node.Node.TheVariants as kinds
+use Rattle.dc_store.proofs.Maps.{lookup_shown, all_of_each}
+
+copied_mapped : {X Y : Type 0} (f : X → Y) (o : Option (Bor X)) → option_map (λ x. f x.now) o ≡ option_map f (option_copied o)
+copied_mapped f None = refl
+copied_mapped f (Some x) = refl
+
+-- the number of a place
+abbrev pub numbers : Option Place → Option ℕ
+numbers = option_map (λ place. place.0)
+
+-- the directory of an entry that is found lives
+pub held_lives : (t : Tree) (p : Spot × ℕ → Bool) (es : List (Spot × ℕ)) → AllByRecursion (Stands t) es → (up : ℕ) → option_map (λ e. e.0.directory) (find p es) ≡ Some up → IsTrue (is_live_directory t up)
+held_lives t p [] all up e = cc
+held_lives t p (x ∷ xs) all up e =
+    elim (p x) as (λ b. option_map (λ e. e.0.directory) (cond b (Some x) (find p xs)) ≡ Some up → IsTrue (is_live_directory t up)) [
+      | true ↦ λ is. let same : x.0.directory ≡ up = cc in subst (λ k. IsTrue (is_live_directory t k)) same all.0.held
+      | false ↦ λ is. held_lives t p xs all.1 up is
+    ] e
+
+module _ (entries : List (Vec ℕ × ℕ)) (nodes : List (ℕ × rust_node.Node)) (next : ℕ) (n : ℕ) where
+  pub inode_shown_at : option_map node_shown (node_at nodes n) ≡ inode_of (tree_in entries nodes next) n
+  inode_shown_at = lookup_shown nat_cmp (λ k. k) node_shown (nat_cmp n) n nodes (all_of_each _ (λ e. refl) nodes)
+
+  pub node_found : (o : Option (Bor rust_node.Node)) → option_copied o ≡ node_at nodes n → option_map (λ node. node_shown node.now) o ≡ inode_of (tree_in entries nodes next) n
+  node_found o is = copied_mapped node_shown o ∙ ap (option_map node_shown) is ∙ inode_shown_at
+
+  pub parent_found : IsSound entries nodes next → (o : Option (Bor rust_node.Node)) → option_copied o ≡ node_at nodes n
+      → IfSome o (λ node. parent_kept node.now ≡ numbers (entry_of (tree_in entries nodes next) n Parent))
+  parent_found sound None is = tt
+  parent_found sound (Some b) is = by_node b.now (sym is)
+    where
+      t : Tree
+      t = tree_in entries nodes next
+
+      up_of : Option Inode → Option ℕ
+      up_of o = numbers (if not (is_directory_inode o) then None else if n == 1 then Some root else option_and_then (place_at t) (holder_of t n))
+
+      shown : (node : rust_node.Node) → node_at nodes n ≡ Some node → up_of (Some (node_shown node)) ≡ up_of (inode_of t n)
+      shown node is' = ap up_of (ap (option_map node_shown) (sym is') ∙ inode_shown_at)
+
+      by_parent : (up : ℕ) (b : Bool) → cond b (Some 1) (holder_of t n) ≡ Some up → Some up ≡ numbers (cond b (Some root) (option_and_then (place_at t) (holder_of t n)))
+      by_parent up true e = sym e
+      by_parent up false e =
+          let live = held_lives t (λ e'. e'.1 == n) t.entries sound.well.entries up e in
+          ap (λ i. numbers (option_map (λ inode. (up, kind_of inode)) i)) (sym (is_directory_in (inode_of t up) live))
+          ∙ ap (λ o. numbers (option_and_then (place_at t) o)) (sym e)
+
+      by_node : (node : rust_node.Node) → node_at nodes n ≡ Some node → parent_kept node ≡ numbers (entry_of t n Parent)
+      by_node (kinds.Dir up) is' = by_parent up (n == 1) (sound.parents n up is') ∙ shown (kinds.Dir up) is'
+      by_node kinds.File is' = shown kinds.File is'
+      by_node (kinds.Link text) is' = shown (kinds.Link text) is'

@@ -1,0 +1,55 @@
+-- The plain tree that two ordered maps stand for.
+use Rattle.std.specs.Prelude.{◌≡◌, ⊤, ℕ, ◌==◌, List, map, Option, Some, None, if◌then◌else◌}
+use Rattle.std.specs.BTreeMap.{is_at}
+use Rattle.std.specs.List.{AllByRecursion}
+use Rattle.std.specs.Map.{lookup}
+use Rattle.std.specs.Ordering.{nat_cmp}
+use Rattle.std.specs.Global.{Vec}
+use Rattle.dc_names.specs.Paths.{fault_of}
+use Rattle.dc_plain.specs.Trees.{Tree, Inode, Spot, holder_of}
+use Rattle.dc_plain.specs.Trees.Inode.{Directory, Regular, Symbolic}
+use Rattle.dc_plain.specs.IsWellFormed.{IsWellFormed}
+use Rattle.dc_store.specs.Keys.{spot_in, IsKey}
+use Rattle.dc_store.specs.declared.node.Node as rust_node
+use Rattle.dc_store.specs.declared.node.Node.TheVariants as kinds
+
+-- what a node stands for
+abbrev pub node_shown : rust_node.Node → Inode
+node_shown (kinds.Dir up) = Directory
+node_shown kinds.File = Regular
+node_shown (kinds.Link text) = Symbolic text.items
+
+-- a directory's parent, as its node keeps it
+abbrev pub parent_kept : rust_node.Node → Option ℕ
+parent_kept (kinds.Dir up) = Some up
+parent_kept kinds.File = None
+parent_kept (kinds.Link text) = None
+
+-- a new node for an entry in a directory: a directory's parent is that one, and a link's text has a path
+abbrev pub CanKeep : ℕ → rust_node.Node → Type 0
+CanKeep d (kinds.Dir up) = up ≡ d
+CanKeep d kinds.File = ⊤
+CanKeep d (kinds.Link text) = fault_of text.items ≡ None
+
+abbrev pub entry_shown : Vec ℕ × ℕ → Spot × ℕ
+entry_shown e = (spot_in e.0.items, e.1)
+
+abbrev pub inode_shown : ℕ × rust_node.Node → ℕ × Inode
+inode_shown e = (e.0, node_shown e.1)
+
+-- the tree of the entries under their keys, the nodes under their numbers, and the next number
+abbrev pub tree_in : List (Vec ℕ × ℕ) → List (ℕ × rust_node.Node) → ℕ → Tree
+tree_in entries nodes next = record { entries = map entry_shown entries; inodes = map inode_shown nodes; next = next }
+
+abbrev pub node_at : List (ℕ × rust_node.Node) → ℕ → Option rust_node.Node
+node_at nodes n = lookup (is_at (nat_cmp n)) nodes
+
+-- the root is its own parent, and another directory's is the one that holds its entry
+abbrev pub parent_in : Tree → ℕ → Option ℕ
+parent_in t n = if n == 1 then Some 1 else holder_of t n
+
+-- the entries stand under keys, the tree is well formed, and each directory keeps its parent
+pub record IsSound (entries : List (Vec ℕ × ℕ)) (nodes : List (ℕ × rust_node.Node)) (next : ℕ) : Type 0 where
+  pub keys : AllByRecursion (λ e. IsKey e.0.items) entries
+  pub well : IsWellFormed (tree_in entries nodes next)
+  pub parents : (n up : ℕ) → node_at nodes n ≡ Some (kinds.Dir up) → parent_in (tree_in entries nodes next) n ≡ Some up

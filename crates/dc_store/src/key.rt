@@ -1,0 +1,51 @@
+ghost use Rattle.std.specs.Prelude.{◌≡◌, ℕ, ◌+◌, ◌≤◌, List, ◌++◌, take, drop, length};
+ghost use Rattle.dc_store.specs.Keys.{key_of};
+ghost use Rattle.dc_store.specs.Spots.{spot_at};
+
+use dc_names::Name;
+use std::marker::Model;
+
+/// The bytes that an entry is kept under. Making them takes no memory.
+#[derive(Drop)]
+pub struct Key {
+    bytes: [u8; 263],
+    len: usize,
+}
+
+impl Model for Key {
+    ghost Value = { List ℕ };
+
+    ghost view = { λ key. take key.len key.bytes };
+
+    ghost invariant = { λ key. key.len ≤ 263 };
+}
+
+impl Key {
+    /// The directory's number in 8 bytes, the highest first, and the name.
+    pub fn new(dir: u64, name: Name<'_>) -> Key
+        ensures { result ≡ key_of (spot_at dir name.entry.bytes.now) }
+    {
+        let name = name.bytes();
+        let mut bytes = [0; 263];
+        put_at(&mut bytes, 0, &dir.to_be_bytes());
+        put_at(&mut bytes, 8, name);
+        Key {
+            bytes,
+            len: 8 + name.len(),
+        }
+    }
+
+    pub fn as_slice(&self) -> &[u8]
+        ensures { result.now ≡ self.now }
+    {
+        &self.bytes[..self.len]
+    }
+}
+
+/// Writes a part over the bytes from a place on.
+fn put_at(bytes: &mut [u8], start: usize, part: &[u8])
+    requires { start + length part.now ≤ length bytes.old }
+    ensures { bytes.new ≡ take start bytes.old ++ part.now ++ drop (start + length part.now) bytes.old }
+{
+    bytes[start..start + part.len()].copy_from_slice(part);
+}

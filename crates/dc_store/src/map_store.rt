@@ -1,0 +1,123 @@
+ghost use Rattle.std.specs.Prelude.{◌≡◌, ◌<◌, ◌^◌, None, option_map, IfSome, IfOk, OnOk, OnErr, IsTrue};
+ghost use Rattle.dc_plain.specs.Effects.{with_new};
+ghost use Rattle.dc_plain.specs.Facts.Label.{Parent};
+ghost use Rattle.dc_plain.specs.Trees.{Tree, empty_tree, inode_of, entry_of, target_of, is_live_directory};
+ghost use Rattle.dc_store.specs.Maps.{tree_in, node_shown, parent_kept, CanKeep, IsSound};
+ghost use Rattle.dc_store.specs.Spots.{spot_at};
+
+use crate::key::Key;
+use crate::node::Node;
+use crate::store::{New, Store};
+use dc_names::{Kind, Name, NoMemory};
+use std::alloc::Global;
+use std::collections::BTreeMap;
+use std::marker::Model;
+
+/// A store in two ordered maps: entries under their keys, and nodes under their numbers.
+#[derive(Drop)]
+pub struct MapStore {
+    entries: BTreeMap<Vec<u8>, u64>,
+    nodes: BTreeMap<u64, Node>,
+    next: u64,
+}
+
+impl Model for MapStore {
+    ghost Value = { Tree };
+
+    ghost view = { λ s. tree_in s.entries.entries s.nodes.entries s.next };
+
+    ghost invariant = { λ s. IsSound s.entries.entries s.nodes.entries s.next };
+}
+
+impl MapStore {
+    /// A store with the root directory alone.
+    pub fn new(alloc: Global) -> Result<MapStore, NoMemory>
+        ensures { IfOk result (λ store. store ≡ empty_tree) }
+    {
+        let mut nodes = BTreeMap::new(alloc);
+        nodes.insert(1, Node::Dir(1)).map_err(|_| NoMemory)?;
+        Ok(MapStore {
+            entries: BTreeMap::new(alloc),
+            nodes,
+            next: 2,
+        })
+    }
+
+    /// What is kept under a number.
+    fn node(&self, number: u64) -> Option<&Node>
+        ensures shown { option_map (λ node. node_shown node.now) result ≡ inode_of self.now number }
+        ensures parent { IfSome result (λ node. parent_kept node.now ≡ option_map (λ place. place.0) (entry_of self.now number Parent)) }
+    {
+        self.nodes.get(&number)
+    }
+
+    /// Adds a node under the next number, and an entry for it. The node goes again where the entry finds no memory.
+    fn make(&mut self, alloc: Global, dir: u64, name: Name<'_>, node: Node) -> Result<u64, NoMemory>
+        requires directory { IsTrue (is_live_directory self.old dir) }
+        requires free { target_of self.old (spot_at dir name.bytes.now) ≡ None }
+        requires room { self.old.next < 2 ^ 63 }
+        requires fits { CanKeep dir node }
+        ensures ok { OnOk result (self.new ≡ with_new self.old dir name.entry.bytes.now (node_shown node)) }
+        ensures number { IfOk result (λ number. number ≡ self.old.next) }
+        ensures err { OnErr result (self.new ≡ self.old) }
+    {
+        let key = Key::new(dir, name).as_slice().to_vec(alloc)?;
+        let number = self.next;
+        let Ok(_) = self.nodes.insert(number, node) else {
+            return Err(NoMemory);
+        };
+        let Ok(_) = self.entries.insert(key, number) else {
+            self.nodes.remove(&number);
+            return Err(NoMemory);
+        };
+        self.next += 1;
+        Ok(number)
+    }
+}
+
+impl Store for MapStore {
+    ghost tree = { λ store. store };
+
+    fn find(&self, dir: u64, name: Name<'_>) -> Option<u64> {
+        let key = Key::new(dir, name);
+        self.entries.get(key.as_slice()).copied()
+    }
+
+    fn kind(&self, number: u64) -> Option<Kind> {
+        let node = self.node(number)?;
+        Some(node.kind())
+    }
+
+    fn parent(&self, number: u64) -> Option<u64> {
+        self.node(number)?.parent()
+    }
+
+    fn text(&self, number: u64) -> Option<&[u8]> {
+        self.node(number)?.text()
+    }
+
+    fn live(&self) -> u64 {
+        self.nodes.len() as u64
+    }
+
+    fn next(&self) -> u64 {
+        self.next
+    }
+
+    fn add(
+        &mut self,
+        alloc: Global,
+        dir: u64,
+        name: Name<'_>,
+        new: New<'_>,
+    ) -> Result<u64, NoMemory> {
+        match new {
+            New::Dir => self.make(alloc, dir, name, Node::Dir(dir)),
+            New::File => self.make(alloc, dir, name, Node::File),
+            New::Link(text) => {
+                let text = text.to_vec(alloc)?;
+                self.make(alloc, dir, name, Node::Link(text))
+            }
+        }
+    }
+}
