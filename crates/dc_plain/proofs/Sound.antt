@@ -7,13 +7,15 @@ use Rattle.dc_plain.specs.Machines.{Machine}
 use Rattle.dc_plain.specs.Plans.{IsMade}
 use Rattle.dc_plain.specs.Plain.{IsSound, tree_of, machine_of}
 use Rattle.dc_plain.specs.declared.plain.PlainTree.TheInside.{Inside}
-use Rattle.dc_plain.proofs.Kept.{change-keeps}
+use Rattle.dc_plain.specs.Operations.{settled}
+use Rattle.dc_plain.proofs.Kept.{IsKept}
+use Rattle.dc_plain.proofs.KeptTrees.{keeps}
 
 -- the fields after a change stand for the tree that it makes
 pub sound_after : (old new : Inside) (m : Machine) (done : Answer × Tree) → IsSound old → machine_of old ≡ m → IsMade m.limit m.tree done → tree_of new ≡ done.1 → new.limit ≡ old.limit → IsSound new
 sound_after old new m done sound view is_made tree limit =
     let made : IsMade old.limit (tree_of old) done = subst (λ (k : Machine). IsMade k.limit k.tree done) (sym view) is_made in
-    let kept = change-keeps old.limit (tree_of old) made.request done made.covered (sound.well, sound.within) made.found in
+    let kept = subst (λ change. IsKept old.limit (settled (tree_of old) change).1) made.found (keeps old.limit (tree_of old) made.request made.covered sound.well sound.within) in
     record {
       well = subst IsWellFormed (sym tree) kept.0;
       within = subst (λ l. IsWithin l (tree_of new)) (sym limit) (subst (IsWithin old.limit) (sym tree) kept.1);
