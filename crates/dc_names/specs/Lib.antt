@@ -2,3 +2,5 @@
 pub mod Bytes
 pub mod Paths
 pub mod Names
+pub mod Hash
+pub mod Words

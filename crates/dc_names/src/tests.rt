@@ -2,7 +2,7 @@ ghost use Rattle.std.specs.Prelude.{◌≡◌, IfOk, map};
 ghost use Rattle.dc_names.specs.Names.{part_shown};
 ghost use Rattle.dc_names.specs.Paths.{parts_of};
 
-use crate::{Name, NoMemory, Part, PathText, TextFault, parse};
+use crate::{Name, NoMemory, Part, PathText, TextFault, hash, pack, parse, unpack};
 use std::alloc::{AllocError, Global};
 use std::test::Fail;
 
@@ -82,4 +82,17 @@ fn takes_a_refused_push(rt: HostRuntime) -> Result<(), Fail> {
     let pushed: Result<(), NoMemory> = list.push(1u8).map_err(NoMemory::from);
     assert_eq!(rt; pushed, Ok(()));
     Ok(())
+}
+
+#[test]
+fn hashes_numbers_and_bytes(rt: HostRuntime) {
+    assert_eq!(rt; hash(1, b"a") % 1024, 959);
+    assert_eq!(rt; hash(2, b"..") % 1024, 767);
+    assert_eq!(rt; hash(2, b"") % 1024, 519);
+}
+
+#[test]
+fn packs_the_first_byte_lowest(rt: HostRuntime) {
+    assert_eq!(rt; pack(b"usr"), 7500661);
+    assert_eq!(rt; unpack(6565678), *b"./d\0\0\0\0\0");
 }

@@ -1,0 +1,12 @@
+use Rattle.std.proofs.Common.{rules}
+use Rattle.dc_names.specs.Words.{bytes_in}
+use Rattle.dc_names.proofs.Packed.{word_of-bytes_in}
+use Rattle.dc_names.proofs.words.unpack.Goals as goal
+
+pub returns-clause-bytes : goal.returns-clause-bytes
+unfolding bytes_in
+returns-clause-bytes c = search rules
+
+pub returns-clause-back : goal.returns-clause-back
+unfolding bytes_in
+returns-clause-back c = rw c.to_le_bytes.ensures (word_of-bytes_in c.args.word c.ranges.word.fits)

@@ -1,0 +1,26 @@
+ghost use Rattle.std.specs.Prelude.{◌≡◌, List, ℕ, ◌≤◌, length};
+ghost use Rattle.dc_names.specs.Words.{AreBytes, word_of, bytes_in, padded};
+
+/// At most 8 bytes in one word, the first byte lowest, the rest zero.
+pub fn pack(bytes: &[u8]) -> u64
+    requires { length bytes.now ≤ 8 }
+    ensures word { result ≡ word_of bytes.now }
+    ensures back { bytes_in result ≡ padded bytes.now }
+{
+    let mut block = [0; 8];
+    block[..bytes.len()].copy_from_slice(bytes);
+    u64::from_le_bytes(block)
+}
+
+/// The 8 bytes of a word, the lowest first.
+pub fn unpack(word: u64) -> [u8; 8]
+    ensures bytes { result ≡ bytes_in word }
+    ensures back { word_of result ≡ word }
+{
+    word.to_le_bytes()
+}
+
+/// What `unpack` gives of a word that `pack` made.
+pub fn unpack_undoes_pack()
+    ensures { (bytes : List ℕ) → length bytes ≤ 8 → AreBytes bytes → bytes_in (word_of bytes) ≡ padded bytes }
+{}
