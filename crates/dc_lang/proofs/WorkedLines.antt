@@ -1,12 +1,13 @@
 -- Lines spelled by the definitions.
-use Rattle.std.proofs.Common.{◌≡◌, [], ◌∷◌, ◌++◌, refl, codes}
+use Rattle.std.proofs.Common.{◌≡◌, [], ◌∷◌, ◌++◌, Some, None, refl, codes}
 use Rattle.std.specs.Fmt.{digits}
 use Rattle.dc_names.specs.declared.kind.Kind.TheVariants.{Dir}
 use Rattle.dc_plain.specs.Requests.Answer.{Found, Names}
-use Rattle.dc_lang.specs.declared.line.Verb.TheVariants.{Mkdir}
+use Rattle.dc_lang.specs.declared.line.Verb.TheVariants.{Look, Cd, Mkdir}
 use Rattle.dc_lang.specs.Words.{spelled}
 use Rattle.dc_lang.specs.Commands.{line_text}
-use Rattle.dc_lang.specs.Commands.Said.{Orders}
+use Rattle.dc_lang.specs.Commands.Said.{Sync, Orders}
+use Rattle.dc_lang.specs.Reading.{said_in}
 use Rattle.dc_lang.specs.Replies.{reply_text}
 
 -- a space, a newline, a backslash and a zero byte
@@ -27,3 +28,65 @@ found_line = refl
 no_names : reply_text 0 (Names []) 2 ≡ codes "0 names @2" ++ 10 ∷ []
 unfolding digits
 no_names = refl
+
+-- lines that are read
+look_line : said_in (codes "0 look /") ≡ Some (Orders (record { session = 0; verb = Look; words = codes "/" ∷ [] }))
+unfolding said_in
+look_line = refl
+
+empty_path : said_in (codes "15 cd \\e") ≡ Some (Orders (record { session = 15; verb = Cd; words = [] ∷ [] }))
+unfolding said_in
+empty_path = refl
+
+escaped_word : said_in (codes "0 mkdir a\\sb\\nc\\\\e") ≡ Some (Orders (record { session = 0; verb = Mkdir; words = (97 ∷ 32 ∷ 98 ∷ 10 ∷ 99 ∷ 92 ∷ 101 ∷ []) ∷ [] }))
+unfolding said_in
+escaped_word = refl
+
+sync_alone : said_in (codes "sync") ≡ Some Sync
+unfolding said_in
+sync_alone = refl
+
+-- and lines that are none
+empty_line : said_in [] ≡ None
+unfolding said_in
+empty_line = refl
+
+session_sixteen : said_in (codes "16 look /") ≡ None
+unfolding said_in
+session_sixteen = refl
+
+zero_in_front : said_in (codes "00 look /") ≡ None
+unfolding said_in
+zero_in_front = refl
+
+no_word : said_in (codes "0 look") ≡ None
+unfolding said_in
+no_word = refl
+
+two_spaces : said_in (codes "0  look /") ≡ None
+unfolding said_in
+two_spaces = refl
+
+space_behind : said_in (codes "0 look / ") ≡ None
+unfolding said_in
+space_behind = refl
+
+unknown_escape : said_in (codes "0 look \\x") ≡ None
+unfolding said_in
+unknown_escape = refl
+
+backslash_at_the_end : said_in (codes "0 look \\") ≡ None
+unfolding said_in
+backslash_at_the_end = refl
+
+empty_word_inside : said_in (codes "0 look a\\eb") ≡ None
+unfolding said_in
+empty_word_inside = refl
+
+newline_inside : said_in (codes "0 look " ++ 10 ∷ []) ≡ None
+unfolding said_in
+newline_inside = refl
+
+sync_with_a_word : said_in (codes "sync 0") ≡ None
+unfolding said_in
+sync_with_a_word = refl

@@ -14,3 +14,6 @@ pub use laws::each_line_says_one_thing;
 pub use line::{Command, Line, LineFault, Verb};
 pub use read::read_line;
 pub use write::write_reply;
+
+#[cfg(test)]
+mod tests;
