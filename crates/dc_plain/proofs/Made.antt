@@ -75,7 +75,7 @@ IsGood Directory = Unit {0}
 IsGood Regular = Unit {0}
 IsGood (Symbolic text) = IsTrue (is_ok (path_of text))
 
-or_right : (a b : Bool) → IsTrue b → IsTrue (a || b)
+pub or_right : (a b : Bool) → IsTrue b → IsTrue (a || b)
 or_right true b h = refl
 or_right false b h = h
 
