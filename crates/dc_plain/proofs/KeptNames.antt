@@ -81,7 +81,7 @@ without_entry-IsWithin limit t d name n within =
       | false ↦ within
     ]
 
-unturned : (b : Bool) → not b ≡ false → b ≡ true
+pub unturned : (b : Bool) → not b ≡ false → b ≡ true
 unturned true e = refl
 unturned false e = cc
 

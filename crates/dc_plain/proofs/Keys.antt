@@ -23,7 +23,7 @@ equal_of Less e = cc
 equal_of Equal e = refl
 equal_of Greater e = cc
 
-same_spot : (a b : Spot) → eq_by_cmp spot_cmp a b ≡ true → a ≡ b
+pub same_spot : (a b : Spot) → eq_by_cmp spot_cmp a b ≡ true → a ≡ b
 same_spot a b e = ap (λ (p : ℕ × List ℕ). record { directory = p.0; name = p.1 })
     (exact_pairs nat_cmp (slice_cmp nat_cmp) nat_cmp-IsAntisymmetric (slice_cmp-IsAntisymmetric nat_cmp-IsAntisymmetric) (a.directory, a.name) (b.directory, b.name) (equal_of (spot_cmp a b) e))
 

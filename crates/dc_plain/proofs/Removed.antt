@@ -45,7 +45,7 @@ module _ (t : Tree) (d : ℕ) (name : List ℕ) (n : ℕ) (well : IsWellFormed t
   not_root same = let one : 1 ≤ names_of t 1 = subst (λ k. 1 ≤ names_of t k) same has_name in let none = well.no_entry_leads_to_root in absurd (omega arith)
 
   -- nothing is held by n
-  not_holder : (q up : ℕ) → holder_of t q ≡ Some up → n ≢ up
+  pub not_holder : (q up : ℕ) → holder_of t q ≡ Some up → n ≢ up
   not_holder q up e = by_entry (find (λ e. e.1 == q) t.entries) refl e
     where
       by_entry : (o : Option (Spot × ℕ)) → find (λ e. e.1 == q) t.entries ≡ o → option_map (λ e. e.0.directory) o ≡ Some up → n ≢ up
@@ -117,7 +117,7 @@ not_zero k e = grind (arith, nat_tests)
 is_zero : (k : ℕ) → (k == 0) ≡ true → k ≡ 0
 is_zero k e = grind (arith, nat_tests)
 
-inode_without : (n q : ℕ) (inodes : List (ℕ × Inode)) → lookup nat_cmp q (without_number n inodes) ≡ cond (n == q) None (lookup nat_cmp q inodes)
+pub inode_without : (n q : ℕ) (inodes : List (ℕ × Inode)) → lookup nat_cmp q (without_number n inodes) ≡ cond (n == q) None (lookup nat_cmp q inodes)
 inode_without n q inodes =
     find-where_key nat_cmp (λ other. not (n == other)) q (λ x tied. ap (λ (k : ℕ). not (n == k)) (sym (same_number q x (ap is_eq tied)))) inodes
     ∙ elim (n == q) as (λ b. cond (not b) (lookup nat_cmp q inodes) None ≡ cond b None (lookup nat_cmp q inodes)) [ true ↦ refl | false ↦ refl ]
