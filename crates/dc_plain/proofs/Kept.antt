@@ -16,9 +16,9 @@ use Rattle.dc_plain.proofs.Made.{with_new-IsWellFormed, IsGood, free_spot, lengt
 use Rattle.dc_plain.proofs.Chains.{after, after_test, named, left_with}
 use Rattle.dc_plain.proofs.Spotted.{spot_live, spot_named, path_is}
 
--- the tree is kept well formed, and within the limit
-abbrev pub IsKept : ℕ → Tree → Type 0
-IsKept limit t = IsWellFormed t × IsWithin limit t
+-- the tree that is left is well formed, and within the limit where the first one was
+abbrev pub IsKept : ℕ → Tree → Tree → Type 0
+IsKept limit t left = IsWellFormed left × (IsWithin limit t → IsWithin limit left)
 
 low_next : (limit inodes next : ℕ) → next ≤ 2 ^ 63 → (nat_le limit inodes || next == 2 ^ 63) ≡ false → next < 2 ^ 63
 low_next limit inodes next most e = grind (arith, nat_tests)
@@ -30,7 +30,7 @@ good_text : (text : List ℕ) (path : Path) → path_or_fault text ≡ Ok path �
 good_text text path e = rw (path_is (path_of text) path e) refl
 
 pub make-keeps : (limit : ℕ) (t : Tree) (base : ℕ) (text : List ℕ) (may : Bool) (inode : Inode) (done : Answer × Tree)
-    → IsWellFormed t → IsGood inode → make limit t base text may inode ≡ Ok done → IsKept limit done.1
+    → IsWellFormed t → IsGood inode → make limit t base text may inode ≡ Ok done → IsKept limit t done.1
 make-keeps limit t base text may inode done well good e =
     after (spot_on t base text) _ done e (λ at at_is e.
     after (name_or 17 at.last) _ done e (λ name name_is e.
@@ -40,16 +40,16 @@ make-keeps limit t base text may inode done well good e =
     let live : IsTrue (is_live_directory t at.directory) = spot_live t base text at well.root_is at_is in
     let is_name_ = spot_named t base text at name at_is (named 17 at.last name name_is) in
     let empty_spot = free_spot t at.directory name well free in
-    let made : IsKept limit (with_new t at.directory name inode) = (
+    let made : IsKept limit t (with_new t at.directory name inode) = (
       with_new-IsWellFormed t at.directory name inode well live empty_spot good is_name_ (low_next limit (length t.inodes) t.next well.next_is room),
       let one_more = length_new t at.directory name inode well live empty_spot in let below = has_room limit (length t.inodes) t.next room in omega arith,
     ) in
-    left_with (IsKept limit) (Done t.next) (with_new t at.directory name inode) done e made)))))
+    left_with (IsKept limit t) (Done t.next) (with_new t at.directory name inode) done e made)))))
 
-pub symlink-keeps : (limit : ℕ) (t : Tree) (base : ℕ) (text path : List ℕ) (done : Answer × Tree) → IsWellFormed t → symlink limit t base text path ≡ Ok done → IsKept limit done.1
+pub symlink-keeps : (limit : ℕ) (t : Tree) (base : ℕ) (text path : List ℕ) (done : Answer × Tree) → IsWellFormed t → symlink limit t base text path ≡ Ok done → IsKept limit t done.1
 symlink-keeps limit t base text path done well e =
     after (path_or_fault text) _ done e (λ link_path good e. make-keeps limit t base path false (Symbolic text) done well (good_text text link_path good) e)
 
-pub reads-keeps : (limit : ℕ) (t : Tree) (answered : Result Answer ℕ) (done : Answer × Tree) → IsKept limit t → left_alone t answered ≡ Ok done → IsKept limit done.1
-reads-keeps limit t (Ok answer) done kept e = left_with (IsKept limit) answer t done e kept
-reads-keeps limit t (Err number) done kept e = absurd cc
+pub reads-keeps : (limit : ℕ) (t : Tree) (answered : Result Answer ℕ) (done : Answer × Tree) → IsWellFormed t → left_alone t answered ≡ Ok done → IsKept limit t done.1
+reads-keeps limit t (Ok answer) done well e = left_with (IsKept limit t) answer t done e (well, λ within. within)
+reads-keeps limit t (Err number) done well e = absurd cc

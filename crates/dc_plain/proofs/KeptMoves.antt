@@ -1,32 +1,30 @@
 -- A rename keeps a tree well formed.
-use Rattle.std.proofs.Common.{◌≡◌, ◌≢◌, ◌⊎◌, inl, inr, ℕ, zero, suc, ◌≤◌, ◌==◌, ◌&&◌, ◌||◌, not, List, [], ◌∷◌, Bool, true, false, cond, Option, Some, None, Result, Ok, Err, is_some, IsTrue, refl, ap, sym, ◌∙◌, arith, length, option_map, subst, if◌then◌else◌}
+use Rattle.std.proofs.Common.{◌≡◌, ◌≢◌, ◌⊎◌, inl, inr, ℕ, zero, suc, ◌==◌, ◌&&◌, ◌||◌, not, List, [], ◌∷◌, Bool, true, false, cond, Option, Some, None, Ok, Err, is_some, IsTrue, refl, ap, sym, ◌∙◌, length, if◌then◌else◌}
 use Rattle.std.specs.List.{AllByRecursion}
-use Rattle.std.specs.Ordering.{nat_cmp, eq_by_cmp, is_eq}
+use Rattle.std.specs.Ordering.{eq_by_cmp, is_eq}
 use Rattle.std.specs.Cmp.{tied_itself}
-use Rattle.std.specs.FinMap.Entries.{find_tied}
 use Rattle.std.specs.FinMap.Entries.{find as lookup}
 use Rattle.dc_names.specs.Bytes.{is_empty, is_name}
 use Rattle.dc_plain.specs.Facts.{Place}
 use Rattle.dc_plain.specs.Facts.Label.{Entry}
 use Rattle.dc_plain.specs.Resolution.{is_directory}
-use Rattle.dc_plain.specs.Trees.{Tree, Spot, Inode, spot_cmp, inode_of, target_of, entry_of, holder_of, names_of, names_in, if_held, is_live_directory, is_directory_inode, without_number, without_spot}
-use Rattle.dc_plain.specs.Trees.Inode.{Directory}
+use Rattle.dc_plain.specs.Trees.{Tree, Spot, spot_cmp, inode_of, target_of, entry_of, holder_of, names_of, names_in, if_held, is_live_directory, is_directory_inode, without_number, without_spot}
 use Rattle.dc_plain.specs.Requests.{Answer}
 use Rattle.dc_plain.specs.Requests.Answer.{Nothing}
 use Rattle.dc_plain.specs.Refusals.{◌>>=◌, refuse, place_on, path_or_fault, name_or_each, present}
 use Rattle.dc_plain.specs.Effects.{with_entry_for, without_entry, without_entry_alone, without_there}
-use Rattle.dc_plain.specs.Operations.{rename, is_beneath, replaceable, same_inode, Change}
+use Rattle.dc_plain.specs.Operations.{rename, is_beneath, replaceable, same_inode}
 use Rattle.dc_plain.specs.IsWellFormed.{IsWellFormed, IsWithin}
-use Rattle.dc_plain.proofs.Made.{spots_total, is_directory_in, free_spot}
+use Rattle.dc_plain.proofs.Made.{spots_total, free_spot}
 use Rattle.dc_plain.proofs.Takes.{lookup-take}
 use Rattle.dc_plain.proofs.Keys.{same_spot}
-use Rattle.dc_plain.proofs.Holders.{decided_not, holder-live, other_test}
+use Rattle.dc_plain.proofs.Holders.{decided_not, other_test}
 use Rattle.dc_plain.proofs.Removed.{IsUnentered, left_of, without_entry-IsWellFormed, inode_without, unentered_node, unentered_directory, holder_left, not_holder}
 use Rattle.dc_plain.proofs.Moved.{IsReady, moved_to, moved-IsWellFormed}
 use Rattle.dc_plain.proofs.Chains.{after, after_test, named_each, is_there, left_with}
 use Rattle.dc_plain.proofs.Spotted.{place_live, path_named}
 use Rattle.dc_plain.proofs.Kept.{IsKept}
-use Rattle.dc_plain.proofs.KeptNames.{Leads, entry-leads, without_entry-IsWithin, unturned}
+use Rattle.dc_plain.proofs.KeptNames.{Leads, entry-leads, without_entry-IsWithin}
 
 -- both ways in which an entry may go
 either_left : (P : Tree → Type 0) (t : Tree) (d : ℕ) (name : List ℕ) (n : ℕ) → P (left_of t d name (without_number n t.inodes)) → P (left_of t d name t.inodes) → P (without_entry t d name n)
@@ -152,8 +150,8 @@ there-within : (limit : ℕ) (t : Tree) (d : ℕ) (name : List ℕ) (there : Opt
 there-within limit t d name None within = within
 there-within limit t d name (Some there) within = without_entry-IsWithin limit t d name there.0 within
 
-pub rename-keeps : (limit : ℕ) (t : Tree) (base : ℕ) (old new : List ℕ) (done : Answer × Tree) → IsKept limit t → rename t base old new ≡ Ok done → IsKept limit done.1
-rename-keeps limit t base old new done kept e =
+pub rename-keeps : (limit : ℕ) (t : Tree) (base : ℕ) (old new : List ℕ) (done : Answer × Tree) → IsWellFormed t → rename t base old new ≡ Ok done → IsKept limit t done.1
+rename-keeps limit t base old new done well e =
     after (path_or_fault old) _ done e (λ old_path old_good e.
     after (path_or_fault new) _ done e (λ new_path new_good e.
     after (place_on t base old_path) _ done e (λ from from_is e.
@@ -164,15 +162,14 @@ rename-keeps limit t base old new done kept e =
     after_test (not (is_directory moved) && (from.slash || to.slash)) 20 _ done e (λ ends e.
     let there = entry_of t to.directory (Entry new_name) in
     elim (same_inode moved there) as (λ b. same_inode moved there ≡ b → (if b then Ok (Nothing, t) else
-      refuse (is_directory moved && is_beneath (length t.inodes) t to.directory moved.0) 22 >>= λ apart. replaceable t moved there >>= λ may.
-      Ok (Nothing, with_entry_for (without_entry_alone (without_there t to.directory new_name there) from.directory old_name) to.directory new_name moved.0)) ≡ Ok done → IsKept limit done.1) [
-      | true ↦ λ same e. left_with (IsKept limit) Nothing t done e kept
+    refuse (is_directory moved && is_beneath (length t.inodes) t to.directory moved.0) 22 >>= λ apart. replaceable t moved there >>= λ may.
+    Ok (Nothing, with_entry_for (without_entry_alone (without_there t to.directory new_name there) from.directory old_name) to.directory new_name moved.0)) ≡ Ok done → IsKept limit t done.1) [
+      | true ↦ λ same e. left_with (IsKept limit t) Nothing t done e (well, λ within. within)
       | false ↦ λ other e.
           after_test (is_directory moved && is_beneath (length t.inodes) t to.directory moved.0) 22 _ done e (λ apart e.
           after (replaceable t moved there) _ done e (λ may may_is e.
-          let well = kept.0 in
           let found_it = ready t from.directory old_name to.directory new_name moved may well (entry-leads t from.directory old_name moved (is_there 2 _ moved found)) (place_live t base new_path to well.root_is to_is)
           (path_named t base new new_path to new_name new_good to_is (named_each 16 22 22 to.last new_name new_is)) apart there refl other may_is in
-          left_with (IsKept limit) Nothing (moved_to (without_there t to.directory new_name there) from.directory old_name to.directory new_name moved.0) done e
-          (moved-IsWellFormed (without_there t to.directory new_name there) from.directory old_name to.directory new_name moved.0 found_it, there-within limit t to.directory new_name there kept.1)))
+          left_with (IsKept limit t) Nothing (moved_to (without_there t to.directory new_name there) from.directory old_name to.directory new_name moved.0) done e
+          (moved-IsWellFormed (without_there t to.directory new_name there) from.directory old_name to.directory new_name moved.0 found_it, there-within limit t to.directory new_name there)))
     ] refl e))))))))

@@ -13,7 +13,7 @@ use Rattle.dc_plain.specs.Requests.Answer.{Done, Nothing}
 use Rattle.dc_plain.specs.Refusals.{spot_on, place_on, path_or_fault, name_or, name_or_each, present}
 use Rattle.dc_plain.specs.Effects.{with_entry_for, without_entry}
 use Rattle.dc_plain.specs.Operations.{link, unlink, rmdir}
-use Rattle.dc_plain.specs.IsWellFormed.{IsWithin}
+use Rattle.dc_plain.specs.IsWellFormed.{IsWellFormed, IsWithin}
 use Rattle.dc_plain.proofs.Made.{free_spot}
 use Rattle.dc_plain.proofs.Takes.{length_kept}
 use Rattle.dc_plain.proofs.Linked.{with_entry_for-IsWellFormed}
@@ -50,8 +50,8 @@ entry-leads t d name place e = by_target (target_of t (record { directory = d; n
 few_by : (n : ℕ) → nat_le 65000 n ≡ false → n < 65000
 few_by n e = grind (arith, nat_tests)
 
-pub link-keeps : (limit : ℕ) (t : Tree) (base : ℕ) (old new : List ℕ) (done : Answer × Tree) → IsKept limit t → link t base old new ≡ Ok done → IsKept limit done.1
-link-keeps limit t base old new done kept e =
+pub link-keeps : (limit : ℕ) (t : Tree) (base : ℕ) (old new : List ℕ) (done : Answer × Tree) → IsWellFormed t → link t base old new ≡ Ok done → IsKept limit t done.1
+link-keeps limit t base old new done well e =
     after (path_or_fault old) _ done e (λ old_path old_good e.
     after (path_or_fault new) _ done e (λ new_path new_good e.
     after (place_on t base old_path) _ done e (λ from from_is e.
@@ -64,12 +64,11 @@ link-keeps limit t base old new done kept e =
     after_test (is_some (entry_of t to.directory (Entry new_name))) 17 _ done e (λ free e.
     after_test to.slash 2 _ done e (λ new_ends e.
     after_test (nat_le 65000 (names_of t inode.0)) 31 _ done e (λ room e.
-    let well = kept.0 in
     let there = entry-leads t from.directory old_name inode (is_there 2 _ inode found) in
-    left_with (IsKept limit) (Done inode.0) (with_entry_for t to.directory new_name inode.0) done e (
+    left_with (IsKept limit t) (Done inode.0) (with_entry_for t to.directory new_name inode.0) done e (
       with_entry_for-IsWellFormed t to.directory new_name inode.0 there.inode well (place_live t base new_path to well.root_is to_is) (free_spot t to.directory new_name well free)
           there.lives (sym there.kind ∙ no_directory) (path_named t base new new_path to new_name new_good to_is (named 17 to.last new_name new_is)) (few_by (names_of t inode.0) room),
-      kept.1,
+      λ within. within,
     )))))))))))))
 
 -- no more inodes
@@ -85,8 +84,8 @@ pub unturned : (b : Bool) → not b ≡ false → b ≡ true
 unturned true e = refl
 unturned false e = cc
 
-pub unlink-keeps : (limit : ℕ) (t : Tree) (base : ℕ) (text : List ℕ) (done : Answer × Tree) → IsKept limit t → unlink t base text ≡ Ok done → IsKept limit done.1
-unlink-keeps limit t base text done kept e =
+pub unlink-keeps : (limit : ℕ) (t : Tree) (base : ℕ) (text : List ℕ) (done : Answer × Tree) → IsWellFormed t → unlink t base text ≡ Ok done → IsKept limit t done.1
+unlink-keeps limit t base text done well e =
     after (spot_on t base text) _ done e (λ at at_is e.
     after (name_or 1 at.last) _ done e (λ name name_is e.
     after (present 2 (entry_of t at.directory (Entry name))) _ done e (λ inode found e.
@@ -94,16 +93,16 @@ unlink-keeps limit t base text done kept e =
     after_test at.slash 20 _ done e (λ ends e.
     let there = entry-leads t at.directory name inode (is_there 2 _ inode found) in
     let node : is_live_directory t inode.0 ≡ false = rw there.lives (sym there.kind ∙ no_directory) in
-    left_with (IsKept limit) Nothing (without_entry t at.directory name inode.0) done e
-    (without_entry-IsWellFormed t at.directory name inode.0 kept.0 there.target (unentered_node t inode.0 kept.0 node), without_entry-IsWithin limit t at.directory name inode.0 kept.1))))))
+    left_with (IsKept limit t) Nothing (without_entry t at.directory name inode.0) done e
+    (without_entry-IsWellFormed t at.directory name inode.0 well there.target (unentered_node t inode.0 well node), without_entry-IsWithin limit t at.directory name inode.0))))))
 
-pub rmdir-keeps : (limit : ℕ) (t : Tree) (base : ℕ) (text : List ℕ) (done : Answer × Tree) → IsKept limit t → rmdir t base text ≡ Ok done → IsKept limit done.1
-rmdir-keeps limit t base text done kept e =
+pub rmdir-keeps : (limit : ℕ) (t : Tree) (base : ℕ) (text : List ℕ) (done : Answer × Tree) → IsWellFormed t → rmdir t base text ≡ Ok done → IsKept limit t done.1
+rmdir-keeps limit t base text done well e =
     after (spot_on t base text) _ done e (λ at at_is e.
     after (name_or_each 16 22 39 at.last) _ done e (λ name name_is e.
     after (present 2 (entry_of t at.directory (Entry name))) _ done e (λ inode found e.
     after_test (not (is_directory inode)) 20 _ done e (λ directory e.
     after_test (not (is_empty (names_in t inode.0))) 39 _ done e (λ empty e.
     let there = entry-leads t at.directory name inode (is_there 2 _ inode found) in
-    left_with (IsKept limit) Nothing (without_entry t at.directory name inode.0) done e
-    (without_entry-IsWellFormed t at.directory name inode.0 kept.0 there.target (unentered_directory t inode.0 (unturned _ empty)), without_entry-IsWithin limit t at.directory name inode.0 kept.1))))))
+    left_with (IsKept limit t) Nothing (without_entry t at.directory name inode.0) done e
+    (without_entry-IsWellFormed t at.directory name inode.0 well there.target (unentered_directory t inode.0 (unturned _ empty)), without_entry-IsWithin limit t at.directory name inode.0))))))

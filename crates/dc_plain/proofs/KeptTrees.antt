@@ -1,30 +1,43 @@
 -- Calls keep a tree well formed.
-use Rattle.std.proofs.Common.{◌≡◌, ℕ, true, false, Ok, Err, IsTrue, refl}
+use Rattle.std.proofs.Common.{◌≡◌, ℕ, [], ◌∷◌, true, false, Ok, Err, refl}
 use Rattle.dc_plain.specs.Trees.{Tree}
 use Rattle.dc_plain.specs.Trees.Inode.{Directory, Regular}
 use Rattle.dc_plain.specs.Requests.{Answer, Request}
 use Rattle.dc_plain.specs.Requests.Request.{Look, Readlink, Stat, List_names, Mkdir, Create, Hard_link, Symlink, Unlink, Rmdir, Rename}
 use Rattle.dc_plain.specs.Operations.{look, readlink, stat, list_names, change_of, settled, Change}
-use Rattle.dc_plain.specs.Laws.{KeepsTreesWellFormed, is_no_rename}
+use Rattle.dc_plain.specs.Runs.{tree_after}
+use Rattle.dc_plain.specs.IsWellFormed.{IsWellFormed}
+use Rattle.dc_plain.specs.Laws.{KeepsTreesWellFormed, KeepsWithinLimit, KeepsRunsWellFormed}
 use Rattle.dc_plain.proofs.Kept.{IsKept, make-keeps, symlink-keeps, reads-keeps}
 use Rattle.dc_plain.proofs.KeptNames.{link-keeps, unlink-keeps, rmdir-keeps}
+use Rattle.dc_plain.proofs.KeptMoves.{rename-keeps}
 
-change-keeps : (limit : ℕ) (t : Tree) (request : Request) (done : Answer × Tree) → IsTrue (is_no_rename request) → IsKept limit t → change_of limit t request ≡ Ok done → IsKept limit done.1
-change-keeps limit t (Look base path how) done covered kept e = reads-keeps limit t (look t base path how) done kept e
-change-keeps limit t (Readlink base path) done covered kept e = reads-keeps limit t (readlink t base path) done kept e
-change-keeps limit t (Stat base path) done covered kept e = reads-keeps limit t (stat t base path) done kept e
-change-keeps limit t (List_names base path) done covered kept e = reads-keeps limit t (list_names t base path) done kept e
-change-keeps limit t (Mkdir base path) done covered kept e = make-keeps limit t base path true Directory done kept.0 tt e
-change-keeps limit t (Create base path) done covered kept e = make-keeps limit t base path false Regular done kept.0 tt e
-change-keeps limit t (Hard_link base old new) done covered kept e = link-keeps limit t base old new done kept e
-change-keeps limit t (Symlink base text path) done covered kept e = symlink-keeps limit t base text path done kept.0 e
-change-keeps limit t (Unlink base path) done covered kept e = unlink-keeps limit t base path done kept e
-change-keeps limit t (Rmdir base path) done covered kept e = rmdir-keeps limit t base path done kept e
-change-keeps limit t (Rename base old new) done covered kept e = cc
+pub change-keeps : (limit : ℕ) (t : Tree) (request : Request) (done : Answer × Tree) → IsWellFormed t → change_of limit t request ≡ Ok done → IsKept limit t done.1
+change-keeps limit t (Look base path how) done well e = reads-keeps limit t (look t base path how) done well e
+change-keeps limit t (Readlink base path) done well e = reads-keeps limit t (readlink t base path) done well e
+change-keeps limit t (Stat base path) done well e = reads-keeps limit t (stat t base path) done well e
+change-keeps limit t (List_names base path) done well e = reads-keeps limit t (list_names t base path) done well e
+change-keeps limit t (Mkdir base path) done well e = make-keeps limit t base path true Directory done well tt e
+change-keeps limit t (Create base path) done well e = make-keeps limit t base path false Regular done well tt e
+change-keeps limit t (Hard_link base old new) done well e = link-keeps limit t base old new done well e
+change-keeps limit t (Symlink base text path) done well e = symlink-keeps limit t base text path done well e
+change-keeps limit t (Unlink base path) done well e = unlink-keeps limit t base path done well e
+change-keeps limit t (Rmdir base path) done well e = rmdir-keeps limit t base path done well e
+change-keeps limit t (Rename base old new) done well e = rename-keeps limit t base old new done well e
 
-settled-keeps : (limit : ℕ) (t : Tree) (change : Change) → IsKept limit t → ((done : Answer × Tree) → change ≡ Ok done → IsKept limit done.1) → IsKept limit (settled t change).1
-settled-keeps limit t (Ok done) kept so = so done refl
-settled-keeps limit t (Err number) kept so = kept
+settled-keeps : (limit : ℕ) (t : Tree) (change : Change) → IsWellFormed t → ((done : Answer × Tree) → change ≡ Ok done → IsKept limit t done.1) → IsKept limit t (settled t change).1
+settled-keeps limit t (Ok done) well so = so done refl
+settled-keeps limit t (Err number) well so = (well, λ within. within)
 
-pub keeps : KeepsTreesWellFormed is_no_rename
-keeps limit t request covered well within = settled-keeps limit t (change_of limit t request) (well, within) (λ done. change-keeps limit t request done covered (well, within))
+tree-kept : (limit : ℕ) (t : Tree) (request : Request) → IsWellFormed t → IsKept limit t (tree_after limit t request)
+tree-kept limit t request well = settled-keeps limit t (change_of limit t request) well (λ done. change-keeps limit t request done well)
+
+pub well_formed-kept : KeepsTreesWellFormed
+well_formed-kept limit t request well = let kept = tree-kept limit t request well in kept.0
+
+pub within-kept : KeepsWithinLimit
+within-kept limit t request well within = let kept = tree-kept limit t request well in kept.1 within
+
+pub runs-kept : KeepsRunsWellFormed
+runs-kept limit t [] well = well
+runs-kept limit t (request ∷ requests) well = runs-kept limit (tree_after limit t request) requests (well_formed-kept limit t request well)

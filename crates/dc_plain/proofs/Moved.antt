@@ -10,7 +10,7 @@ use Rattle.dc_plain.specs.Operations.{is_beneath}
 use Rattle.dc_plain.specs.IsWellFormed.{IsWellFormed, Stands, IsReached, comes_up}
 use Rattle.dc_plain.proofs.Puts.{count-put, All-put, find-put_no, find-put_yes, All-weaker}
 use Rattle.dc_plain.proofs.Takes.{All-filter, count-take, find-take, lookup-take}
-use Rattle.dc_plain.proofs.Made.{spots_total, to_test, from_test, is_directory_in, some_in, or_right, All-lookup}
+use Rattle.dc_plain.proofs.Made.{spots_total, to_test, from_test, is_directory_in, or_right, All-lookup}
 use Rattle.dc_plain.proofs.Holders.{other_test, same_test, decided, decided_not, holder-live}
 
 neither : (a b : Bool) → (a || b) ≡ false → (a ≡ false) × (b ≡ false)
@@ -102,7 +102,7 @@ module _ (t : Tree) (from : ℕ) (old : List ℕ) (to : ℕ) (new : List ℕ) (n
       let u = moved_to t from old to new n in
       elim (d == 1) as (λ b. (d == 1) ≡ b → IsTrue (b || if_held (holder_of t d) (λ up. comes_up steps t up)) → (more : ℕ) × IsTrue (comes_up more u d)) [
         | true ↦ λ is h'. (0, is)
-        | false ↦ λ is h'. 
+        | false ↦ λ is h'.
             let one = single d live (decided_not d 1 is) in
             let up = held_by t d one in
             elim (n == d) as (λ b. (n == d) ≡ b → (more : ℕ) × IsTrue (comes_up more u d)) [

@@ -1,5 +1,5 @@
 -- What holds of every call on every tree.
-use Rattle.std.specs.Prelude.{◌≡◌, ℕ, Bool, true, false, IsTrue, ◌==◌, ◌||◌, Some}
+use Rattle.std.specs.Prelude.{◌≡◌, ℕ, List, Bool, IsTrue, ◌==◌, ◌||◌, Some}
 use Rattle.dc_names.specs.Paths.{Path}
 use Rattle.dc_plain.specs.declared.call.Follow.{Follow}
 use Rattle.dc_plain.specs.Facts.{Teller}
@@ -11,18 +11,19 @@ use Rattle.dc_plain.specs.Places.Placed.{Not}
 use Rattle.dc_plain.specs.Trees.{Tree}
 use Rattle.dc_plain.specs.IsWellFormed.{IsWellFormed, IsWithin}
 use Rattle.dc_plain.specs.Requests.{Request}
-use Rattle.dc_plain.specs.Requests.Request.{Rename}
-use Rattle.dc_plain.specs.Runs.{tree_after}
+use Rattle.dc_plain.specs.Runs.{tree_after, tree_after_all}
 
--- every request but a rename
-abbrev pub is_no_rename : Request → Bool
-is_no_rename (Rename base old new) = false
-is_no_rename _ = true
+-- a well-formed tree stays so, whatever request comes
+abbrev pub KeepsTreesWellFormed : Type 0
+KeepsTreesWellFormed = (limit : ℕ) (t : Tree) (request : Request) → IsWellFormed t → IsWellFormed (tree_after limit t request)
 
--- a well-formed tree within the limit stays so, whatever request of these comes
-abbrev pub KeepsTreesWellFormed : (Request → Bool) → Type 0
-KeepsTreesWellFormed covered = (limit : ℕ) (t : Tree) (request : Request) → IsTrue (covered request) → IsWellFormed t → IsWithin limit t
-    → IsWellFormed (tree_after limit t request) × IsWithin limit (tree_after limit t request)
+-- and has no more inodes than are allowed
+abbrev pub KeepsWithinLimit : Type 0
+KeepsWithinLimit = (limit : ℕ) (t : Tree) (request : Request) → IsWellFormed t → IsWithin limit t → IsWithin limit (tree_after limit t request)
+
+-- so is each tree of a run
+abbrev pub KeepsRunsWellFormed : Type 0
+KeepsRunsWellFormed = (limit : ℕ) (t : Tree) (requests : List Request) → IsWellFormed t → IsWellFormed (tree_after_all limit t requests)
 
 -- the numbers with which a resolution refuses: ENOENT, ENOTDIR, ELOOP
 abbrev pub is_walk_refusal : ℕ → Bool

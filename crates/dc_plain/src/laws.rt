@@ -2,16 +2,18 @@
 
 ghost use Rattle.dc_plain.specs.Trees.{empty_tree};
 ghost use Rattle.dc_plain.specs.IsWellFormed.{IsWellFormed};
-ghost use Rattle.dc_plain.specs.Laws.{KeepsTreesWellFormed, is_no_rename, WalksRefuseByThree, PlacesRefuseByThree, WalksStay, PlacesStay};
+ghost use Rattle.dc_plain.specs.Laws.{KeepsTreesWellFormed, KeepsWithinLimit, KeepsRunsWellFormed, WalksRefuseByThree, PlacesRefuseByThree, WalksStay, PlacesStay};
 
 /// The tree that is opened is well formed.
 pub fn opening_tree_is_well_formed()
     ensures { IsWellFormed empty_tree }
 {}
 
-/// Calls keep a tree well formed, and within the limit of inodes.
+/// Every call keeps a tree well formed, and within the limit of inodes.
 pub fn operations_keep_trees_well_formed()
-    ensures { KeepsTreesWellFormed is_no_rename }
+    ensures well_formed { KeepsTreesWellFormed }
+    ensures within { KeepsWithinLimit }
+    ensures runs { KeepsRunsWellFormed }
 {}
 
 /// A path is refused by ENOENT, ENOTDIR or ELOOP alone, whoever tells where entries lead.
