@@ -1,16 +1,18 @@
 -- What a node says of the tree that its maps stand for.
-use Rattle.std.proofs.Common.{◌≡◌, ℕ, ◌==◌, List, [], ◌∷◌, Bool, true, false, not, cond, if◌then◌else◌, Option, Some, None, Bor, option_map, option_and_then, IfSome, IsTrue, find, refl, ap, sym, ◌∙◌, subst}
+use Rattle.dc_names.specs.Paths.{fault_of, path_in}
+use Rattle.dc_names.specs.declared.fault.TextFault.{TextFault}
+use Rattle.dc_plain.specs.Trees.Inode.{Symbolic}
+use Rattle.std.proofs.Common.{Ok, Err, is_ok, ◌≡◌, ℕ, ◌==◌, List, [], ◌∷◌, Bool, true, false, not, cond, if◌then◌else◌, Option, Some, None, Bor, option_map, option_and_then, IfSome, IsTrue, find, refl, ap, sym, ◌∙◌, subst}
 use Rattle.std.specs.Global.{Vec}
 use Rattle.std.specs.Option.{option_copied}
 use Rattle.std.specs.Ordering.{nat_cmp}
 use Rattle.std.specs.List.{AllByRecursion}
 use Rattle.dc_plain.proofs.Made.{is_directory_in}
 use Rattle.dc_plain.specs.Facts.{Place}
-use Rattle.dc_plain.specs.Facts.Label.{Parent}
 use Rattle.dc_plain.specs.IsWellFormed.{Stands}
 use Rattle.dc_plain.specs.Resolution.{root}
-use Rattle.dc_plain.specs.Trees.{Tree, Inode, Spot, inode_of, entry_of, place_at, holder_of, kind_of, is_live_directory, is_directory_inode}
-use Rattle.dc_store.specs.Maps.{node_shown, parent_kept, tree_in, node_at, IsSound}
+use Rattle.dc_plain.specs.Trees.{Tree, Inode, Spot, inode_of, place_at, holder_of, kind_of, is_live_directory, is_directory_inode}
+use Rattle.dc_store.specs.Maps.{IsNodeAt, node_shown, tree_in, node_at, IsSound}
 use Rattle.dc_store.specs.declared.node.Node as rust_node
 use Rattle.dc_store.specs.declared.node.Node.TheVariants as kinds
 use Rattle.dc_store.proofs.Maps.{lookup_shown, all_of_each}
@@ -39,28 +41,38 @@ module _ (entries : List (Vec ℕ × ℕ)) (nodes : List (ℕ × rust_node.Node)
   pub node_found : (o : Option (Bor rust_node.Node)) → option_copied o ≡ node_at nodes n → option_map (λ node. node_shown node.now) o ≡ inode_of (tree_in entries nodes next) n
   node_found o is = copied_mapped node_shown o ∙ ap (option_map node_shown) is ∙ inode_shown_at
 
-  pub parent_found : IsSound entries nodes next → (o : Option (Bor rust_node.Node)) → option_copied o ≡ node_at nodes n
-      → IfSome o (λ node. parent_kept node.now ≡ numbers (entry_of (tree_in entries nodes next) n Parent))
-  parent_found sound None is = tt
-  parent_found sound (Some b) is = by_node b.now (sym is)
-    where
-      t : Tree
-      t = tree_in entries nodes next
+  abbrev pub t : Tree
+  t = tree_in entries nodes next
 
-      up_of : Option Inode → Option ℕ
-      up_of o = numbers (if not (is_directory_inode o) then None else if n == 1 then Some root else option_and_then (place_at t) (holder_of t n))
+  shown_as : (node : rust_node.Node) → node_at nodes n ≡ Some node → inode_of t n ≡ Some (node_shown node)
+  shown_as node is = sym inode_shown_at ∙ ap (option_map node_shown) is
 
-      shown : (node : rust_node.Node) → node_at nodes n ≡ Some node → up_of (Some (node_shown node)) ≡ up_of (inode_of t n)
-      shown node is' = ap up_of (ap (option_map node_shown) (sym is') ∙ inode_shown_at)
+  up_lives : IsSound entries nodes next → (up : ℕ) (b : Bool) → cond b (Some 1) (holder_of t n) ≡ Some up → IsTrue (is_live_directory t up)
+  up_lives sound up true e = let same : 1 ≡ up = cc in subst (λ k. IsTrue (is_live_directory t k)) same (ap is_directory_inode sound.well.root_is)
+  up_lives sound up false e = held_lives t (λ e'. e'.1 == n) t.entries sound.well.entries up e
 
-      by_parent : (up : ℕ) (b : Bool) → cond b (Some 1) (holder_of t n) ≡ Some up → Some up ≡ numbers (cond b (Some root) (option_and_then (place_at t) (holder_of t n)))
-      by_parent up true e = sym e
-      by_parent up false e =
-          let live = held_lives t (λ e'. e'.1 == n) t.entries sound.well.entries up e in
-          ap (λ i. numbers (option_map (λ inode. (up, kind_of inode)) i)) (sym (is_directory_in (inode_of t up) live))
-          ∙ ap (λ o. numbers (option_and_then (place_at t) o)) (sym e)
+  abbrev up_of : Option Inode → Option ℕ
+  up_of o = numbers (if not (is_directory_inode o) then None else if n == 1 then Some root else option_and_then (place_at t) (holder_of t n))
 
-      by_node : (node : rust_node.Node) → node_at nodes n ≡ Some node → parent_kept node ≡ numbers (entry_of t n Parent)
-      by_node (kinds.Dir up) is' = by_parent up (n == 1) (sound.parents n up is') ∙ shown (kinds.Dir up) is'
-      by_node kinds.File is' = shown kinds.File is'
-      by_node (kinds.Link text) is' = shown (kinds.Link text) is'
+  up_told : IsSound entries nodes next → (up : ℕ) (b : Bool) → cond b (Some 1) (holder_of t n) ≡ Some up → Some up ≡ numbers (cond b (Some root) (option_and_then (place_at t) (holder_of t n)))
+  up_told sound up true e = sym e
+  up_told sound up false e =
+      let live = held_lives t (λ e'. e'.1 == n) t.entries sound.well.entries up e in
+      ap (λ i. numbers (option_map (λ inode. (up, kind_of inode)) i)) (sym (is_directory_in (inode_of t up) live)) ∙ ap (λ o. numbers (option_and_then (place_at t) o)) (sym e)
+
+  path_told : (text : List ℕ) (o : Option TextFault) → IsTrue (is_ok (elim o [ None ↦ Ok (path_in text) | Some fault ↦ Err fault ])) → o ≡ None
+  path_told text None ok = refl
+  path_told text (Some fault) ok = cc
+
+  told : IsSound entries nodes next → (node : rust_node.Node) → node_at nodes n ≡ Some node → IsNodeAt t n node
+  told sound (kinds.Dir up) is =
+      let parent = sound.parents n up is in
+      record { parent = up_told sound up (n == 1) parent ∙ ap up_of (sym (shown_as (kinds.Dir up) is)); directory = up_lives sound up (n == 1) parent; path = tt }
+  told sound kinds.File is = record { parent = ap up_of (sym (shown_as kinds.File is)); directory = tt; path = tt }
+  told sound (kinds.Link text) is =
+      let lives = sound.well.inodes n (Symbolic text.items) (shown_as (kinds.Link text) is) in
+      record { parent = ap up_of (sym (shown_as (kinds.Link text) is)); directory = tt; path = path_told text.items (fault_of text.items) lives.reached.2 }
+
+  pub node_told : IsSound entries nodes next → (o : Option (Bor rust_node.Node)) → option_copied o ≡ node_at nodes n → IfSome o (λ node. IsNodeAt t n node.now)
+  node_told sound None is = tt
+  node_told sound (Some b) is = told sound b.now (sym is)

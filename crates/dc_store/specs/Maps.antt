@@ -1,12 +1,13 @@
 -- The plain tree that two ordered maps stand for.
-use Rattle.std.specs.Prelude.{◌≡◌, ⊤, ℕ, ◌==◌, List, map, Option, Some, None, if◌then◌else◌}
+use Rattle.std.specs.Prelude.{◌≡◌, ⊤, ℕ, option_map, IfSome, IsTrue, ◌==◌, List, map, Option, Some, None, if◌then◌else◌}
 use Rattle.std.specs.BTreeMap.{is_at}
 use Rattle.std.specs.List.{AllByRecursion}
 use Rattle.std.specs.Map.{lookup}
 use Rattle.std.specs.Ordering.{nat_cmp}
 use Rattle.std.specs.Global.{Vec}
 use Rattle.dc_names.specs.Paths.{fault_of}
-use Rattle.dc_plain.specs.Trees.{Tree, Inode, Spot, holder_of}
+use Rattle.dc_plain.specs.Trees.{Tree, Inode, Spot, holder_of, entry_of, text_in, is_live_directory}
+use Rattle.dc_plain.specs.Facts.Label.{Parent}
 use Rattle.dc_plain.specs.Trees.Inode.{Directory, Regular, Symbolic}
 use Rattle.dc_plain.specs.IsWellFormed.{IsWellFormed}
 use Rattle.dc_store.specs.Keys.{spot_in, IsKey}
@@ -47,6 +48,12 @@ node_at nodes n = lookup (is_at (nat_cmp n)) nodes
 -- the root is its own parent, and another directory's is the one that holds its entry
 abbrev pub parent_in : Tree → ℕ → Option ℕ
 parent_in t n = if n == 1 then Some 1 else holder_of t n
+
+-- a directory's node keeps the number that its dot-dot leads to, where a directory lives, and a link's text has a path
+pub record IsNodeAt (t : Tree) (n : ℕ) (node : rust_node.Node) : Type 0 where
+  pub parent : parent_kept node ≡ option_map (λ place. place.0) (entry_of t n Parent)
+  pub directory : IfSome (parent_kept node) (λ up. IsTrue (is_live_directory t up))
+  pub path : IfSome (text_in (node_shown node)) (λ text. fault_of text ≡ None)
 
 -- the entries stand under keys, the tree is well formed, and each directory keeps its parent
 pub record IsSound (entries : List (Vec ℕ × ℕ)) (nodes : List (ℕ × rust_node.Node)) (next : ℕ) : Type 0 where

@@ -5,6 +5,8 @@ mod key;
 mod map_store;
 mod node;
 mod store;
+#[cfg(test)]
+mod tests;
 
 pub use map_store::MapStore;
 pub use store::{New, Store};

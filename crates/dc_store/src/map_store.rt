@@ -1,8 +1,7 @@
 ghost use Rattle.std.specs.Prelude.{◌≡◌, ◌<◌, ◌^◌, None, option_map, IfSome, IfOk, OnOk, OnErr, IsTrue};
 ghost use Rattle.dc_plain.specs.Effects.{with_new};
-ghost use Rattle.dc_plain.specs.Facts.Label.{Parent};
-ghost use Rattle.dc_plain.specs.Trees.{Tree, empty_tree, inode_of, entry_of, target_of, is_live_directory};
-ghost use Rattle.dc_store.specs.Maps.{tree_in, node_shown, parent_kept, CanKeep, IsSound};
+ghost use Rattle.dc_plain.specs.Trees.{Tree, empty_tree, inode_of, target_of, is_live_directory};
+ghost use Rattle.dc_store.specs.Maps.{tree_in, node_shown, IsNodeAt, CanKeep, IsSound};
 ghost use Rattle.dc_store.specs.Spots.{spot_at};
 
 use crate::key::Key;
@@ -46,7 +45,7 @@ impl MapStore {
     /// What is kept under a number.
     fn node(&self, number: u64) -> Option<&Node>
         ensures shown { option_map (λ node. node_shown node.now) result ≡ inode_of self.now number }
-        ensures parent { IfSome result (λ node. parent_kept node.now ≡ option_map (λ place. place.0) (entry_of self.now number Parent)) }
+        ensures kept { IfSome result (λ node. IsNodeAt self.now number node.now) }
     {
         self.nodes.get(&number)
     }
