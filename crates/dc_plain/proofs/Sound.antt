@@ -8,17 +8,17 @@ use Rattle.dc_plain.specs.Plans.{IsMade}
 use Rattle.dc_plain.specs.Plain.{IsSound, tree_of, machine_of}
 use Rattle.dc_plain.specs.declared.plain.PlainTree.TheInside.{Inside}
 use Rattle.dc_plain.specs.Operations.{settled}
-use Rattle.dc_plain.proofs.Kept.{IsKept}
-use Rattle.dc_plain.proofs.KeptTrees.{keeps}
+use Rattle.dc_plain.specs.Runs.{tree_after}
+use Rattle.dc_plain.proofs.KeptTrees.{well_formed-kept, within-kept}
 
 -- the fields after a change stand for the tree that it makes
 pub sound_after : (old new : Inside) (m : Machine) (done : Answer × Tree) → IsSound old → machine_of old ≡ m → IsMade m.limit m.tree done → tree_of new ≡ done.1 → new.limit ≡ old.limit → IsSound new
 sound_after old new m done sound view is_made tree limit =
     let made : IsMade old.limit (tree_of old) done = subst (λ (k : Machine). IsMade k.limit k.tree done) (sym view) is_made in
-    let kept = subst (λ change. IsKept old.limit (settled (tree_of old) change).1) made.found (keeps old.limit (tree_of old) made.request made.covered sound.well sound.within) in
+    let after = λ (P : Tree → Type 0) (h : P (tree_after old.limit (tree_of old) made.request)). subst P (sym tree) (subst (λ change. P (settled (tree_of old) change).1) made.found h) in
     record {
-      well = subst IsWellFormed (sym tree) kept.0;
-      within = subst (λ l. IsWithin l (tree_of new)) (sym limit) (subst (IsWithin old.limit) (sym tree) kept.1);
+      well = after IsWellFormed (well_formed-kept old.limit (tree_of old) made.request sound.well);
+      within = subst (λ l. IsWithin l (tree_of new)) (sym limit) (after (IsWithin old.limit) (within-kept old.limit (tree_of old) made.request sound.well sound.within));
       some_live = subst (λ l. 1 ≤ l) (sym limit) sound.some_live;
       at_most = subst (λ l. l ≤ 1048576) (sym limit) sound.at_most;
     }

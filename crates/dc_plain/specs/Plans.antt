@@ -1,5 +1,5 @@
 -- What a call was found to answer, or to change.
-use Rattle.std.specs.Prelude.{◌≡◌, ℕ, None, Ok, IsTrue}
+use Rattle.std.specs.Prelude.{◌≡◌, ℕ, None, Ok}
 use Rattle.dc_plain.specs.declared.plan.New as rust_new
 use Rattle.dc_plain.specs.declared.plan.New.TheVariants as news
 use Rattle.dc_plain.specs.declared.plan.Change as rust_change
@@ -12,7 +12,6 @@ use Rattle.dc_plain.specs.Requests.{Request, Answer, answer_of}
 use Rattle.dc_plain.specs.Requests.Answer.{Done}
 use Rattle.dc_plain.specs.Effects.{with_new}
 use Rattle.dc_plain.specs.Operations.{change_of}
-use Rattle.dc_plain.specs.Laws.{is_no_rename}
 
 abbrev pub new_shown : rust_new.New → Inode
 new_shown news.Directory = Directory
@@ -38,5 +37,4 @@ HasSpotsIfChange t (plans.Change change) = HasSpots t change
 -- some request answers so, and leaves this tree
 pub record IsMade (limit : ℕ) (t : Tree) (done : Answer × Tree) : Type 0 where
   pub request : Request
-  pub covered : IsTrue (is_no_rename request)
   pub found : change_of limit t request ≡ Ok done
