@@ -1,0 +1,5 @@
+pub mod Lists
+pub mod Entries
+pub mod Orders
+pub mod Listed
+pub mod Steps

@@ -1,0 +1,3 @@
+-- The rows in use, by last use, and their pins.
+pub mod Listings
+pub mod Orders

@@ -1,0 +1,93 @@
+ghost use Rattle.std.specs.Prelude.{◌≡◌, ◌<◌, ◌/◌, ◌^◌, [], ◌∷◌, filter, length, is_some, nat_eq, slice_index_or, map, IfOk};
+ghost use Rattle.std.specs.Int.{div_ceil};
+ghost use Rattle.std.specs.List.{range_with_len};
+ghost use Rattle.std.specs.Map.{lookup};
+ghost use Rattle.dc_shrink.specs.Listings.{without, last_of};
+ghost use Rattle.dc_shrink.specs.Orders.{four_rows, promoted_in};
+
+use lru::LruCache;
+use std::alloc::{AllocError, Global};
+use std::marker::Model;
+
+/// The four rows of a bucket. The listed ones stand as in the list, the others anywhere.
+#[derive(Drop)]
+pub(crate) struct Bucket {
+    first: u64,
+    second: u64,
+    third: u64,
+    last: u64,
+}
+
+impl Model for Bucket {
+    ghost use Rattle.std.specs.Prelude.{ℕ, List, [], ◌∷◌};
+
+    ghost Value = { List ℕ };
+
+    ghost view = { λ b. b.first ∷ b.second ∷ b.third ∷ b.last ∷ [] };
+}
+
+impl Bucket {
+    pub(crate) fn of(number: u64) -> Bucket
+        requires { number < 2 ^ 62 }
+        ensures { result ≡ four_rows number }
+    {
+        let first = 4 * number;
+        Bucket {
+            first,
+            second: first + 1,
+            third: first + 2,
+            last: first + 3,
+        }
+    }
+
+    /// Puts one of the rows first.
+    pub(crate) fn promote(&mut self, row: u64)
+        requires { length (filter (nat_eq row) self.old) ≡ 1 }
+        ensures { self.new ≡ row ∷ without row self.old }
+    {
+        if self.first != row {
+            if self.second != row {
+                if self.third != row {
+                    self.last = self.third;
+                }
+                self.third = self.second;
+            }
+            self.second = self.first;
+        }
+        self.first = row;
+    }
+
+    /// The last of the rows that are listed.
+    pub(crate) fn last_listed(&self, listed: &LruCache<u64, ()>) -> Option<u64>
+        ensures { result ≡ last_of (filter (λ row. is_some (lookup (nat_eq row) listed.now.entries)) self.now) }
+    {
+        if listed.contains(&self.last) {
+            Some(self.last)
+        } else if listed.contains(&self.third) {
+            Some(self.third)
+        } else if listed.contains(&self.second) {
+            Some(self.second)
+        } else if listed.contains(&self.first) {
+            Some(self.first)
+        } else {
+            None
+        }
+    }
+}
+
+/// Puts a row first in its bucket.
+pub(crate) fn promote(buckets: &mut [Bucket], row: u64)
+    requires within { row / 4 < length buckets.old }
+    requires once { length (filter (nat_eq row) (slice_index_or buckets.old (row / 4) [])) ≡ 1 }
+    ensures { buckets.new ≡ promoted_in buckets.old row }
+{
+    let bucket = &mut buckets[(row / 4) as usize];
+    bucket.promote(row);
+}
+
+/// The buckets of so many rows.
+pub(crate) fn buckets_of(alloc: Global, rows: u64) -> Result<Vec<Bucket>, AllocError>
+    ensures { IfOk result (λ buckets. buckets.items ≡ map four_rows (range_with_len 0 (div_ceil rows 4))) }
+{
+    (0..rows.div_ceil(4)).map(Bucket::of).collect(alloc)
+}

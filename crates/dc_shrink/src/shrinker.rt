@@ -1,0 +1,169 @@
+ghost use Rattle.std.specs.Prelude.{◌≡◌, ◌↔◌, ◌<◌, ◌≤◌, ◌+◌, ◌-◌, ◌^◌, ◌∷◌, [], Err, IfOk, IfErr, IfSome, OnOk, OnErr, filter, IsTrue, IsOk, not};
+ghost use Rattle.std.specs.FinMap as map;
+ghost use Rattle.dc_shrink.specs.declared.shrinker.PinFault.TheVariants as fault;
+ghost use Rattle.dc_shrink.specs.Listings.{listing, with_pins, unpinned_once, dropped, is_in, is_used, pins_of, without, last_of, in_bucket, IsListing};
+
+use crate::bucket::{Bucket, buckets_of, promote};
+use dc_names::NoMemory;
+use lru::LruCache;
+use std::alloc::Global;
+use std::collections::HashMap;
+use std::marker::Model;
+use std::num::NonZeroUsize;
+
+/// The most pins that a row can have.
+const MOST_PINS: u64 = 1 << 62;
+
+/// Why a row gets no further pin.
+#[derive(Clone, Copy, Debug, PartialEq, Eq)]
+pub enum PinFault {
+    /// Memory was refused.
+    NoMemory,
+    /// The row has 2^62 pins.
+    Most,
+}
+
+/// The rows in use: the unpinned ones by last use, and the pins of the others.
+///
+/// A row of a pinned dentry can't be emptied. Rows count from 0, four to a bucket.
+#[derive(Drop)]
+pub struct Shrinker {
+    listed: LruCache<u64, ()>,
+    pins: HashMap<u64, u64>,
+    buckets: Vec<Bucket>,
+}
+
+impl Model for Shrinker {
+    ghost use Rattle.std.specs.Map.{keys_of};
+    ghost use Rattle.std.specs.FinMap as map;
+    ghost use Rattle.dc_shrink.specs.Listings.{Listing, listing, listing_code};
+    ghost use Rattle.dc_shrink.specs.Orders.{IsKept};
+
+    ghost Value = { Listing };
+
+    ghost coded = { listing_code };
+
+    ghost view = { λ s. listing s.listed.cap (keys_of s.listed.entries) (map.from_entries s.pins.entries) };
+
+    ghost invariant = { λ s. IsKept (listing s.listed.cap (keys_of s.listed.entries) (map.from_entries s.pins.entries)) s.buckets.items };
+}
+
+impl Shrinker {
+    /// Nothing is in use. The rows count from 0 to below `rows`, at least one.
+    pub fn new(alloc: Global, rows: u64) -> Result<Shrinker, NoMemory>
+        requires { 0 < rows }
+        ensures { IfOk result (λ s. s ≡ listing rows [] map.empty) }
+    {
+        let buckets = buckets_of(alloc, rows)?;
+        let most = NonZeroUsize::new(rows as usize).unwrap();
+        Ok(Shrinker {
+            listed: LruCache::new(alloc, most)?,
+            pins: HashMap::new(alloc),
+            buckets,
+        })
+    }
+
+    /// Lists a row that is neither listed nor pinned, as the most recently used.
+    pub fn add(&mut self, row: u64) -> Result<(), NoMemory>
+        requires within { row < self.old.rows }
+        requires unused { IsTrue (not (is_used self.old row)) }
+        ensures first { OnOk result (self.new ≡ listing self.old.rows (row ∷ self.old.listed) self.old.pins) }
+        ensures err { OnErr result (self.new ≡ self.old) }
+    {
+        match self.listed.put(row, ()) {
+            Ok(_) => {}
+            Err(_) => return Err(NoMemory),
+        }
+        promote(&mut self.buckets, row);
+        Ok(())
+    }
+
+    /// Makes a listed row the most recently used.
+    pub fn touch(&mut self, row: u64)
+        requires { IsTrue (is_in self.old.listed row) }
+        ensures { self.new ≡ listing self.old.rows (row ∷ without row self.old.listed) self.old.pins }
+    {
+        self.listed.promote(&row);
+        promote(&mut self.buckets, row);
+    }
+
+    /// Gives a row that is listed or pinned one more pin. A pinned row isn't in the list.
+    pub fn pin(&mut self, row: u64) -> Result<(), PinFault>
+        requires { IsTrue (is_used self.old row) }
+        ensures pinned { OnOk result (self.new ≡ with_pins self.old row (pins_of self.old row + 1)) }
+        ensures most { (result ≡ Err fault.Most) ↔ (pins_of self.old row ≡ 2 ^ 62) }
+        ensures no_memory { result ≡ Err fault.NoMemory → pins_of self.old row ≡ 0 }
+        ensures err { OnErr result (self.new ≡ self.old) }
+    {
+        let pins = self.pins(row);
+        if pins == MOST_PINS {
+            return Err(PinFault::Most);
+        }
+        match self.set_pins(row, pins + 1) {
+            Ok(()) => Ok(()),
+            Err(NoMemory) => Err(PinFault::NoMemory),
+        }
+    }
+
+    /// Takes a pin from a pinned row. Without a pin left the row is listed, as the most recently used.
+    ///
+    /// `NoMemory` where it can't be listed: the pin is gone, and the row is no longer in use.
+    pub fn unpin(&mut self, row: u64) -> Result<(), NoMemory>
+        requires { 0 < pins_of self.old row }
+        ensures unpinned { OnOk result (self.new ≡ unpinned_once self.old row) }
+        ensures dropped { OnErr result ((pins_of self.old row ≡ 1) × (self.new ≡ dropped self.old row)) }
+    {
+        let pins = self.pins(row);
+        if pins > 1 {
+            return self.set_pins(row, pins - 1);
+        }
+        self.pins.remove(&row);
+        self.add(row)
+    }
+
+    /// Makes a row in use have so many pins. `NoMemory` comes only where it had none.
+    fn set_pins(&mut self, row: u64, pins: u64) -> Result<(), NoMemory>
+        requires used { IsTrue (is_used self.old row) }
+        requires limits { (1 ≤ pins) × (pins ≤ 2 ^ 62) }
+        ensures set { OnOk result (self.new ≡ with_pins self.old row pins) }
+        ensures err { OnErr result (self.new ≡ self.old) }
+        ensures first { OnErr result (pins_of self.old row ≡ 0) }
+    {
+        match self.pins.insert(row, pins) {
+            Ok(_) => {}
+            Err(_) => return Err(NoMemory),
+        }
+        self.listed.pop(&row);
+        Ok(())
+    }
+
+    /// How many pins a row has: 0 where it has none.
+    pub fn pins(&self, row: u64) -> u64
+        ensures pins { result ≡ pins_of self.now row }
+        ensures valid { IsListing self.now }
+    {
+        self.pins.get(&row).copied().unwrap_or(0)
+    }
+
+    /// Takes a row out of use, with all its pins.
+    pub fn remove(&mut self, row: u64)
+        ensures { self.new ≡ dropped self.old row }
+    {
+        self.listed.pop(&row);
+        self.pins.remove(&row);
+    }
+
+    /// The unpinned row in use that was least recently used.
+    pub fn victim(&self) -> Option<u64>
+        ensures { result ≡ last_of self.now.listed }
+    {
+        self.listed.peek_lru().map(|(row, _)| *row)
+    }
+
+    /// The same among the rows `4 * bucket` to `4 * bucket + 3`.
+    pub fn victim_of(&self, bucket: u64) -> Option<u64>
+        ensures { result ≡ last_of (filter (in_bucket bucket) self.now.listed) }
+    {
+        self.buckets.get(bucket as usize)?.last_listed(&self.listed)
+    }
+}
