@@ -1,8 +1,8 @@
 -- Each bucket keeps its rows in the order of the list.
-use Rattle.std.proofs.Common.{◌≡◌, ℕ, ◌+◌, ◌*◌, ◌/◌, ◌<◌, ◌≤◌, Bool, true, false, cond, not, ◌&&◌, ◌||◌, ◌⊎◌, List, [], ◌∷◌, length, map, slice_index_or, slice_set, refl, ap, sym, subst, ◌∙◌, inl, inr, arith, nat_eq}
+use Rattle.std.proofs.Common.{◌≡◌, ℕ, ◌/◌, ◌<◌, Bool, true, false, cond, not, ◌&&◌, ◌⊎◌, List, [], ◌∷◌, length, map, slice_index_or, refl, ap, sym, subst, ◌∙◌, inl, inr, arith, nat_eq}
 use Rattle.std.specs.List.{filter, range_with_len}
 use Rattle.std.specs.Int.{div_ceil}
-use Rattle.std.proofs.lemmas.Bool.{eqb-true, eq-eqb, ne_eqb, eqb-false, cases_Bool, cases_eq}
+use Rattle.std.proofs.lemmas.Bool.{eqb-true, eq-eqb, ne_eqb, cases_eq}
 use Rattle.std.proofs.lemmas.List.Elements.{filter_agree}
 use Rattle.std.proofs.lemmas.List.{get_or-set_same, get_or-set_other, length-set}
 use Rattle.std.proofs.lemmas.List.FromFn.{get_or-map-range_with_len, length-map-range_with_len}
@@ -58,7 +58,7 @@ module _ {n : ℕ} {listed : List ℕ} {buckets : List (List ℕ)} (all : AreOrd
   in_turn : (b : ℕ) → b < length buckets → (b ≡ row / 4) ⊎ (b ≡ row / 4 → ⊥) → IsOrder b (row ∷ without row listed) (slice_index_or (promoted_in buckets row) b [])
   in_turn b below (inl same) = let at : row / 4 < length buckets = omega arith in
       subst (λ (d : ℕ). IsOrder d (row ∷ without row listed) (slice_index_or (promoted_in buckets row) d [])) (sym same)
-        (subst (IsOrder (row / 4) (row ∷ without row listed)) (sym (get_or-set_same buckets (row / 4) _ [] at)) (order_first (all.each (row / 4) at) row (eq-eqb (row / 4) (row / 4) refl)))
+      (subst (IsOrder (row / 4) (row ∷ without row listed)) (sym (get_or-set_same buckets (row / 4) _ [] at)) (order_first (all.each (row / 4) at) row (eq-eqb (row / 4) (row / 4) refl)))
   in_turn b below (inr apart) =
       subst (IsOrder b (row ∷ without row listed)) (sym (get_or-set_other buckets (row / 4) b _ [] apart)) (order_elsewhere (all.each b below) row (ne_eqb (row / 4) b (λ e. apart (sym e))))
 

@@ -1,5 +1,5 @@
 -- What the parts of a shrinker are after the steps of its calls.
-use Rattle.std.proofs.Common.{◌≡◌, ℕ, ◌-◌, ◌*◌, ◌<◌, ◌≤◌, ◌^◌, ◌/◌, Bool, true, false, not, ◌||◌, List, [], ◌∷◌, length, Option, Some, None, is_some, IfSome, map, slice_index_or, refl, ap, sym, subst, ◌∙◌, arith, nat_eq}
+use Rattle.std.proofs.Common.{◌≡◌, ℕ, ◌*◌, ◌<◌, ◌≤◌, ◌^◌, ◌/◌, Bool, true, false, not, ◌||◌, List, [], ◌∷◌, length, Option, Some, None, is_some, IfSome, map, slice_index_or, refl, ap, sym, subst, ◌∙◌, arith, nat_eq}
 use Rattle.std.specs.List.{filter, range_with_len, IsDistinct}
 use Rattle.std.specs.Int.{div_ceil}
 use Rattle.std.proofs.lemmas.List.Elements.{filter_agree}
@@ -19,7 +19,7 @@ use Rattle.dc_shrink.specs.Listings.{Listing, listing, dropped, pins_of, is_in, 
 use Rattle.dc_shrink.specs.Orders.{promoted_in, IsKept, four_rows}
 use Rattle.dc_shrink.proofs.Lists.{without_absent}
 use Rattle.dc_shrink.proofs.Entries.{keys-promoted, keys-put, keys-remove_entry, get_removed}
-use Rattle.dc_shrink.proofs.Listed.{listing_first, listing_dropped, listing_pinned, room, used_listed, not_listed}
+use Rattle.dc_shrink.proofs.Listed.{listing_first, listing_dropped, listing_pinned, room, used_listed, not_listed, gone}
 use Rattle.dc_shrink.proofs.Orders.{orders_first, orders_dropped, orders_new}
 
 -- the buckets after one row went first
@@ -65,39 +65,32 @@ module _ {n : ℕ} {listed : List ℕ} {pins : map.FinMap nat_cmp ℕ} {buckets 
 
   pub unused : not (is_used (listing n listed pins) row) ≡ true → (is_in listed row ≡ false) × (map.get pins row ≡ None)
   unused h = let two = or_parts (is_in listed row) (is_some (map.get pins row)) (not-true (is_used (listing n listed pins) row) h) in (two.0, none (map.get pins row) two.1)
-   where
-    none : (o : Option ℕ) → is_some o ≡ false → o ≡ None
-    none None e = refl
-    none (Some v) e = cc
-
-  module _ (pinned : is_some (map.get pins row) ≡ true) where
-    apart : without row listed ≡ listed
-    apart = without_absent row listed (not_listed kept.0 row pinned)
-
-    pub kept_unpinned : IsKept (listing n listed (map.remove pins row)) buckets
-    kept_unpinned = subst (λ (l : List ℕ). IsKept (listing n l (map.remove pins row)) buckets) apart kept_dropped
-
-    pub now_unused : not (is_used (listing n listed (map.remove pins row)) row) ≡ true
-    now_unused = rw (not_listed kept.0 row pinned, get_removed pins row row, eq-eqb row row refl) refl
+    where
+      none : (o : Option ℕ) → is_some o ≡ false → o ≡ None
+      none None e = refl
+      none (Some v) e = cc
 
 -- nothing is in use
 pub kept_new : (n : ℕ) → IsKept (listing n [] map.empty) (map four_rows (range_with_len 0 (div_ceil n 4)))
 unfolding IsDistinct
-kept_new n = (record {
-  distinct = tt;
-  apart = λ r h. get-empty nat_cmp r;
-  pinned = λ r. rw (get-empty nat_cmp r) tt;
-  within = λ r h. let h' = rw (get-empty nat_cmp r) at h in cc;
-}, orders_new n)
+kept_new n = (
+  record {
+    distinct = tt;
+    apart = λ r h. get-empty nat_cmp r;
+    pinned = λ r. rw (get-empty nat_cmp r) tt;
+    within = λ r h. let h' = rw (get-empty nat_cmp r) at h in cc;
+  },
+  orders_new n,
+)
 
 none_in : (b : ℕ) (rows : List ℕ) → ((r : ℕ) → is_in rows r ≡ true → r < 4 * b) → filter (in_bucket b) rows ≡ []
 none_in b [] h = refl
 none_in b (x ∷ rows) h = let below : x < 4 * b = h x (rw (eq-eqb x x refl) refl) in
     rw (ne_eqb (x / 4) b (λ e. omega arith)) (none_in b rows (λ r t. h r (either r (nat_eq r x) t)))
- where
-  either : (r : ℕ) (a : Bool) → is_in rows r ≡ true → (a || is_in rows r) ≡ true
-  either r true t = refl
-  either r false t = t
+  where
+    either : (r : ℕ) (a : Bool) → is_in rows r ≡ true → (a || is_in rows r) ≡ true
+    either r true t = refl
+    either r false t = t
 
 -- a bucket beyond the last has no row in use
 pub none_beyond : {n : ℕ} {listed : List ℕ} {pins : map.FinMap nat_cmp ℕ} {buckets : List (List ℕ)} → IsKept (listing n listed pins) buckets → (b : ℕ) → length buckets ≤ b → filter (in_bucket b) listed ≡ []
@@ -122,3 +115,11 @@ pins_limit (Some v) h = h.1
 -- a pinned row isn't in the list
 pub dropped_pinned : (s : Listing) → IsListing s → (row : ℕ) → 0 < pins_of s row → dropped s row ≡ listing s.rows s.listed (map.remove s.pins row)
 dropped_pinned s is row h = ap (λ l. listing s.rows l (map.remove s.pins row)) (without_absent row s.listed (not_listed is row (pins_some (map.get s.pins row) h)))
+
+-- a row out of use
+pub dropped_unused : (s : Listing) (row : ℕ) → not (is_used (dropped s row) row) ≡ true
+dropped_unused s row = rw (gone row s.listed, get_removed s.pins row row, eq-eqb row row refl) refl
+
+-- where no row has a pin, a row that isn't listed is unused
+pub unlisted_unused : {s : Listing} {n : ℕ} {rows : List ℕ} → s ≡ listing n rows map.empty → (row : ℕ) → is_in rows row ≡ false → not (is_used s row) ≡ true
+unlisted_unused e row h = rw (e, h, get-empty nat_cmp row) refl

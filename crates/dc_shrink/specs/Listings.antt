@@ -1,5 +1,5 @@
 -- The unpinned rows by last use, and the pins of the others.
-use Rattle.std.specs.Prelude.{◌≡◌, ℕ, ◌+◌, ◌-◌, ◌==◌, if◌then◌else◌, ◌/◌, ◌<◌, ◌≤◌, ◌^◌, Bool, true, not, ◌||◌, List, [], ◌∷◌, length, slice_get, filter, is_some, nat_eq, Option, None, IfSome, refl}
+use Rattle.std.specs.Prelude.{◌≡◌, ℕ, ◌-◌, ◌==◌, if◌then◌else◌, ◌/◌, ◌<◌, ◌≤◌, ◌^◌, Bool, true, not, ◌||◌, List, ◌∷◌, length, slice_get, filter, is_some, nat_eq, Option, None, IfSome, refl}
 use Rattle.std.specs.List.{list_any, IsDistinct}
 use Rattle.std.specs.Option.{unwrap_or}
 use Rattle.std.specs.Ordering.{nat_cmp}
@@ -18,7 +18,7 @@ listing n rows pins = record { rows = n; listed = rows; pins = pins }
 abbrev pub listing_code : Coded Listing
 listing_code =
     code_by (ℕ × (List ℕ × map.FinMap nat_cmp ℕ)) (coded× coded_ℕ (coded× (coded_list coded_ℕ) (map.code coded_ℕ coded_ℕ)))
-        (λ s. (s.rows, (s.listed, s.pins))) (λ p. listing p.0 p.1.0 p.1.1) (λ _. refl)
+    (λ s. (s.rows, (s.listed, s.pins))) (λ p. listing p.0 p.1.0 p.1.1) (λ _. refl)
 
 abbrev pub is_in : List ℕ → ℕ → Bool
 is_in rows row = list_any (nat_eq row) rows

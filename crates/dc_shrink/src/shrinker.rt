@@ -117,7 +117,7 @@ impl Shrinker {
         if pins > 1 {
             return self.set_pins(row, pins - 1);
         }
-        self.pins.remove(&row);
+        self.remove(row);
         self.add(row)
     }
 
@@ -130,10 +130,9 @@ impl Shrinker {
         ensures first { OnErr result (pins_of self.old row ≡ 0) }
     {
         match self.pins.insert(row, pins) {
-            Ok(_) => {}
+            Ok(_) => self.listed.pop(&row),
             Err(_) => return Err(NoMemory),
-        }
-        self.listed.pop(&row);
+        };
         Ok(())
     }
 

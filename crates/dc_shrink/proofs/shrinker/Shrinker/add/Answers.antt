@@ -1,4 +1,4 @@
-use Rattle.std.proofs.Common.{◌≡◌, ap, sym, ◌∙◌, refl, subst, not, true, ◌<◌}
+use Rattle.std.proofs.Common.{◌≡◌, sym, refl, subst, not, true, ◌<◌}
 use Rattle.dc_shrink.specs.Listings.{Listing, is_used}
 use Rattle.dc_shrink.proofs.Steps.{buckets_promoted, after_put, unused, kept_added}
 use Rattle.dc_shrink.proofs.shrinker.Shrinker.add.Goals as goal

@@ -1,4 +1,4 @@
-use Rattle.std.proofs.Common.{◌≡◌, refl}
+use Rattle.std.proofs.Common.{refl}
 use Rattle.dc_shrink.proofs.Entries.{entries_removed}
 use Rattle.dc_shrink.proofs.Steps.{after_pop, kept_dropped}
 use Rattle.dc_shrink.proofs.shrinker.Shrinker.remove.Goals as goal

@@ -1,5 +1,5 @@
-use Rattle.std.proofs.Common.{◌≡◌, ap, true, sym, ◌∙◌, subst, refl}
-use Rattle.dc_shrink.specs.Listings.{listing, is_in}
+use Rattle.std.proofs.Common.{◌≡◌, true, sym, subst, refl}
+use Rattle.dc_shrink.specs.Listings.{is_in}
 use Rattle.dc_shrink.proofs.Steps.{buckets_promoted, after_promote, kept_touched}
 use Rattle.dc_shrink.proofs.shrinker.Shrinker.touch.Goals as goal
 

@@ -1,4 +1,4 @@
-use Rattle.std.proofs.Common.{◌≡◌, [], ap, sym, ◌∙◌, filter, length, is_some, nat_eq, slice_index_or, ◌<◌, ◌≤◌}
+use Rattle.std.proofs.Common.{[], ap, sym, ◌∙◌, filter, length, is_some, nat_eq, slice_index_or, ◌<◌, ◌≤◌}
 use Rattle.std.specs.Map.{lookup}
 use Rattle.std.proofs.lemmas.Bool.{ltb-true, ltb-false}
 use Rattle.dc_shrink.specs.Listings.{last_of, in_bucket}
