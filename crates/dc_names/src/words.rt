@@ -16,11 +16,7 @@ pub fn pack(bytes: &[u8]) -> u64
 pub fn unpack(word: u64) -> [u8; 8]
     ensures bytes { result ≡ bytes_in word }
     ensures back { word_of result ≡ word }
+    ensures undoes { (bytes : List ℕ) → length bytes ≤ 8 → AreBytes bytes → word ≡ word_of bytes → result ≡ padded bytes }
 {
     word.to_le_bytes()
 }
-
-/// What `unpack` gives of a word that `pack` made.
-pub fn unpack_undoes_pack()
-    ensures { (bytes : List ℕ) → length bytes ≤ 8 → AreBytes bytes → bytes_in (word_of bytes) ≡ padded bytes }
-{}
