@@ -3,3 +3,4 @@ pub mod Maps
 pub mod Nodes
 pub mod Entries
 pub mod Made
+pub mod Linked

@@ -44,7 +44,7 @@ module _ (entries : List (Vec ℕ × ℕ)) (nodes : List (ℕ × rust_node.Node)
   abbrev pub t : Tree
   t = tree_in entries nodes next
 
-  shown_as : (node : rust_node.Node) → node_at nodes n ≡ Some node → inode_of t n ≡ Some (node_shown node)
+  pub shown_as : (node : rust_node.Node) → node_at nodes n ≡ Some node → inode_of t n ≡ Some (node_shown node)
   shown_as node is = sym inode_shown_at ∙ ap (option_map node_shown) is
 
   up_lives : IsSound entries nodes next → (up : ℕ) (b : Bool) → cond b (Some 1) (holder_of t n) ≡ Some up → IsTrue (is_live_directory t up)

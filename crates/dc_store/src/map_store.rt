@@ -1,6 +1,7 @@
 ghost use Rattle.std.specs.Prelude.{◌≡◌, ◌<◌, ◌^◌, None, option_map, IfSome, IfOk, OnOk, OnErr, IsTrue};
-ghost use Rattle.dc_plain.specs.Effects.{with_new};
+ghost use Rattle.dc_plain.specs.Effects.{with_new, with_entry_for};
 ghost use Rattle.dc_plain.specs.Trees.{Tree, empty_tree, inode_of, target_of, is_live_directory};
+ghost use Rattle.dc_store.specs.Added.{CanBeNamed};
 ghost use Rattle.dc_store.specs.Maps.{tree_in, node_shown, IsNodeAt, CanKeep, IsSound};
 ghost use Rattle.dc_store.specs.Spots.{spot_at};
 
@@ -34,7 +35,7 @@ impl MapStore {
         ensures { IfOk result (λ store. store ≡ empty_tree) }
     {
         let mut nodes = BTreeMap::new(alloc);
-        nodes.insert(1, Node::Dir(1)).map_err(|_| NoMemory)?;
+        nodes.insert(1, Node::Dir(1))?;
         Ok(MapStore {
             entries: BTreeMap::new(alloc),
             nodes,
@@ -71,6 +72,19 @@ impl MapStore {
         };
         self.next += 1;
         Ok(number)
+    }
+
+    /// Adds an entry for what lives.
+    fn link(&mut self, alloc: Global, dir: u64, name: Name<'_>, number: u64) -> Result<(), NoMemory>
+        requires directory { IsTrue (is_live_directory self.old dir) }
+        requires free { target_of self.old (spot_at dir name.bytes.now) ≡ None }
+        requires can { CanBeNamed self.old number }
+        ensures ok { OnOk result (self.new ≡ with_entry_for self.old dir name.entry.bytes.now number) }
+        ensures err { OnErr result (self.new ≡ self.old) }
+    {
+        let key = Key::new(dir, name).as_slice().to_vec(alloc)?;
+        self.entries.insert(key, number)?;
+        Ok(())
     }
 }
 
@@ -116,6 +130,10 @@ impl Store for MapStore {
             New::Link(text) => {
                 let text = text.to_vec(alloc)?;
                 self.make(alloc, dir, name, Node::Link(text))
+            }
+            New::Same(number) => {
+                self.link(alloc, dir, name, number)?;
+                Ok(number)
             }
         }
     }

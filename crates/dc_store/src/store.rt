@@ -18,6 +18,8 @@ pub enum New<'a> {
     File,
     /// A new link with this text.
     Link(&'a [u8]),
+    /// The inode of this number, which is no directory.
+    Same(u64),
 }
 
 /// Inodes by their numbers and entries by their directories and names, as a plain tree.
