@@ -17,7 +17,7 @@ use Rattle.dc_plain.specs.Operations.{rename, is_beneath, replaceable, same_inod
 use Rattle.dc_plain.specs.IsWellFormed.{IsWellFormed, IsWithin}
 use Rattle.dc_plain.proofs.Made.{spots_total, free_spot}
 use Rattle.dc_plain.proofs.Takes.{lookup-take}
-use Rattle.dc_plain.proofs.Keys.{same_spot}
+use Rattle.dc_plain.proofs.SameFacts.{same_spot}
 use Rattle.dc_plain.proofs.Holders.{decided_not, other_test}
 use Rattle.dc_plain.proofs.Removed.{IsUnentered, left_of, without_entry-IsWellFormed, inode_without, unentered_node, unentered_directory, holder_left, not_holder}
 use Rattle.dc_plain.proofs.Moved.{IsReady, moved_to, moved-IsWellFormed}

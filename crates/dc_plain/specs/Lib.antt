@@ -18,3 +18,4 @@ pub mod Walks
 pub mod Plans
 pub mod LastParts
 pub mod KeysShown
+pub mod TouchedKeys
