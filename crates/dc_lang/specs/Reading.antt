@@ -9,19 +9,20 @@ use Rattle.dc_lang.specs.declared.line.LineFault.TheVariants.{Bad, NoMemory}
 use Rattle.dc_lang.specs.Commands.{Order, Said, verb_text, word_count}
 use Rattle.dc_lang.specs.Commands.Said.{Sync, Orders}
 
--- the letter behind a backslash
+-- what a letter behind a backslash stands for
 abbrev pub escaped : ℕ → Option ℕ
 escaped b = if b == 115 then Some 32 else if b == 110 then Some 10 else if b == 92 then Some 92 else None
 
--- a byte that stands for itself
+-- a byte that stands for itself: no space, newline or backslash does
 abbrev pub unescaped : ℕ → Option ℕ
 unescaped b = if b == 32 || b == 10 || b == 92 then None else Some b
 
+-- a first item before the others, where both were read
 abbrev pub with_first : {A : Type 0} → Option A → Option (List A) → Option (List A)
 with_first None rest = None
 with_first (Some first) rest = option_map (λ items. first ∷ items) rest
 
--- the bytes of a word that isn't empty
+-- the bytes that a text stands for, escape by escape
 abbrev pub bytes_in : List ℕ → Option (List ℕ)
 bytes_in [] = Some []
 bytes_in (b ∷ []) = with_first (unescaped b) (Some [])
@@ -29,34 +30,41 @@ bytes_in (b ∷ c ∷ text) =
     if b == 92 then with_first (escaped c) (bytes_in text)
     else with_first (unescaped b) (bytes_in (c ∷ text))
 
+-- a word is a text that isn't empty; \e alone is the empty word
 abbrev pub word_in : List ℕ → Option (List ℕ)
 word_in [] = None
 word_in (b ∷ text) = if bytes_eq (b ∷ text) (codes "\\e") then Some [] else bytes_in (b ∷ text)
 
+-- each text is a word
 abbrev pub words_in : List (List ℕ) → Option (List (List ℕ))
 words_in [] = Some []
 words_in (text ∷ texts) = with_first (word_in text) (words_in texts)
 
--- 0 to 15, with no zero in front
+-- a session: 0 to 15, with no zero in front
 abbrev pub session_in : List ℕ → Option ℕ
 session_in [] = None
 session_in (a ∷ []) = if nat_le 48 a && nat_le a 57 then Some (a - 48) else None
 session_in (a ∷ b ∷ []) = if a == 49 && (nat_le 48 b && nat_le b 53) then Some (b - 38) else None
 session_in (a ∷ b ∷ c ∷ text) = None
 
+-- all of them
 abbrev pub verbs : List Verb
 verbs = Look ∷ Llook ∷ Cd ∷ Mkdir ∷ []
 
+-- the verb with this text
 abbrev pub verb_in : List ℕ → Option Verb
 verb_in text = find (λ verb. bytes_eq (verb_text verb) text) verbs
 
+-- the words of a verb, if they are as many as it takes
 abbrev pub counted_words : Verb → List (List ℕ) → Option (List (List ℕ))
 counted_words verb texts = if length texts == word_count verb then words_in texts else None
 
+-- one reading after another, while they succeed
 infixl 10 ◌>>=◌
 abbrev pub ◌>>=◌ : {A B : Type 0} → Option A → (A → Option B) → Option B
 found >>= next = option_and_then next found
 
+-- a session, a verb and its words
 abbrev pub order_in : List (List ℕ) → Option Order
 order_in [] = None
 order_in (session_text ∷ []) = None
@@ -74,11 +82,12 @@ parts line = slice_split (λ b. b == 32) line
 unfoldable pub said_in : List ℕ → Option Said
 said_in line = if bytes_eq line (codes "sync") then Some Sync else option_map Orders (order_in (parts line))
 
--- what was read is what the definition reads, unless memory was refused
+-- a bad line reads as none
 abbrev pub Fails : {B : Type 0} → LineFault → Option B → Type 0
 Fails Bad read = read ≡ None
 Fails NoMemory read = Unit {0}
 
+-- what was read is what the definition reads, unless memory was refused
 abbrev pub Reads : {A B : Type 0} → (A → B) → Result A LineFault → Option B → Type 0
 Reads shown (Ok value) read = read ≡ Some (shown value)
 Reads shown (Err fault) read = Fails fault read

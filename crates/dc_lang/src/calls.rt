@@ -15,7 +15,7 @@ fn word_at(command: &Command, at: usize) -> &[u8]
     }
 }
 
-/// The call that a command makes from a starting directory.
+/// The call that a command makes from the directory with the number `base`.
 pub fn call(command: &Command, base: u64) -> Call<'_>
     ensures { request_of result ≡ request_from base (order_of command.now) }
 {

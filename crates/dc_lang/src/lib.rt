@@ -1,4 +1,7 @@
 //! The lines of commands and of replies.
+//!
+//! A line is words with one space between them. In a word `\s` is a space, `\n` a newline, `\\` a
+//! backslash, and `\e` alone the empty word; every other byte stands for itself.
 #![tactic(auto)]
 
 mod calls;

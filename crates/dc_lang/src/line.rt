@@ -1,8 +1,11 @@
 /// What a command asks for.
 #[derive(Clone, Copy, Debug, PartialEq, Eq)]
 pub enum Verb {
+    /// Where a path leads.
     Look,
+    /// The same without following a last link.
     Llook,
+    /// The same of a directory, which the session starts in from then on.
     Cd,
     Mkdir,
 }
@@ -30,5 +33,6 @@ pub enum Line {
 pub enum LineFault {
     /// It is no line of the grammar.
     Bad,
+    /// Memory was refused.
     NoMemory,
 }

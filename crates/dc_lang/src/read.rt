@@ -121,8 +121,8 @@ fn read(alloc: Global, line: &[u8]) -> Result<Line, LineFault>
     Ok(Line::Command(command_in(alloc, &parts)?))
 }
 
-/// Reads a line, which comes without its newline. `Bad` comes only where it is no line of the
-/// grammar, `NoMemory` only where memory was refused.
+/// Reads a line, which comes without its newline: `sync`, or a session from 0 to 15, a verb and its
+/// words. `Bad` comes only where it is no such line, `NoMemory` only where memory was refused.
 pub fn read_line(alloc: Global, line: &[u8]) -> Result<Line, LineFault>
     // What is read is what the line says.
     ensures ok { IfOk result (λ said. Says line.now (said_by said)) }
