@@ -1,0 +1,4 @@
+pub mod Stacks
+pub mod Rests
+pub mod Meets
+pub mod Lasts
