@@ -1,0 +1,3 @@
+-- The rows of the cache, and the words that spell them.
+pub mod Rows
+pub mod Spelling

@@ -1,0 +1,82 @@
+-- The words of a row: after the sequence count the head, the number, the value, and then the text.
+use Rattle.std.specs.Prelude.{ℕ, List, [], ◌∷◌, Bool, true, false, not, ◌&&◌, ◌≡◌, ◌==◌, ◌+◌, ◌-◌, ◌*◌, ◌/◌, ◌%◌, ◌<◌, ◌≤◌, nat_lt, length, take, drop, slice_index, if◌then◌else◌, Option, Some, None, IsTrue}
+use Rattle.dc_names.specs.Bytes.{is_name}
+use Rattle.dc_names.specs.Paths.{fault_of}
+use Rattle.dc_names.specs.Words.{AreBytes, word_of}
+use Rattle.dc_names.specs.declared.kind.Kind.{Kind}
+use Rattle.dc_names.specs.declared.kind.Kind.TheVariants.{Dir, File, Link}
+use Rattle.dc_plain.specs.Facts.{Place, Label, Fact}
+use Rattle.dc_plain.specs.Facts.Label.{Entry, Parent, Text}
+use Rattle.dc_plain.specs.Facts.Fact.{Leads, Reads}
+use Rattle.dc_row.specs.declared.TheConstants.{ROW_WORDS, ROW_TEXT}
+
+-- no place 0, a directory 1, a file 2, a link 3
+abbrev pub kind_code : Option Place → ℕ
+kind_code None = 0
+kind_code (Some place) = elim place.1 [ Dir ↦ 1 | File ↦ 2 | Link ↦ 3 ]
+
+abbrev pub target_number : Option Place → ℕ
+target_number None = 0
+target_number (Some place) = place.0
+
+abbrev pub label_bytes : Label → List ℕ
+label_bytes (Entry name) = name
+label_bytes Parent = 46 ∷ 46 ∷ []
+label_bytes Text = []
+
+-- what stands in the words of a row
+pub record Fields : Type 0 where
+  pub tag : ℕ
+  pub kind : ℕ
+  pub number : ℕ
+  pub value : ℕ
+  pub text : List ℕ
+
+-- tag 0 for no fact, 1 for an entry, 2 for a link's text
+abbrev pub fields_of : Option Fact → Fields
+fields_of None = record { tag = 0; kind = 0; number = 0; value = 0; text = [] }
+fields_of (Some (Leads d label target)) = record { tag = 1; kind = kind_code target; number = d; value = target_number target; text = label_bytes label }
+fields_of (Some (Reads n text)) = record { tag = 2; kind = 0; number = n; value = 0; text = text }
+
+-- the tag in the lowest byte, the length of the text in the next two, the kind in the next
+abbrev pub head_of : Fields → ℕ
+head_of f = f.tag + 256 * length f.text + 16777216 * f.kind
+
+-- eight bytes of a text, the first lowest, zeros past its end
+abbrev pub text_word : List ℕ → ℕ → ℕ
+text_word text k = word_of (take 8 (drop (8 * k) text))
+
+abbrev pub word_at : Fields → ℕ → ℕ
+word_at f i = if i == 1 then head_of f else if i == 2 then f.number else if i == 3 then f.value else text_word f.text (i - 4)
+
+abbrev pub has_room : List ℕ → Bool
+has_room text = not (nat_lt ROW_TEXT (length text))
+
+abbrev pub is_numbered : Option Place → Bool
+is_numbered None = true
+is_numbered (Some place) = not (place.0 == 0)
+
+abbrev pub is_path : List ℕ → Bool
+is_path text = elim (fault_of text) [ None ↦ true | Some fault ↦ false ]
+
+-- a dot-dot leads to a directory, if anywhere
+abbrev pub has_spelling : Option Fact → Bool
+has_spelling None = true
+has_spelling (Some (Leads d (Entry name) target)) = not (d == 0) && is_name name && has_room name && is_numbered target
+has_spelling (Some (Leads d Parent target)) = not (d == 0) && is_numbered target && not (nat_lt 1 (kind_code target))
+has_spelling (Some (Leads d Text target)) = false
+has_spelling (Some (Reads n text)) = not (n == 0) && is_path text && has_room text
+
+-- the words after the sequence count are those of the fields
+abbrev pub IsSpelled : List ℕ → Fields → Type 0
+IsSpelled words f = (i : ℕ) → 0 < i → i < ROW_WORDS → slice_index words i ≡ word_at f i
+
+-- the words spell the fact, or none; the sequence count isn't looked at
+pub record Spells (words : List ℕ) (fact : Option Fact) : Type 0 where
+  pub size : length words ≡ ROW_WORDS
+  pub allowed : IsTrue (has_spelling fact)
+  pub bytes : AreBytes (fields_of fact).text
+  pub spelled : IsSpelled words (fields_of fact)
+
+abbrev pub HasOneSpelling : Type 0
+HasOneSpelling = (fact : Option Fact) (v w : List ℕ) → Spells v fact → Spells w fact → drop 1 v ≡ drop 1 w

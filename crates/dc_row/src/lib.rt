@@ -1,0 +1,24 @@
+//! Rows of the cache as words of 64 bits. Nothing here takes memory.
+#![tactic(auto)]
+
+mod fields;
+mod laws;
+mod reading;
+mod row;
+#[cfg(test)]
+mod tests;
+mod text;
+mod writing;
+
+pub use fields::{kind, length, number, tag, value};
+pub use laws::{rows_have_one_spelling, words_spell_one_row};
+pub use reading::decode;
+pub use row::{Row, RowLabel};
+pub use text::RowText;
+pub use writing::encode;
+
+/// How many words a row has.
+pub const ROW_WORDS: usize = 8;
+
+/// The most bytes that the text of a row has.
+pub const ROW_TEXT: usize = 32;

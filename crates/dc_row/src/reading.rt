@@ -1,0 +1,87 @@
+ghost use Rattle.std.specs.Prelude.{◌≡◌, ℕ, ◌+◌, ◌/◌, ◌%◌, ◌<◌, ◌≤◌, List, Option, Some, length, slice_index, IfSome};
+ghost use Rattle.std.specs.Option.{option_map};
+ghost use Rattle.dc_names.specs.Words.{AreBytes, word_of};
+ghost use Rattle.dc_plain.specs.Facts.{Place, Label, Fact};
+ghost use Rattle.dc_plain.specs.Facts.Fact.{Leads};
+ghost use Rattle.dc_row.specs.Rows.{row_shown, label_shown};
+ghost use Rattle.dc_row.specs.Spelling.{Spells, fields_of};
+ghost use Rattle.dc_row.specs.declared.TheConstants.{ROW_WORDS, ROW_TEXT};
+
+use crate::fields::word;
+use crate::{
+    ROW_TEXT, ROW_WORDS, Row, RowLabel, RowText, encode, kind, length, number, tag, value,
+};
+use dc_names::{Kind, unpack};
+
+/// The row that the words spell, or `None` where they spell none. The sequence count isn't looked at.
+pub fn decode(words: &[u64]) -> Option<Row>
+    ensures spelled { IfSome result (λ row. Spells words.now (row_shown row)) }
+    ensures any { (fact : Option Fact) → Spells words.now fact → option_map row_shown result ≡ Some fact }
+{
+    if words.len() != ROW_WORDS {
+        return None;
+    }
+    let row = read(words)?;
+    let spelled = encode(&row)?;
+    if spelled[1..] == words[1..] {
+        Some(row)
+    } else {
+        None
+    }
+}
+
+/// The row that the words spell, or whatever their fields say where they spell none.
+fn read(words: &[u64]) -> Option<Row>
+    ensures { (fact : Option Fact) → Spells words.now fact → option_map row_shown result ≡ Some fact }
+{
+    match tag(words) {
+        0 => Some(Row::Empty),
+        1 => Some(Row::Entry(number(words), label_in(words)?, target_in(words))),
+        2 => Some(Row::Link(number(words), text_in(words)?)),
+        _ => None,
+    }
+}
+
+fn label_in(words: &[u64]) -> Option<RowLabel>
+    ensures { (d : ℕ) (label : Label) (target : Option Place) → Spells words.now (Some (Leads d label target)) → option_map label_shown result ≡ Some label }
+{
+    let text = text_in(words)?;
+    if text.bytes() == b"..".as_slice() {
+        Some(RowLabel::DotDot)
+    } else {
+        Some(RowLabel::Name(text))
+    }
+}
+
+fn target_in(words: &[u64]) -> Option<(u64, Kind)>
+    ensures { (d : ℕ) (label : Label) (target : Option Place) → Spells words.now (Some (Leads d label target)) → result ≡ target }
+{
+    match kind(words) {
+        1 => Some((value(words), Kind::Dir)),
+        2 => Some((value(words), Kind::File)),
+        3 => Some((value(words), Kind::Link)),
+        _ => None,
+    }
+}
+
+fn text_in(words: &[u64]) -> Option<RowText>
+    ensures { (fact : Option Fact) → Spells words.now fact → result ≡ Some (fields_of fact).text }
+{
+    let len = length(words) as usize;
+    if len > ROW_TEXT {
+        return None;
+    }
+    let mut room = [0; ROW_TEXT];
+    for i in 0..len {
+        room[i] = byte(words, i);
+    }
+    RowText::of(&room[..len])
+}
+
+/// A byte of the text.
+fn byte(words: &[u64], at: usize) -> u8
+    requires { at < ROW_TEXT }
+    ensures { (bytes : List ℕ) → length bytes ≤ 8 → AreBytes bytes → slice_index words.now (4 + at / 8) ≡ word_of bytes → result ≡ slice_index bytes (at % 8) }
+{
+    unpack(word(words, 4 + at / 8))[at % 8]
+}

@@ -1,0 +1,20 @@
+use crate::RowText;
+use dc_names::Kind;
+
+/// The entry of a directory that a row tells of.
+#[derive(Drop)]
+pub enum RowLabel {
+    Name(RowText),
+    DotDot,
+}
+
+/// What a row of the cache tells.
+#[derive(Drop)]
+pub enum Row {
+    /// Nothing.
+    Empty,
+    /// Where an entry of a directory leads, or that there is no such entry.
+    Entry(u64, RowLabel, Option<(u64, Kind)>),
+    /// The text of a symbolic link.
+    Link(u64, RowText),
+}

@@ -1,0 +1,130 @@
+use crate::{ROW_WORDS, Row, RowLabel, RowText, decode, encode, kind, length, number, tag, value};
+use dc_names::Kind;
+use std::process::Abort;
+
+/// Whether the row is spelled by these words, whatever the sequence count is.
+fn is_spelled_by(row: &Row, words: &[u64; ROW_WORDS]) -> bool {
+    match encode(row) {
+        Some(spelled) => spelled[1..] == words[1..],
+        None => false,
+    }
+}
+
+/// Whether the words spell nothing, or a row that is spelled by just them.
+fn is_nothing_or_spelled(words: &[u64; ROW_WORDS]) -> bool {
+    match decode(words) {
+        Some(row) => is_spelled_by(&row, words),
+        None => true,
+    }
+}
+
+fn named(dir: u64, name: &[u8], target: Option<(u64, Kind)>) -> Option<Row> {
+    Some(Row::Entry(dir, RowLabel::Name(RowText::of(name)?), target))
+}
+
+fn linked(number: u64, text: &[u8]) -> Option<Row> {
+    Some(Row::Link(number, RowText::of(text)?))
+}
+
+const EXAMPLES: [[u64; 8]; 5] = [
+    [0, 16777985, 1, 2, 7500661, 0, 0, 0],
+    [0, 257, 1, 0, 120, 0, 0, 0],
+    [0, 16777729, 2, 1, 11822, 0, 0, 0],
+    [0, 770, 4, 0, 6565678, 0, 0, 0],
+    [0, 0, 0, 0, 0, 0, 0, 0],
+];
+
+fn example(at: usize) -> Option<Row> {
+    match at {
+        0 => named(1, b"usr", Some((2, Kind::Dir))),
+        1 => named(1, b"x", None),
+        2 => Some(Row::Entry(2, RowLabel::DotDot, Some((1, Kind::Dir)))),
+        3 => linked(4, b"./d"),
+        _ => Some(Row::Empty),
+    }
+}
+
+#[test]
+fn spells_the_examples(rt: HostRuntime) {
+    for at in 0..5 {
+        let words = EXAMPLES[at];
+        let row = example(at);
+        assert!(rt; row.is_some());
+        if let Some(row) = row {
+            assert_eq!(rt; encode(&row), Some(words));
+        }
+        let read = decode(&words);
+        assert!(rt; read.is_some());
+        if let Some(read) = read {
+            assert!(rt; is_spelled_by(&read, &words));
+        }
+    }
+}
+
+#[test]
+fn reads_the_fields(rt: HostRuntime) {
+    let words = EXAMPLES[0];
+    assert_eq!(rt; (tag(&words), length(&words), kind(&words)), (1, 3, 1));
+    assert_eq!(rt; (number(&words), value(&words)), (1, 2));
+}
+
+#[test]
+fn refuses_what_has_no_spelling(rt: HostRuntime) {
+    let rows = [
+        named(0, b"x", None),
+        named(1, b"x", Some((0, Kind::File))),
+        named(1, b"..", None),
+        named(1, b"a/b", None),
+        Some(Row::Entry(2, RowLabel::DotDot, Some((1, Kind::File)))),
+        linked(0, b"a"),
+        linked(4, b""),
+        linked(4, b"a\0"),
+    ];
+    for row in rows.iter() {
+        assert!(rt; row.is_some());
+        if let Some(row) = row {
+            assert!(rt; encode(row).is_none());
+        }
+    }
+    assert!(rt; RowText::of(&[b'a'; 33]).is_none());
+}
+
+#[test]
+fn spells_nothing_with_a_byte_after_the_text(rt: HostRuntime) {
+    let mut words = EXAMPLES[1];
+    words[5] = 1;
+    assert!(rt; decode(&words).is_none());
+}
+
+#[test]
+fn spells_with_one_bit_turned_just_what_is_read(rt: HostRuntime) {
+    for words in EXAMPLES {
+        for at in 1..ROW_WORDS {
+            for bit in 0..64 {
+                let mut turned = words;
+                turned[at] ^= 1 << bit;
+                assert!(rt; is_nothing_or_spelled(&turned));
+            }
+        }
+    }
+}
+
+/// The next number of a fixed sequence.
+fn next(seed: u64) -> u64 {
+    seed.wrapping_mul(6364136223846793005)
+        .wrapping_add(1442695040888963407)
+}
+
+#[test]
+fn spells_at_random_just_what_is_read(rt: HostRuntime) {
+    let mut seed = 1;
+    for _ in 0..20000 {
+        let mut words = [0; ROW_WORDS];
+        for word in words.iter_mut() {
+            seed = next(seed);
+            *word = seed >> (seed >> 58);
+        }
+        words[1] = words[1] % 3 + 256 * (words[1] / 3 % 40) + 16777216 * (words[1] / 131 % 5);
+        assert!(rt; is_nothing_or_spelled(&words));
+    }
+}

@@ -1,0 +1,45 @@
+ghost use Rattle.std.specs.Prelude.{◌≡◌, ◌≤◌, ◌<◌, ℕ, List, length, take, IfSome, IfNone};
+ghost use Rattle.dc_row.specs.declared.TheConstants.{ROW_TEXT};
+
+use crate::ROW_TEXT;
+use std::marker::Model;
+
+/// The bytes of a name or of a link's text, as many as a row has room for.
+#[derive(Drop)]
+pub struct RowText {
+    room: [u8; ROW_TEXT],
+    len: usize,
+}
+
+impl Model for RowText {
+    ghost Value = { List ℕ };
+
+    ghost view = { λ t. take t.len t.room };
+
+    ghost invariant = { λ t. t.len ≤ ROW_TEXT };
+}
+
+impl RowText {
+    /// The bytes by value, or `None` where they are more than a row has room for.
+    pub fn of(bytes: &[u8]) -> Option<RowText>
+        ensures bytes { IfSome result (λ text. text ≡ bytes.now) }
+        ensures none { IfNone result (ROW_TEXT < length bytes.now) }
+    {
+        if bytes.len() > ROW_TEXT {
+            return None;
+        }
+        let mut room = [0; ROW_TEXT];
+        room[..bytes.len()].copy_from_slice(bytes);
+        Some(RowText {
+            room,
+            len: bytes.len(),
+        })
+    }
+
+    pub fn bytes(&self) -> &[u8]
+        ensures bytes { result.now ≡ self.now }
+        ensures room { length result.now ≤ ROW_TEXT }
+    {
+        &self.room[..self.len]
+    }
+}

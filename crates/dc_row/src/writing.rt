@@ -1,0 +1,114 @@
+ghost use Rattle.std.specs.Prelude.{◌≡◌, ℕ, ◌≤◌, ◌<◌, ◌↔◌, length, slice_index, IfSome, IsSome, IsTrue};
+ghost use Rattle.dc_names.specs.Bytes.{is_name};
+ghost use Rattle.dc_names.specs.Words.{AreBytes};
+ghost use Rattle.dc_row.specs.Rows.{row_shown};
+ghost use Rattle.dc_row.specs.Spelling.{Spells, has_spelling, is_numbered, is_path, kind_code, target_number, text_word, Fields, IsSpelled};
+ghost use Rattle.dc_row.specs.declared.TheConstants.{ROW_WORDS, ROW_TEXT};
+
+use crate::{ROW_WORDS, Row, RowLabel};
+use dc_names::{Kind, Name, pack, parse};
+
+/// The words of a row, with 0 for its sequence count, or `None` where nothing spells the row.
+///
+/// A name is one of `dc_names`, a link's text a path without a fault, a dot-dot leads to a directory
+/// if anywhere, and no number is 0.
+pub fn encode(row: &Row) -> Option<[u64; ROW_WORDS]>
+    ensures spelled { IfSome result (λ words. Spells words (row_shown row.now)) }
+    ensures count { IfSome result (λ words. slice_index words 0 ≡ 0) }
+    ensures none { IsSome result ↔ IsTrue (has_spelling (row_shown row.now)) }
+{
+    if !has_spelling(row) {
+        return None;
+    }
+    Some(match row {
+        Row::Empty => spell(0, 0, 0, 0, b""),
+        Row::Entry(dir, RowLabel::Name(name), target) => spell(
+            1,
+            kind_code(target),
+            *dir,
+            target_number(target),
+            name.bytes(),
+        ),
+        Row::Entry(dir, RowLabel::DotDot, target) => spell(
+            1,
+            kind_code(target),
+            *dir,
+            target_number(target),
+            b"..",
+        ),
+        Row::Link(number, text) => spell(2, 0, *number, 0, text.bytes()),
+    })
+}
+
+fn has_spelling(row: &Row) -> bool
+    ensures { result ≡ has_spelling (row_shown row.now) }
+{
+    match row {
+        Row::Empty => true,
+        Row::Entry(dir, RowLabel::Name(name), target) => {
+            *dir != 0 && Name::new(name.bytes()).is_some() && is_numbered(target)
+        }
+        Row::Entry(dir, RowLabel::DotDot, target) => {
+            *dir != 0 && is_numbered(target) && kind_code(target) <= 1
+        }
+        Row::Link(number, text) => *number != 0 && parse(text.bytes()).is_ok(),
+    }
+}
+
+fn is_numbered(target: &Option<(u64, Kind)>) -> bool
+    ensures { result ≡ is_numbered target.now }
+{
+    match target {
+        Some((number, _)) => *number != 0,
+        None => true,
+    }
+}
+
+fn kind_code(target: &Option<(u64, Kind)>) -> u64
+    ensures { result ≡ kind_code target.now }
+{
+    match target {
+        None => 0,
+        Some((_, Kind::Dir)) => 1,
+        Some((_, Kind::File)) => 2,
+        Some((_, Kind::Link)) => 3,
+    }
+}
+
+fn target_number(target: &Option<(u64, Kind)>) -> u64
+    ensures { result ≡ target_number target.now }
+{
+    match target {
+        Some((number, _)) => *number,
+        None => 0,
+    }
+}
+
+/// The words of a row with these fields.
+fn spell(tag: u64, kind: u64, number: u64, value: u64, text: &[u8]) -> [u64; ROW_WORDS]
+    requires tag { tag ≤ 2 }
+    requires kind { kind ≤ 3 }
+    requires room { length text.now ≤ ROW_TEXT }
+    ensures words { IsSpelled result (record { tag = tag; kind = kind; number = number; value = value; text = text.now }) }
+    ensures bytes { AreBytes text.now }
+    ensures count { slice_index result 0 ≡ 0 }
+{
+    let mut words = [0; ROW_WORDS];
+    words[1] = tag + 256 * text.len() as u64 + 16777216 * kind;
+    words[2] = number;
+    words[3] = value;
+    for i in 4..ROW_WORDS {
+        words[i] = text_word(text, i - 4);
+    }
+    words
+}
+
+/// Eight bytes of a text in one word, with zeros past its end.
+fn text_word(text: &[u8], at: usize) -> u64
+    requires { at < ROW_WORDS }
+    ensures { result ≡ text_word text.now at }
+{
+    let start = text.len().min(8 * at);
+    let end = text.len().min(8 * at + 8);
+    pack(&text[start..end])
+}
