@@ -4,3 +4,5 @@ pub mod Nodes
 pub mod Entries
 pub mod Made
 pub mod Linked
+pub mod HowMany
+pub mod Dropped

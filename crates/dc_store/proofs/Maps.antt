@@ -1,9 +1,11 @@
 -- An ordered map, seen as a list of entries under other keys: look-up, insert and remove.
-use Rattle.std.proofs.Common.{◌≡◌, List, [], ◌∷◌, true, false, cond, Some, None, map, option_map, refl, ap, sym, ◌∙◌}
+use Rattle.std.proofs.Common.{◌≡◌, List, [], ◌∷◌, true, false, cond, Some, None, map, option_map, refl, ap, sym, ◌∙◌, T, Bool, not, ◌&&◌, subst}
 use Rattle.std.specs.BTreeMap.{is_at, insert_entry}
 use Rattle.std.specs.Cmp.{IsTotalOrder, tied_itself}
 use Rattle.std.specs.FinMap.Entries.{put, by_order, find-put}
 use Rattle.std.specs.FinMap.Entries.{find as lookup_entry}
+use Rattle.std.specs.FinMap.Entries.{where_key, below_all, is_sorted}
+use Rattle.std.specs.Ordering.{is_lt}
 use Rattle.std.specs.List.{AllByRecursion}
 use Rattle.std.specs.Map.{lookup, remove_entry}
 use Rattle.std.specs.declared.cmp.Ordering.{Ordering}
@@ -87,3 +89,42 @@ module _ {K X : Type 0} {R : K → K → Ordering} (o : IsTotalOrder R) where
   pub lookup_inserted : (q k : K) (v : X) (es : List (K × X)) → lookup (is_at (R q)) (insert_entry R es k v) ≡ cond (eq_by_cmp R q k) (Some v) (lookup (is_at (R q)) es)
   lookup_inserted q k v es =
       lookup_find q (insert_entry R es k v) ∙ ap (lookup_entry R q) (insert_put k v es) ∙ find-put R o q k v es ∙ ap (cond (eq_by_cmp R q k) (Some v)) (sym (lookup_find q es))
+
+equal_of : (o : Ordering) → is_eq o ≡ true → o ≡ Equal
+equal_of Less e = cc
+equal_of Equal e = refl
+equal_of Greater e = cc
+
+less_not : (o : Ordering) → T (is_lt o) → is_eq o ≡ false
+less_not Less h = refl
+less_not Equal h = absurd h
+less_not Greater h = absurd h
+
+and_parts : (a b : Bool) → T (a && b) → T a × T b
+and_parts true b h = (tt, h)
+and_parts false b h = absurd h
+
+module _ {K L X Y : Type 0} (S : L → L → Ordering) (total : IsTotalOrder S) (key : K → L) (value : X → Y) where
+  -- keys above one that ties with q stay
+  none_taken : (q x : L) → S q x ≡ Equal → (fs : List (L × Y)) → T (below_all S x fs) → where_key S (λ y. not (eq_by_cmp S q y)) fs ≡ fs
+  none_taken q x tied [] below = refl
+  none_taken q x tied (f ∷ fs) below =
+      let parts = and_parts (is_lt (S x f.0)) (below_all S x fs) below in
+      let kept : eq_by_cmp S q f.0 ≡ false = ap is_eq (total.congr q x f.0 tied) ∙ less_not (S x f.0) parts.0 in
+      rw kept (ap (λ l. f ∷ l) (none_taken q x tied fs parts.1))
+
+  pub remove_shown : (compare : K → Ordering) (q : L) (es : List (K × X)) → Agree {X = X} S key value compare q es → T (is_sorted S (map (shown S key value) es))
+      → map (shown S key value) (remove_entry (is_at compare) es) ≡ where_key S (λ y. not (eq_by_cmp S q y)) (map (shown S key value) es)
+  remove_shown compare q [] agree sorted = refl
+  remove_shown compare q (e ∷ es) agree sorted =
+      let parts = and_parts (below_all S (key e.0) (map (shown S key value) es)) (is_sorted S (map (shown S key value) es)) sorted in
+      ap (λ o. map (shown S key value) (cond (is_eq o) es (e ∷ remove_entry (is_at compare) es))) agree.0
+      ∙ elim (eq_by_cmp S q (key e.0)) as (λ b. eq_by_cmp S q (key e.0) ≡ b → map (shown S key value) (cond b es (e ∷ remove_entry (is_at compare) es))
+      ≡ cond (not b) (shown S key value e ∷ where_key S (λ y. not (eq_by_cmp S q y)) (map (shown S key value) es)) (where_key S (λ y. not (eq_by_cmp S q y)) (map (shown S key value) es))) [
+        | true ↦ λ is. sym (none_taken q (key e.0) (equal_of (S q (key e.0)) is) (map (shown S key value) es) parts.0)
+        | false ↦ λ is. ap (λ l. shown S key value e ∷ l) (remove_shown compare q es agree.1 parts.1)
+      ] refl
+
+pub keys_remove : {K X : Type 0} (P : K → Type 0) (test : K → Bool) (es : List (K × X)) → AllByRecursion (λ e. P e.0) es → AllByRecursion (λ e. P e.0) (remove_entry test es)
+keys_remove P test [] all = tt
+keys_remove P test (e ∷ es) all = elim (test e.0) as (λ b. AllByRecursion (λ x. P x.0) (cond b es (e ∷ remove_entry test es))) [ true ↦ all.1 | false ↦ (all.0, keys_remove P test es all.1) ]

@@ -2,4 +2,5 @@
 pub mod Spots
 pub mod Added
 pub mod Keys
+pub mod Dropped
 pub mod Maps

@@ -5,6 +5,7 @@ ghost use Rattle.dc_store.specs.Added.{CanBeNamed};
 ghost use Rattle.dc_store.specs.Maps.{tree_in, node_shown, IsNodeAt, CanKeep, IsSound};
 ghost use Rattle.dc_store.specs.Spots.{spot_at};
 
+use crate::counts::drop_unnamed;
 use crate::key::Key;
 use crate::node::Node;
 use crate::store::{New, Store};
@@ -136,5 +137,13 @@ impl Store for MapStore {
                 Ok(number)
             }
         }
+    }
+
+    fn drop_entry(&mut self, dir: u64, name: Name<'_>) {
+        let key = Key::new(dir, name);
+        let Some(number) = self.entries.remove(key.as_slice()) else {
+            return;
+        };
+        drop_unnamed(&mut self.nodes, &self.entries, number);
     }
 }

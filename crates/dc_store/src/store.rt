@@ -1,9 +1,11 @@
 ghost use Rattle.std.specs.Prelude.{◌≡◌, ℕ, None, length, option_map, IsTrue, IfSome, IfOk, OnOk, OnErr};
 ghost use Rattle.dc_names.specs.Paths.{fault_of};
+ghost use Rattle.dc_plain.specs.Effects.{without_entry};
 ghost use Rattle.dc_plain.specs.Facts.Label.{Parent};
 ghost use Rattle.dc_plain.specs.IsWellFormed.{IsWellFormed};
 ghost use Rattle.dc_plain.specs.Trees.{Tree, target_of, inode_of, entry_of, text_of, kind_of, is_live_directory};
 ghost use Rattle.dc_store.specs.Added.{CanAdd, tree_added, number_added};
+ghost use Rattle.dc_store.specs.Dropped.{CanDrop};
 ghost use Rattle.dc_store.specs.Spots.{spot_at};
 
 use dc_names::{Kind, Name, NoMemory};
@@ -70,4 +72,10 @@ pub trait Store {
         ensures ok { OnOk result (tree self.new ≡ tree_added (tree self.old) dir name.entry.bytes.now new.entry) }
         ensures number { IfOk result (λ number. number ≡ number_added (tree self.old) new.entry) }
         ensures err { OnErr result (tree self.new ≡ tree self.old) };
+
+    /// Drops an entry, and what it leads to where that was its last name. It takes no memory.
+    fn drop_entry(&mut self, dir: u64, name: Name<'_>)
+        requires { CanDrop (tree self.old) dir name.bytes.now }
+        ensures { IfSome (target_of (tree self.old) (spot_at dir name.entry.bytes.now))
+            (λ n. tree self.new ≡ without_entry (tree self.old) dir name.entry.bytes.now n) };
 }

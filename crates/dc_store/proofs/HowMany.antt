@@ -1,0 +1,12 @@
+-- How many items pass a test.
+use Rattle.std.proofs.Common.{◌≡◌, ℕ, ◌+◌, List, [], ◌∷◌, Bool, cond, map, refl, ap, sym}
+use Rattle.std.specs.Prelude.{count_by}
+use Rattle.std.proofs.lemmas.List.Recursion.{is_sum_by}
+use Rattle.dc_plain.specs.Trees.{how_many}
+
+pub how_many-map : {X Y : Type 0} (p : Y → Bool) (f : X → Y) (xs : List X) → how_many p (map f xs) ≡ how_many (λ x. p (f x)) xs
+how_many-map p f [] = refl
+how_many-map p f (x ∷ xs) = ap (λ k. cond (p (f x)) 1 0 + k) (how_many-map p f xs)
+
+pub counted : {X : Type 0} (p : X → Bool) (xs : List X) → count_by p xs ≡ how_many p xs
+counted p xs = sym (is_sum_by (how_many p) (λ x. cond (p x) 1 0) refl (λ x xs. refl) xs)
