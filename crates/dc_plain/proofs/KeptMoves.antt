@@ -19,20 +19,12 @@ use Rattle.dc_plain.proofs.Made.{spots_total, free_spot}
 use Rattle.dc_plain.proofs.Takes.{lookup-take}
 use Rattle.dc_plain.proofs.SameFacts.{same_spot}
 use Rattle.dc_plain.proofs.Holders.{decided_not, other_test}
-use Rattle.dc_plain.proofs.Removed.{IsUnentered, left_of, without_entry-IsWellFormed, inode_without, unentered_node, unentered_directory, holder_left, not_holder}
+use Rattle.dc_plain.proofs.Removed.{either_left, inode-left, IsUnentered, left_of, without_entry-IsWellFormed, inode_without, unentered_node, unentered_directory, holder_left, not_holder}
 use Rattle.dc_plain.proofs.Moved.{IsReady, moved_to, moved-IsWellFormed}
 use Rattle.dc_plain.proofs.Chains.{after, after_test, named_each, is_there, left_with}
 use Rattle.dc_plain.proofs.Spotted.{place_live, path_named}
 use Rattle.dc_plain.proofs.Kept.{IsKept}
 use Rattle.dc_plain.proofs.KeptNames.{Leads, entry-leads, without_entry-IsWithin}
-
--- both ways in which an entry may go
-either_left : (P : Tree → Type 0) (t : Tree) (d : ℕ) (name : List ℕ) (n : ℕ) → P (left_of t d name (without_number n t.inodes)) → P (left_of t d name t.inodes) → P (without_entry t d name n)
-either_left P t d name n without with_all =
-    elim (names_of (left_of t d name t.inodes) n == 0) as (λ b. P (if b then left_of t d name (without_number n t.inodes) else left_of t d name t.inodes)) [ true ↦ without | false ↦ with_all ]
-
-inode-left : (t : Tree) (d : ℕ) (name : List ℕ) (n q : ℕ) → n ≢ q → inode_of (without_entry t d name n) q ≡ inode_of t q
-inode-left t d name n q other = either_left (λ u. inode_of u q ≡ inode_of t q) t d name n (inode_without n q t.inodes ∙ rw (other_test n q other) refl) refl
 
 same_held : (o : Option ℕ) (f g : ℕ → Bool) → ((k : ℕ) → o ≡ Some k → f k ≡ g k) → if_held o f ≡ if_held o g
 same_held None f g so = refl

@@ -30,7 +30,7 @@ counted_none p (x ∷ xs) e =
     ] e
 
 -- a directory that isn't the root is held
-held_by : (t : Tree) (n : ℕ) → names_of t n ≡ 1 → (up : ℕ) × (holder_of t n ≡ Some up)
+pub held_by : (t : Tree) (n : ℕ) → names_of t n ≡ 1 → (up : ℕ) × (holder_of t n ≡ Some up)
 held_by t n one = by_entry (find (λ e. e.1 == n) t.entries) refl
   where
     by_entry : (o : Option (Spot × ℕ)) → find (λ e. e.1 == n) t.entries ≡ o → (up : ℕ) × (option_map (λ (e : Spot × ℕ). e.0.directory) o ≡ Some up)

@@ -122,7 +122,7 @@ inode_without n q inodes =
     find-where_key nat_cmp (λ other. not (n == other)) q (λ x tied. ap (λ (k : ℕ). not (n == k)) (sym (same_number q x (ap is_eq tied)))) inodes
     ∙ elim (n == q) as (λ b. cond (not b) (lookup nat_cmp q inodes) None ≡ cond b None (lookup nat_cmp q inodes)) [ true ↦ refl | false ↦ refl ]
 
-still_there : (b : Bool) (o : Option Inode) (i : Inode) → cond b None o ≡ Some i → o ≡ Some i
+pub still_there : (b : Bool) (o : Option Inode) (i : Inode) → cond b None o ≡ Some i → o ≡ Some i
 still_there true o i e = cc
 still_there false o i e = e
 
@@ -149,6 +149,14 @@ without_entry-IsWellFormed t d name n well leads unentered =
           ap is_some there)
           _ (All-both _ _ _ nothing (leads_on t (record { directory = d; name = name }) well)))
     ] refl
+
+-- both ways in which an entry may go
+pub either_left : (P : Tree → Type 0) (t : Tree) (d : ℕ) (name : List ℕ) (n : ℕ) → P (left_of t d name (without_number n t.inodes)) → P (left_of t d name t.inodes) → P (without_entry t d name n)
+either_left P t d name n without with_all =
+    elim (names_of (left_of t d name t.inodes) n == 0) as (λ b. P (if b then left_of t d name (without_number n t.inodes) else left_of t d name t.inodes)) [ true ↦ without | false ↦ with_all ]
+
+pub inode-left : (t : Tree) (d : ℕ) (name : List ℕ) (n q : ℕ) → n ≢ q → inode_of (without_entry t d name n) q ≡ inode_of t q
+inode-left t d name n q other = either_left (λ u. inode_of u q ≡ inode_of t q) t d name n (inode_without n q t.inodes ∙ rw (other_test n q other) refl) refl
 
 -- nothing stands in what is no directory
 pub unentered_node : (t : Tree) (n : ℕ) → IsWellFormed t → is_live_directory t n ≡ false → IsUnentered t n
