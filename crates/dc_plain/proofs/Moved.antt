@@ -51,7 +51,7 @@ pub record IsReady (t : Tree) (from : ℕ) (old : List ℕ) (to : ℕ) (new : Li
   pub apart : IsTrue (is_live_directory t n) → (steps : ℕ) × (is_beneath steps t to n ≡ false)
 
 module _ (t : Tree) (from : ℕ) (old : List ℕ) (to : ℕ) (new : List ℕ) (n : ℕ) (ready : IsReady t from old to new n) where
-  still_free : target_of (without_entry_alone t from old) (record { directory = to; name = new }) ≡ None
+  pub still_free : target_of (without_entry_alone t from old) (record { directory = to; name = new }) ≡ None
   still_free =
       lookup-take spot_cmp spots_total (record { directory = from; name = old }) (record { directory = to; name = new }) t.entries
       ∙ rw (ready.free) (elim (not (eq_by_cmp spot_cmp (record { directory = from; name = old }) (record { directory = to; name = new }))) as (λ b. cond {A = Option ℕ} b None None ≡ None) [ true ↦ refl | false ↦ refl ])
@@ -77,7 +77,7 @@ module _ (t : Tree) (from : ℕ) (old : List ℕ) (to : ℕ) (new : List ℕ) (n
   holder_moved one = ap (option_map (λ e. e.0.directory))
       (find-put_yes spot_cmp (record { directory = to; name = new }) n (λ e. e.1 == n) (without_spot (record { directory = from; name = old }) t.entries) still_free (same_test n) (none_left one))
 
-  single : (q : ℕ) → IsTrue (is_live_directory t q) → q ≢ 1 → names_of t q ≡ 1
+  pub single : (q : ℕ) → IsTrue (is_live_directory t q) → q ≢ 1 → names_of t q ≡ 1
   single q live other = let well = ready.well in let lives = well.inodes q Directory (is_directory_in (inode_of t q) live) in lives.reached.0 other
 
   -- from where the new name stands one comes to the root, since one doesn't meet n
