@@ -16,7 +16,7 @@ use Rattle.dc_plain.proofs.Holders.{holder-live, other_test, same_test, decided,
 use Rattle.dc_plain.proofs.Moved.{IsReady, moved_to, holder_else, holder_moved, still_free, single}
 use Rattle.dc_plain.proofs.SameFacts.{IsAmong, KeepsOthers, decide, same_spot, same_key, entry-same, parent-same, no_parent, parent-fact, entry-fact, no_entry, tied}
 
-some_counted : (spot : Spot) (n : ℕ) (es : List (Spot × ℕ)) → lookup spot_cmp spot es ≡ Some n → 1 ≤ how_many (λ (e : Spot × ℕ). e.1 == n) es
+pub some_counted : (spot : Spot) (n : ℕ) (es : List (Spot × ℕ)) → lookup spot_cmp spot es ≡ Some n → 1 ≤ how_many (λ (e : Spot × ℕ). e.1 == n) es
 some_counted spot n [] found = cc
 some_counted spot n (x ∷ xs) found =
     elim (eq_by_cmp spot_cmp spot x.0) as (λ b. cond b (Some x.1) (lookup spot_cmp spot xs) ≡ Some n → 1 ≤ how_many (λ (e : Spot × ℕ). e.1 == n) (x ∷ xs)) [

@@ -141,6 +141,7 @@ module _ (t : Tree) (d : ℕ) (name : List ℕ) (n : ℕ) (inode : Inode) (well 
       by_inode Regular is one never = absurd never
       by_inode (Symbolic text) is one (inl at) = texts-differ t u key n (Some text) None at (ap (option_and_then text_in) (lives ∙ ap Some is)) (ap (option_and_then text_in) (same_inode ∙ inode_gone one)) (λ e. cc)
       by_inode (Symbolic text) is one (inr never) = absurd never
+
       by_count : (b : Bool) → (names_of t n == 1) ≡ b → IsAmong key (if b then keys_at n (inode_of t n) else []) → fact_at u key ≢ fact_at t key
       by_count true one own = by_inode inode refl one (subst (λ o. IsAmong key (keys_at n o)) lives own)
       by_count false more never = absurd never
