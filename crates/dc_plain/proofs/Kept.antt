@@ -1,5 +1,5 @@
 -- Calls that change nothing and calls that make an inode keep a tree well formed.
-use Rattle.std.proofs.Common.{◌≡◌, ℕ, ◌≤◌, ◌<◌, ◌^◌, ◌==◌, ◌&&◌, ◌||◌, not, List, Bool, false, Result, Ok, Err, is_some, is_ok, IsTrue, refl, arith, length}
+use Rattle.std.proofs.Common.{subst, ◌≡◌, ℕ, ◌≤◌, ◌<◌, ◌^◌, ◌==◌, ◌&&◌, ◌||◌, not, List, Bool, false, Result, Ok, Err, is_some, is_ok, IsTrue, refl, arith, length}
 use Rattle.std.specs.Prelude.{nat_le}
 use Rattle.std.proofs.lemmas.Bool.Decides.{nat_tests}
 use Rattle.dc_plain.specs.Facts.Label.{Entry}
@@ -13,6 +13,7 @@ use Rattle.dc_plain.specs.Effects.{with_new}
 use Rattle.dc_plain.specs.Operations.{make, symlink, left_alone}
 use Rattle.dc_plain.specs.IsWellFormed.{IsWellFormed, IsWithin}
 use Rattle.dc_plain.proofs.Made.{with_new-IsWellFormed, IsGood, free_spot, length_new}
+use Rattle.dc_plain.proofs.Found.{makes}
 use Rattle.dc_plain.proofs.Chains.{after, after_test, named, left_with}
 use Rattle.dc_plain.proofs.Spotted.{spot_live, spot_named, path_is}
 
@@ -20,31 +21,16 @@ use Rattle.dc_plain.proofs.Spotted.{spot_live, spot_named, path_is}
 abbrev pub IsKept : ℕ → Tree → Tree → Type 0
 IsKept limit t left = IsWellFormed left × (IsWithin limit t → IsWithin limit left)
 
-low_next : (limit inodes next : ℕ) → next ≤ 2 ^ 63 → (nat_le limit inodes || next == 2 ^ 63) ≡ false → next < 2 ^ 63
-low_next limit inodes next most e = grind (arith, nat_tests)
-
-has_room : (limit inodes next : ℕ) → (nat_le limit inodes || next == 2 ^ 63) ≡ false → inodes < limit
-has_room limit inodes next e = grind (arith, nat_tests)
-
 good_text : (text : List ℕ) (path : Path) → path_or_fault text ≡ Ok path → IsTrue (is_ok (path_of text))
 good_text text path e = rw (path_is (path_of text) path e) refl
 
 pub make-keeps : (limit : ℕ) (t : Tree) (base : ℕ) (text : List ℕ) (may : Bool) (inode : Inode) (done : Answer × Tree)
     → IsWellFormed t → IsGood inode → make limit t base text may inode ≡ Ok done → IsKept limit t done.1
 make-keeps limit t base text may inode done well good e =
-    after (spot_on t base text) _ done e (λ at at_is e.
-    after (name_or 17 at.last) _ done e (λ name name_is e.
-    after_test (is_some (entry_of t at.directory (Entry name))) 17 _ done e (λ free e.
-    after_test (at.slash && not may) 2 _ done e (λ ends e.
-    after_test (is_full limit t) 28 _ done e (λ room e.
-    let live : IsTrue (is_live_directory t at.directory) = spot_live t base text at well.root_is at_is in
-    let is_name_ = spot_named t base text at name at_is (named 17 at.last name name_is) in
-    let empty_spot = free_spot t at.directory name well free in
-    let made : IsKept limit t (with_new t at.directory name inode) = (
-      with_new-IsWellFormed t at.directory name inode well live empty_spot good is_name_ (low_next limit (length t.inodes) t.next well.next_is room),
-      let one_more = length_new t at.directory name inode well live empty_spot in let below = has_room limit (length t.inodes) t.next room in omega arith,
-    ) in
-    left_with (IsKept limit t) (Done t.next) (with_new t at.directory name inode) done e made)))))
+    let m = makes limit t base text may inode done well e in
+    let one_more = length_new t m.d m.name inode well m.held m.free in
+    let room = m.room in
+    subst (IsKept limit t) m.left (with_new-IsWellFormed t m.d m.name inode well m.held m.free good m.named m.low, λ within. omega arith)
 
 pub symlink-keeps : (limit : ℕ) (t : Tree) (base : ℕ) (text path : List ℕ) (done : Answer × Tree) → IsWellFormed t → symlink limit t base text path ≡ Ok done → IsKept limit t done.1
 symlink-keeps limit t base text path done well e =

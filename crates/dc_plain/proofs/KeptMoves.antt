@@ -1,167 +1,23 @@
 -- A rename keeps a tree well formed.
-use Rattle.std.proofs.Common.{◌≡◌, ◌≢◌, ◌⊎◌, inl, inr, ℕ, zero, suc, ◌==◌, ◌&&◌, ◌||◌, not, List, [], ◌∷◌, Bool, true, false, cond, Option, Some, None, Ok, Err, is_some, IsTrue, refl, ap, sym, ◌∙◌, length, if◌then◌else◌}
-use Rattle.std.specs.List.{AllByRecursion}
-use Rattle.std.specs.Ordering.{eq_by_cmp, is_eq}
-use Rattle.std.specs.Cmp.{tied_itself}
-use Rattle.std.specs.FinMap.Entries.{find as lookup}
-use Rattle.dc_names.specs.Bytes.{is_empty, is_name}
+use Rattle.std.proofs.Common.{◌≡◌, ◌⊎◌, inl, inr, ℕ, List, Option, Some, None, Ok, subst}
 use Rattle.dc_plain.specs.Facts.{Place}
-use Rattle.dc_plain.specs.Facts.Label.{Entry}
-use Rattle.dc_plain.specs.Resolution.{is_directory}
-use Rattle.dc_plain.specs.Trees.{Tree, Spot, spot_cmp, inode_of, target_of, entry_of, holder_of, names_of, names_in, if_held, is_live_directory, is_directory_inode, without_number, without_spot}
+use Rattle.dc_plain.specs.Trees.{Tree}
 use Rattle.dc_plain.specs.Requests.{Answer}
-use Rattle.dc_plain.specs.Requests.Answer.{Nothing}
-use Rattle.dc_plain.specs.Refusals.{◌>>=◌, refuse, place_on, path_or_fault, name_or_each, present}
-use Rattle.dc_plain.specs.Effects.{with_entry_for, without_entry, without_entry_alone, without_there}
-use Rattle.dc_plain.specs.Operations.{rename, is_beneath, replaceable, same_inode}
+use Rattle.dc_plain.specs.Effects.{without_there}
+use Rattle.dc_plain.specs.Operations.{rename}
 use Rattle.dc_plain.specs.IsWellFormed.{IsWellFormed, IsWithin}
-use Rattle.dc_plain.proofs.Made.{spots_total, free_spot}
-use Rattle.dc_plain.proofs.Takes.{lookup-take}
-use Rattle.dc_plain.proofs.SameFacts.{same_spot}
-use Rattle.dc_plain.proofs.Holders.{decided_not, other_test}
-use Rattle.dc_plain.proofs.Removed.{either_left, inode-left, IsUnentered, left_of, without_entry-IsWellFormed, inode_without, unentered_node, unentered_directory, holder_left, not_holder}
-use Rattle.dc_plain.proofs.Moved.{IsReady, moved_to, moved-IsWellFormed}
-use Rattle.dc_plain.proofs.Chains.{after, after_test, named_each, is_there, left_with}
-use Rattle.dc_plain.proofs.Spotted.{place_live, path_named}
+use Rattle.dc_plain.proofs.Moved.{moved-IsWellFormed}
 use Rattle.dc_plain.proofs.Kept.{IsKept}
-use Rattle.dc_plain.proofs.KeptNames.{Leads, entry-leads, without_entry-IsWithin}
-
-same_held : (o : Option ℕ) (f g : ℕ → Bool) → ((k : ℕ) → o ≡ Some k → f k ≡ g k) → if_held o f ≡ if_held o g
-same_held None f g so = refl
-same_held (Some k) f g so = so k refl
-
--- what is met on the way up stays the same where the holders do
-is_beneath-kept : (P : ℕ → Type 0) (t u : Tree) → ((d up : ℕ) → P d → holder_of t d ≡ Some up → P up) → ((d : ℕ) → P d → holder_of u d ≡ holder_of t d)
-    → (steps d n : ℕ) → P d → is_beneath steps u d n ≡ is_beneath steps t d n
-is_beneath-kept P t u closed same zero d n here = refl
-is_beneath-kept P t u closed same (suc steps) d n here =
-    ap (λ b. d == n || not (d == 1) && b) (ap (λ o. if_held o (λ up. is_beneath steps u up n)) (same d here)
-    ∙ same_held (holder_of t d) (λ up. is_beneath steps u up n) (λ up. is_beneath steps t up n) (λ up e. is_beneath-kept P t u closed same steps up n (closed d up here e)))
-
--- where a name stands there is an entry of that directory
-All-key : (n : ℕ) (spot : Spot) (es : List (Spot × ℕ)) → AllByRecursion (λ (e : Spot × ℕ). e.0.directory ≢ n) es → (v : ℕ) → lookup spot_cmp spot es ≡ Some v → spot.directory ≢ n
-All-key n spot [] all v e = absurd cc
-All-key n spot (x ∷ xs) all v e =
-    elim (eq_by_cmp spot_cmp spot x.0) as (λ b. eq_by_cmp spot_cmp spot x.0 ≡ b → cond b (Some x.1) (lookup spot_cmp spot xs) ≡ Some v → spot.directory ≢ n) [
-      | true ↦ λ is found. λ here. all.0 (sym (ap (λ (s : Spot). s.directory) (same_spot spot x.0 is)) ∙ here)
-      | false ↦ λ is found. All-key n spot xs all.1 v found
-    ] refl e
-
--- two names of two inodes are two
-other_spot : (t : Tree) (a b : Spot) (m n : ℕ) → target_of t a ≡ Some m → target_of t b ≡ Some n → m ≢ n → (o : Bool) → eq_by_cmp spot_cmp a b ≡ o → o ≡ false
-other_spot t a b m n is_m is_n apart false e = refl
-other_spot t a b m n is_m is_n apart true e =
-    let same = same_spot a b e in
-    let both : Some m ≡ Some n = sym is_m ∙ ap (target_of t) same ∙ is_n in
-    let one : m ≡ n = cc in absurd (apart one)
-
--- a directory that isn't above where it is to go
-abbrev IsApart : Tree → ℕ → Place → Type 0
-IsApart t to moved = (is_directory moved && is_beneath (length t.inodes) t to moved.0) ≡ false
-
-apart_by : (directory beneath live : Bool) → directory ≡ live → (directory && beneath) ≡ false → live ≡ true → beneath ≡ false
-apart_by true beneath live is e l = e
-apart_by false beneath live is e l = cc
-
-module _ (t : Tree) (from : ℕ) (old : List ℕ) (to : ℕ) (new : List ℕ) (moved : Place) (well : IsWellFormed t) (source : Leads t from old moved) (held : IsTrue (is_live_directory t to))
-    (named : IsTrue (is_name new)) (apart : IsApart t to moved) where
-  not_beneath : IsTrue (is_live_directory t moved.0) → is_beneath (length t.inodes) t to moved.0 ≡ false
-  not_beneath live = apart_by (is_directory moved) (is_beneath (length t.inodes) t to moved.0) (is_live_directory t moved.0) (source.kind ∙ sym (ap is_directory_inode source.lives)) apart live
-
-  ready_alone : entry_of t to (Entry new) ≡ None → IsReady t from old to new moved.0
-  ready_alone none = record {
-    well = well;
-    source = source.target;
-    free = free_spot t to new well (ap is_some none);
-    held = held;
-    named = named;
-    apart = λ live. (length t.inodes, not_beneath live);
-  }
-
-  module _ (there : Place) (target : target_of t (record { directory = to; name = new }) ≡ Some there.0) (unentered : IsUnentered t there.0) (other : moved.0 ≢ there.0) where
-    not_there : to ≢ there.0
-    not_there = All-key there.0 (record { directory = to; name = new }) t.entries unentered there.0 target
-
-    free_now : target_of (without_entry t to new there.0) (record { directory = to; name = new }) ≡ None
-    free_now =
-        let gone : lookup spot_cmp (record { directory = to; name = new }) (without_spot (record { directory = to; name = new }) t.entries) ≡ None =
-        lookup-take spot_cmp spots_total (record { directory = to; name = new }) (record { directory = to; name = new }) t.entries
-        ∙ ap (λ o. cond (not (is_eq o)) (target_of t (record { directory = to; name = new })) None) (tied_itself spots_total (record { directory = to; name = new })) in
-        either_left (λ u. target_of u (record { directory = to; name = new }) ≡ None) t to new there.0 gone gone
-
-    source_now : target_of (without_entry t to new there.0) (record { directory = from; name = old }) ≡ Some moved.0
-    source_now =
-        let apart_spots = other_spot t (record { directory = to; name = new }) (record { directory = from; name = old }) there.0 moved.0 target source.target (λ same. other (sym same)) _ refl in
-        let stays : lookup spot_cmp (record { directory = from; name = old }) (without_spot (record { directory = to; name = new }) t.entries) ≡ Some moved.0 =
-        lookup-take spot_cmp spots_total (record { directory = to; name = new }) (record { directory = from; name = old }) t.entries
-        ∙ ap (λ b. cond (not b) (target_of t (record { directory = from; name = old })) None) apart_spots ∙ source.target in
-        either_left (λ u. target_of u (record { directory = from; name = old }) ≡ Some moved.0) t to new there.0 stays stays
-
-    held_now : IsTrue (is_live_directory (without_entry t to new there.0) to)
-    held_now = ap is_directory_inode (inode-left t to new there.0 to (λ same. not_there (sym same))) ∙ held
-
-    beneath_now : is_beneath (length t.inodes) (without_entry t to new there.0) to moved.0 ≡ is_beneath (length t.inodes) t to moved.0
-    beneath_now = is_beneath-kept (λ k. there.0 ≢ k) t (without_entry t to new there.0) (λ d up here e. not_holder t to new there.0 well target unentered t.inodes d up e)
-        (λ d here. either_left (λ u. holder_of u d ≡ holder_of t d) t to new there.0
-        (holder_left t to new there.0 well target unentered (without_number there.0 t.inodes) d here) (holder_left t to new there.0 well target unentered t.inodes d here))
-        (length t.inodes) to moved.0 (λ same. not_there (sym same))
-
-    ready_after : IsReady (without_entry t to new there.0) from old to new moved.0
-    ready_after = record {
-      well = without_entry-IsWellFormed t to new there.0 well target unentered;
-      source = source_now;
-      free = free_now;
-      held = held_now;
-      named = named;
-      apart = λ live. (length t.inodes, beneath_now ∙ not_beneath (sym (ap is_directory_inode (inode-left t to new there.0 moved.0 (λ same. other (sym same)))) ∙ live));
-    }
-
--- what gives way is empty, or no directory
-gives_way : (moved there empty : Bool) (b : Bool) → (if moved then (if not there then Err 20 else refuse (not empty) 39) else refuse there 21) ≡ Ok b → (there ≡ false) ⊎ (empty ≡ true)
-gives_way true true true b e = inr refl
-gives_way true true false b e = absurd cc
-gives_way true false empty b e = absurd cc
-gives_way false true empty b e = absurd cc
-gives_way false false empty b e = inl refl
-
-way-unentered : (t : Tree) (d : ℕ) (name : List ℕ) (moved there : Place) (b : Bool) → IsWellFormed t → Leads t d name there → replaceable t moved (Some there) ≡ Ok b → IsUnentered t there.0
-way-unentered t d name moved there b well leads e = elim (gives_way (is_directory moved) (is_directory there) (is_empty (names_in t there.0)) b e) [
-  | inl node ↦ unentered_node t there.0 well (ap is_directory_inode leads.lives ∙ sym leads.kind ∙ node)
-  | inr empty ↦ unentered_directory t there.0 empty
-]
-
--- the tree as the move finds it
-ready : (t : Tree) (from : ℕ) (old : List ℕ) (to : ℕ) (new : List ℕ) (moved : Place) (b : Bool) → IsWellFormed t → Leads t from old moved → IsTrue (is_live_directory t to) → IsTrue (is_name new)
-    → IsApart t to moved → (there : Option Place) → entry_of t to (Entry new) ≡ there → same_inode moved there ≡ false → replaceable t moved there ≡ Ok b → IsReady (without_there t to new there) from old to new moved.0
-ready t from old to new moved b well source held named apart None is other may = ready_alone t from old to new moved well source held named apart is
-ready t from old to new moved b well source held named apart (Some there) is other may =
-    let leads = entry-leads t to new there is in
-    ready_after t from old to new moved well source held named apart there leads.target (way-unentered t to new moved there b well leads may) (decided_not moved.0 there.0 other)
+use Rattle.dc_plain.proofs.KeptNames.{without_entry-IsWithin}
+use Rattle.dc_plain.proofs.FoundMoves.{Moves, Stays, renames}
 
 there-within : (limit : ℕ) (t : Tree) (d : ℕ) (name : List ℕ) (there : Option Place) → IsWithin limit t → IsWithin limit (without_there t d name there)
 there-within limit t d name None within = within
 there-within limit t d name (Some there) within = without_entry-IsWithin limit t d name there.0 within
 
 pub rename-keeps : (limit : ℕ) (t : Tree) (base : ℕ) (old new : List ℕ) (done : Answer × Tree) → IsWellFormed t → rename t base old new ≡ Ok done → IsKept limit t done.1
-rename-keeps limit t base old new done well e =
-    after (path_or_fault old) _ done e (λ old_path old_good e.
-    after (path_or_fault new) _ done e (λ new_path new_good e.
-    after (place_on t base old_path) _ done e (λ from from_is e.
-    after (place_on t base new_path) _ done e (λ to to_is e.
-    after (name_or_each 16 22 22 from.last) _ done e (λ old_name old_is e.
-    after (name_or_each 16 22 22 to.last) _ done e (λ new_name new_is e.
-    after (present 2 (entry_of t from.directory (Entry old_name))) _ done e (λ moved found e.
-    after_test (not (is_directory moved) && (from.slash || to.slash)) 20 _ done e (λ ends e.
-    let there = entry_of t to.directory (Entry new_name) in
-    elim (same_inode moved there) as (λ b. same_inode moved there ≡ b → (if b then Ok (Nothing, t) else
-    refuse (is_directory moved && is_beneath (length t.inodes) t to.directory moved.0) 22 >>= λ apart. replaceable t moved there >>= λ may.
-    Ok (Nothing, with_entry_for (without_entry_alone (without_there t to.directory new_name there) from.directory old_name) to.directory new_name moved.0)) ≡ Ok done → IsKept limit t done.1) [
-      | true ↦ λ same e. left_with (IsKept limit t) Nothing t done e (well, λ within. within)
-      | false ↦ λ other e.
-          after_test (is_directory moved && is_beneath (length t.inodes) t to.directory moved.0) 22 _ done e (λ apart e.
-          after (replaceable t moved there) _ done e (λ may may_is e.
-          let found_it = ready t from.directory old_name to.directory new_name moved may well (entry-leads t from.directory old_name moved (is_there 2 _ moved found)) (place_live t base new_path to well.root_is to_is)
-          (path_named t base new new_path to new_name new_good to_is (named_each 16 22 22 to.last new_name new_is)) apart there refl other may_is in
-          left_with (IsKept limit t) Nothing (moved_to (without_there t to.directory new_name there) from.directory old_name to.directory new_name moved.0) done e
-          (moved-IsWellFormed (without_there t to.directory new_name there) from.directory old_name to.directory new_name moved.0 found_it, there-within limit t to.directory new_name there)))
-    ] refl e))))))))
+rename-keeps limit t base old new done well e = elim (renames t base old new done well e) [
+  | inr s ↦ subst (IsKept limit t) s.left (well, λ within. within)
+  | inl m ↦ subst (IsKept limit t) m.left
+      (moved-IsWellFormed (without_there t m.to m.new_name m.there) m.from m.old_name m.to m.new_name m.moved.0 m.ready, there-within limit t m.to m.new_name m.there)
+]
