@@ -1,5 +1,5 @@
 -- A call touches the keys that are listed for it, and no others.
-use Rattle.std.proofs.Common.{◌≡◌, ◌≢◌, ◌⊎◌, inl, inr, ◌↔◌, ℕ, zero, suc, ◌<◌, ◌≤◌, ◌==◌, List, [], ◌∷◌, ◌++◌, Bool, true, false, Option, Some, None, Ok, Err, IsTrue, refl, ap, sym, ◌∙◌, arith, length, subst, if◌then◌else◌}
+use Rattle.std.proofs.Common.{◌≡◌, ◌≢◌, ◌⊎◌, inl, inr, ◌↔◌, ℕ, zero, suc, ◌<◌, ◌≤◌, ◌==◌, Result, get_or, List, [], ◌∷◌, ◌++◌, Bool, true, false, Option, Some, None, Ok, Err, IsTrue, refl, ap, sym, ◌∙◌, arith, length, subst, if◌then◌else◌}
 use Rattle.std.specs.List.{Contains}
 use Rattle.dc_plain.specs.Facts.{Key, Place}
 use Rattle.dc_plain.specs.Facts.Label.{Entry}
@@ -14,16 +14,17 @@ use Rattle.dc_plain.specs.Operations.{make, symlink, look, readlink, stat, list_
 use Rattle.dc_plain.specs.Runs.{tree_after, Touches}
 use Rattle.dc_plain.specs.IsWellFormed.{IsWellFormed}
 use Rattle.dc_plain.specs.TouchedKeys.{entry_key, own_keys, keys_taken, keys_gone, keys_moved, keys_renamed, with_target, same_target, by_last, by_place, at_name, listed, unless_refused, keys_touched}
+use Rattle.dc_plain.specs.Laws.{TouchesTheListed}
 use Rattle.dc_plain.proofs.Chains.{after, left_with}
 use Rattle.dc_plain.proofs.Found.{Leads, Ends_in, Makes, Takes, makes, links, unlinks, rmdirs, entry-leads}
 use Rattle.dc_plain.proofs.FoundMoves.{Moves, Stays, renames}
 use Rattle.dc_plain.proofs.Holders.{decided_not}
-use Rattle.dc_plain.proofs.Removed.{inode-left}
-use Rattle.dc_plain.proofs.Moved.{moved_to}
+use Rattle.dc_plain.proofs.Removed.{IsUnentered, inode-left}
+use Rattle.dc_plain.proofs.Moved.{IsReady, moved_to}
 use Rattle.dc_plain.proofs.Keys.{made-others, made-each}
 use Rattle.dc_plain.proofs.KeysLinked.{linked-others, linked-each}
 use Rattle.dc_plain.proofs.KeysRemoved.{removed-others, removed-each, gone-each}
-use Rattle.dc_plain.proofs.KeysRenamed.{renamed_keys, alone-others, over-others, renamed-each}
+use Rattle.dc_plain.proofs.KeysRenamed.{renamed_keys, unmoved_keys, alone-others, over-others, renamed-each}
 use Rattle.dc_plain.proofs.SameFacts.{IsAmong, KeepsOthers, AltersEach}
 
 -- these keys have other facts, and all others the same
@@ -60,5 +61,82 @@ take-exact t base text u well takes =
     (subst (λ keys. IsExact t keys (without_entry t takes.d takes.name takes.n)) taken
     (removed-others t takes.d takes.name takes.n takes.inode well takes.leads takes.unentered takes.lives, removed-each t takes.d takes.name takes.n takes.inode well takes.leads takes.unentered takes.lives))
 
-reads-exact : (t : Tree) (answered : Change) (done : Answer × Tree) → answered ≡ Ok done → done.1 ≡ t → IsExact t [] done.1
-reads-exact t answered done e same = subst (IsExact t []) (sym same) (unaltered t)
+reads-exact : (t : Tree) (answered : Result Answer ℕ) (done : Answer × Tree) → left_alone t answered ≡ Ok done → IsExact t [] done.1
+reads-exact t (Ok answer) done e = left_with (IsExact t []) answer t done e (unaltered t)
+reads-exact t (Err number) done e = absurd cc
+
+-- by what stands at the new name
+move-exact : (t : Tree) (from : ℕ) (old : List ℕ) (to : ℕ) (new : List ℕ) (moved : Place) → IsWellFormed t → Leads t from old moved → (there : Option Place) → entry_of t to (Entry new) ≡ there → same_inode moved there ≡ false
+    → ((p : Place) → there ≡ Some p → IsUnentered t p.0) → IsReady (without_there t to new there) from old to new moved.0
+    → IsExact t (keys_renamed t from old to new) (moved_to (without_there t to new there) from old to new moved.0)
+move-exact t from old to new moved well source None at apart unentered ready =
+    subst (λ keys. IsExact t keys (moved_to t from old to new moved.0)) (sym (renamed_keys t from old to new moved.0 None source.target ready.free refl)) (
+      alone-others t from old to new moved.0 source.inode well source.target source.lives ready,
+      renamed-each t from old to new moved.0 source.inode well source.target source.lives t ready refl None at (λ e. cc) [] (λ key never. absurd never),
+    )
+move-exact t from old to new moved well source (Some p) at apart unentered ready =
+    let leads = entry-leads t to new p at in
+    let other : p.0 ≢ moved.0 = λ same. decided_not moved.0 p.0 apart (sym same) in
+    subst (λ keys. IsExact t keys (moved_to (without_entry t to new p.0) from old to new moved.0)) (sym (renamed_keys t from old to new moved.0 (Some p.0) source.target leads.target apart)) (
+      over-others t from old to new moved.0 source.inode well source.target source.lives p.0 leads.inode leads.target (unentered p refl) leads.lives other ready,
+      renamed-each t from old to new moved.0 source.inode well source.target source.lives (without_entry t to new p.0) ready (inode-left t to new p.0 moved.0 other) (Some p) at
+          (λ e. let pair : ◌≡◌ {A = Place} (moved.0, kind_of source.inode) p = cc in other (sym (ap (λ (q : Place). q.0) pair))) (keys_gone t p.0)
+          (gone-each t to new p.0 leads.inode well leads.target (unentered p refl) leads.lives (moved_to (without_entry t to new p.0) from old to new moved.0) refl),
+    )
+
+stay-exact : (t : Tree) (from : ℕ) (old : List ℕ) (to : ℕ) (new : List ℕ) (moved : Place) → Leads t from old moved → (there : Option Place) → entry_of t to (Entry new) ≡ there → same_inode moved there ≡ true → IsExact t (keys_renamed t from old to new) t
+stay-exact t from old to new moved source None at same = absurd cc
+stay-exact t from old to new moved source (Some p) at same =
+    let leads = entry-leads t to new p at in
+    subst (λ keys. IsExact t keys t) (sym (unmoved_keys t from old to new moved.0 p.0 source.target leads.target same)) (unaltered t)
+
+rename-exact : (t : Tree) (base : ℕ) (old new : List ℕ) (done : Answer × Tree) → IsWellFormed t → rename t base old new ≡ Ok done
+    → IsExact t (at_name t base old (λ from a. at_name t base new (λ to b. keys_renamed t from a to b))) done.1
+rename-exact t base old new done well e = elim (renames t base old new done well e) [
+  | inl m ↦ subst (IsExact t (at_name t base old (λ from a. at_name t base new (λ to b. keys_renamed t from a to b)))) m.left
+      (subst (λ keys. IsExact t keys (moved_to (without_there t m.to m.new_name m.there) m.from m.old_name m.to m.new_name m.moved.0))
+      (sym (both_named m.from m.old_name m.to m.new_name m.old_ends m.new_ends)) (move-exact t m.from m.old_name m.to m.new_name m.moved well m.source m.there m.at m.apart m.unentered m.ready))
+  | inr s ↦ subst (IsExact t (at_name t base old (λ from a. at_name t base new (λ to b. keys_renamed t from a to b)))) s.left
+      (subst (λ keys. IsExact t keys t) (sym (both_named s.from s.old_name s.to s.new_name s.old_ends s.new_ends)) (stay-exact t s.from s.old_name s.to s.new_name s.moved s.source s.there s.at s.same))
+]
+  where
+    both_named : (from : ℕ) (a : List ℕ) (to : ℕ) (b : List ℕ) → Ends_in t base old from a → Ends_in t base new to b → at_name t base old (λ from a. at_name t base new (λ to b. keys_renamed t from a to b)) ≡ keys_renamed t from a to b
+    both_named from a to b ends ends' =
+        at_name-is t base old from a (λ from a. at_name t base new (λ to b. keys_renamed t from a to b)) ends ∙ at_name-is t base new to b (λ to b. keys_renamed t from a to b) ends'
+
+change-exact : (limit : ℕ) (t : Tree) (request : Request) (done : Answer × Tree) → IsWellFormed t → change_of limit t request ≡ Ok done → IsExact t (listed t request) done.1
+change-exact limit t (Look base path how) done well e = reads-exact t (look t base path how) done e
+change-exact limit t (Readlink base path) done well e = reads-exact t (readlink t base path) done e
+change-exact limit t (Stat base path) done well e = reads-exact t (stat t base path) done e
+change-exact limit t (List_names base path) done well e = reads-exact t (list_names t base path) done e
+change-exact limit t (Mkdir base path) done well e = make-exact limit t base path true Directory done well e
+change-exact limit t (Create base path) done well e = make-exact limit t base path false Regular done well e
+change-exact limit t (Hard_link base old new) done well e = link-exact t base old new done well e
+change-exact limit t (Symlink base text path) done well e = after (path_or_fault text) _ done e (λ link_path good e. make-exact limit t base path false (Symbolic text) done well e)
+change-exact limit t (Unlink base path) done well e = take-exact t base path done.1 well (unlinks t base path done well e)
+change-exact limit t (Rmdir base path) done well e = take-exact t base path done.1 well (rmdirs t base path done well e)
+change-exact limit t (Rename base old new) done well e = rename-exact t base old new done well e
+
+settled-exact : (t : Tree) (keys : List Key) (change : Change) → ((done : Answer × Tree) → change ≡ Ok done → IsExact t keys done.1) → IsExact t (unless_refused change keys) (settled t change).1
+settled-exact t keys (Ok done) so = so done refl
+settled-exact t keys (Err number) so = unaltered t
+
+pub calls-exact : (limit : ℕ) (t : Tree) (request : Request) → IsWellFormed t → IsExact t (keys_touched limit t request) (tree_after limit t request)
+calls-exact limit t request well = settled-exact t (listed t request) (change_of limit t request) (λ done. change-exact limit t request done well)
+
+contained : (key : Key) (keys : List Key) → IsAmong key keys → Contains keys key
+contained key [] never = absurd never
+contained key (k ∷ keys) (inl is) = (0, omega arith, sym is)
+contained key (k ∷ keys) (inr later) = let rest = contained key keys later in (suc rest.0, omega (arith, rest.1), rest.2)
+
+among : (key : Key) (keys : List Key) (i : ℕ) → i < length keys → get_or keys i key ≡ key → IsAmong key keys
+among key [] i within is = absurd (omega arith)
+among key (k ∷ keys) zero within is = inl (sym is)
+among key (k ∷ keys) (suc i) within is = inr (among key keys i (omega arith) is)
+
+pub touches-listed : TouchesTheListed
+touches-listed limit t request well key =
+    let exact = calls-exact limit t request well in (
+      λ differs. elim (exact.0 key) [ inl is ↦ contained key (keys_touched limit t request) is | inr same ↦ absurd (differs same) ],
+      λ contains. exact.1 key (among key (keys_touched limit t request) contains.0 contains.1 contains.2),
+    )

@@ -38,6 +38,11 @@ pub renamed_keys : (t : Tree) (from : ℕ) (old : List ℕ) (to : ℕ) (new : Li
     → target_of t (record { directory = to; name = new }) ≡ there → same_target (Some n) there ≡ false → keys_renamed t from old to new ≡ entry_key from old ∷ entry_key to new ∷ keys_moved t from to n ++ with_target there (keys_gone t)
 renamed_keys t from old to new n there source at apart = (λ i. by_targets t from old to new (source i) (at i)) ∙ rw apart refl
 
+-- where both lead to one inode
+pub unmoved_keys : (t : Tree) (from : ℕ) (old : List ℕ) (to : ℕ) (new : List ℕ) (n m : ℕ) → target_of t (record { directory = from; name = old }) ≡ Some n → target_of t (record { directory = to; name = new }) ≡ Some m → (n == m) ≡ true
+    → keys_renamed t from old to new ≡ []
+unmoved_keys t from old to new n m source at same = (λ i. by_targets t from old to new (source i) (at i)) ∙ rw same refl
+
 module _ (t : Tree) (from : ℕ) (old : List ℕ) (to : ℕ) (new : List ℕ) (n : ℕ) (inode : Inode) (well : IsWellFormed t) (source : target_of t (record { directory = from; name = old }) ≡ Some n) (lives : inode_of t n ≡ Some inode) where
   pub not_root : n ≢ 1
   not_root same =

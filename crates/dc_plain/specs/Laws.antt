@@ -1,8 +1,8 @@
 -- What holds of every call on every tree.
-use Rattle.std.specs.Prelude.{◌≡◌, ℕ, List, Bool, IsTrue, ◌==◌, ◌||◌, Some}
+use Rattle.std.specs.Prelude.{◌≡◌, ◌↔◌, ◌≤◌, length, ℕ, List, Bool, IsTrue, ◌==◌, ◌||◌, Some}
 use Rattle.dc_names.specs.Paths.{Path}
 use Rattle.dc_plain.specs.declared.call.Follow.{Follow}
-use Rattle.dc_plain.specs.Facts.{Teller}
+use Rattle.dc_plain.specs.Facts.{Teller, Key}
 use Rattle.dc_plain.specs.Tellers.{Extends}
 use Rattle.dc_plain.specs.Resolution.{Outcome}
 use Rattle.dc_plain.specs.Resolution.Outcome.{Refused}
@@ -11,7 +11,9 @@ use Rattle.dc_plain.specs.Places.Placed.{Not}
 use Rattle.dc_plain.specs.Trees.{Tree}
 use Rattle.dc_plain.specs.IsWellFormed.{IsWellFormed, IsWithin}
 use Rattle.dc_plain.specs.Requests.{Request}
-use Rattle.dc_plain.specs.Runs.{tree_after, tree_after_all}
+use Rattle.dc_plain.specs.Runs.{tree_after, tree_after_all, Touches}
+use Rattle.dc_plain.specs.TouchedKeys.{keys_touched}
+use Rattle.std.specs.List.{Contains}
 
 -- a well-formed tree stays so, whatever request comes
 abbrev pub KeepsTreesWellFormed : Type 0
@@ -42,3 +44,11 @@ WalksStay = (old new : Teller) → Extends old new → (base : ℕ) (path : Path
 
 abbrev pub PlacesStay : Type 0
 PlacesStay = (old new : Teller) → Extends old new → (base : ℕ) (path : Path) (placed : Placed) → place old base path ≡ Some placed → place new base path ≡ Some placed
+
+-- a call alters the facts of the keys that are listed for it, and of no others
+abbrev pub TouchesTheListed : Type 0
+TouchesTheListed = (limit : ℕ) (t : Tree) (request : Request) → IsWellFormed t → (key : Key) → Touches limit t request key ↔ Contains (keys_touched limit t request) key
+
+-- which are four at most
+abbrev pub TouchesFourAtMost : Type 0
+TouchesFourAtMost = (limit : ℕ) (t : Tree) (request : Request) → length (keys_touched limit t request) ≤ 4

@@ -14,11 +14,17 @@ use Rattle.dc_plain.specs.Operations.{Change, change_of}
 abbrev pub entry_key : ℕ → List ℕ → Key
 entry_key d name = record { number = d; label = Entry name }
 
+abbrev pub parent_key : ℕ → Key
+parent_key n = record { number = n; label = Parent }
+
+abbrev pub text_key : ℕ → Key
+text_key n = record { number = n; label = Text }
+
 -- the key that an inode has of its own: a directory its dot-dot, a link its text
 abbrev pub own_keys : ℕ → Inode → List Key
-own_keys n Directory = record { number = n; label = Parent } ∷ []
+own_keys n Directory = parent_key n ∷ []
 own_keys n Regular = []
-own_keys n (Symbolic text) = record { number = n; label = Text } ∷ []
+own_keys n (Symbolic text) = text_key n ∷ []
 
 abbrev pub keys_at : ℕ → Option Inode → List Key
 keys_at n None = []
@@ -38,7 +44,7 @@ keys_taken t d name = with_target (target_of t (record { directory = d; name = n
 
 -- the dot-dot of a directory that gets another parent
 abbrev pub keys_moved : Tree → ℕ → ℕ → ℕ → List Key
-keys_moved t from to n = if is_live_directory t n && not (from == to) then record { number = n; label = Parent } ∷ [] else []
+keys_moved t from to n = if is_live_directory t n && not (from == to) then parent_key n ∷ [] else []
 
 abbrev pub same_target : Option ℕ → Option ℕ → Bool
 same_target (Some m) (Some n) = m == n

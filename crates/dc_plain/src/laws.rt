@@ -2,7 +2,7 @@
 
 ghost use Rattle.dc_plain.specs.Trees.{empty_tree};
 ghost use Rattle.dc_plain.specs.IsWellFormed.{IsWellFormed};
-ghost use Rattle.dc_plain.specs.Laws.{KeepsTreesWellFormed, KeepsWithinLimit, KeepsRunsWellFormed, WalksRefuseByThree, PlacesRefuseByThree, WalksStay, PlacesStay};
+ghost use Rattle.dc_plain.specs.Laws.{KeepsTreesWellFormed, KeepsWithinLimit, KeepsRunsWellFormed, WalksRefuseByThree, PlacesRefuseByThree, WalksStay, PlacesStay, TouchesTheListed, TouchesFourAtMost};
 
 /// The tree that is opened is well formed.
 pub fn opening_tree_is_well_formed()
@@ -26,4 +26,10 @@ pub fn resolution_refuses_with_few_numbers()
 pub fn resolution_stays_as_more_is_told()
     ensures walks { WalksStay }
     ensures places { PlacesStay }
+{}
+
+/// A call alters what is told of the listed keys, and of nothing else: of four keys at most.
+pub fn calls_touch_the_listed_keys()
+    ensures keys { TouchesTheListed }
+    ensures few { TouchesFourAtMost }
 {}
