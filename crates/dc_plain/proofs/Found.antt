@@ -1,5 +1,5 @@
 -- What a call that isn't refused has found, and the tree that it leaves.
-use Rattle.std.proofs.Common.{◌≡◌, ℕ, ◌≤◌, ◌<◌, ◌^◌, ◌==◌, ◌&&◌, ◌||◌, not, List, Bool, true, false, Option, Some, None, Result, Ok, Err, is_some, IsTrue, refl, ap, sym, ◌∙◌, arith, length, option_map, option_and_then, subst}
+use Rattle.std.proofs.Common.{◌≡◌, ℕ, ◌≤◌, ◌<◌, ◌^◌, ◌==◌, ◌&&◌, ◌||◌, not, List, Bool, true, false, Option, Some, None, Ok, is_some, IsTrue, refl, ap, sym, ◌∙◌, arith, length, option_map, option_and_then, subst}
 use Rattle.std.specs.Prelude.{nat_le}
 use Rattle.std.proofs.lemmas.Bool.Decides.{nat_tests}
 use Rattle.dc_names.specs.Bytes.{is_empty, is_name}
@@ -13,7 +13,7 @@ use Rattle.dc_plain.specs.Requests.{Answer}
 use Rattle.dc_plain.specs.Requests.Answer.{Done, Nothing}
 use Rattle.dc_plain.specs.Places.{Where}
 use Rattle.dc_plain.specs.Places.Last.{Name}
-use Rattle.dc_plain.specs.Refusals.{◌>>=◌, refuse, spot_on, place_on, path_or_fault, name_or, name_or_each, present, is_full}
+use Rattle.dc_plain.specs.Refusals.{◌>>=◌, spot_on, place_on, path_or_fault, name_or, name_or_each, present, is_full}
 use Rattle.dc_plain.specs.Effects.{with_new, with_entry_for, without_entry}
 use Rattle.dc_plain.specs.Operations.{make, link, unlink, rmdir}
 use Rattle.dc_plain.specs.IsWellFormed.{IsWellFormed}

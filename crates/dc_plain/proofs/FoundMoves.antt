@@ -8,19 +8,19 @@ use Rattle.dc_names.specs.Bytes.{is_empty, is_name}
 use Rattle.dc_plain.specs.Facts.{Place}
 use Rattle.dc_plain.specs.Facts.Label.{Entry}
 use Rattle.dc_plain.specs.Resolution.{is_directory}
-use Rattle.dc_plain.specs.Trees.{Tree, Spot, spot_cmp, inode_of, target_of, entry_of, holder_of, names_of, names_in, if_held, is_live_directory, is_directory_inode, without_number, without_spot}
+use Rattle.dc_plain.specs.Trees.{Tree, Spot, spot_cmp, target_of, entry_of, holder_of, names_in, if_held, is_live_directory, is_directory_inode, without_number, without_spot}
 use Rattle.dc_plain.specs.Requests.{Answer}
 use Rattle.dc_plain.specs.Requests.Answer.{Nothing}
 use Rattle.dc_plain.specs.Refusals.{◌>>=◌, refuse, place_on, path_or_fault, name_or_each, present}
 use Rattle.dc_plain.specs.Effects.{with_entry_for, without_entry, without_entry_alone, without_there}
 use Rattle.dc_plain.specs.Operations.{rename, is_beneath, replaceable, same_inode}
-use Rattle.dc_plain.specs.IsWellFormed.{IsWellFormed, IsWithin}
+use Rattle.dc_plain.specs.IsWellFormed.{IsWellFormed}
 use Rattle.dc_plain.proofs.Made.{spots_total, free_spot}
 use Rattle.dc_plain.proofs.Takes.{lookup-take}
 use Rattle.dc_plain.proofs.SameFacts.{same_spot}
-use Rattle.dc_plain.proofs.Holders.{decided_not, other_test}
-use Rattle.dc_plain.proofs.Removed.{either_left, inode-left, IsUnentered, left_of, without_entry-IsWellFormed, inode_without, unentered_node, unentered_directory, holder_left, not_holder}
-use Rattle.dc_plain.proofs.Moved.{IsReady, moved_to, moved-IsWellFormed}
+use Rattle.dc_plain.proofs.Holders.{decided_not}
+use Rattle.dc_plain.proofs.Removed.{either_left, inode-left, IsUnentered, without_entry-IsWellFormed, unentered_node, unentered_directory, holder_left, not_holder}
+use Rattle.dc_plain.proofs.Moved.{IsReady, moved_to}
 use Rattle.dc_plain.proofs.Chains.{after, after_test, named_each, is_there, left_with}
 use Rattle.dc_plain.proofs.Spotted.{place_live, path_named}
 use Rattle.dc_plain.proofs.Found.{Leads, Ends_in, entry-leads, spot_of}

@@ -1,21 +1,16 @@
 -- Calls that change nothing and calls that make an inode keep a tree well formed.
-use Rattle.std.proofs.Common.{subst, ◌≡◌, ℕ, ◌≤◌, ◌<◌, ◌^◌, ◌==◌, ◌&&◌, ◌||◌, not, List, Bool, false, Result, Ok, Err, is_some, is_ok, IsTrue, refl, arith, length}
-use Rattle.std.specs.Prelude.{nat_le}
-use Rattle.std.proofs.lemmas.Bool.Decides.{nat_tests}
-use Rattle.dc_plain.specs.Facts.Label.{Entry}
-use Rattle.dc_plain.specs.Trees.{Tree, Inode, entry_of, is_live_directory}
+use Rattle.std.proofs.Common.{subst, ◌≡◌, ℕ, List, Bool, false, Result, Ok, Err, is_ok, IsTrue, refl, arith}
+use Rattle.dc_plain.specs.Trees.{Tree, Inode}
 use Rattle.dc_plain.specs.Trees.Inode.{Symbolic}
 use Rattle.dc_plain.specs.Requests.{Answer}
-use Rattle.dc_plain.specs.Requests.Answer.{Done}
 use Rattle.dc_names.specs.Paths.{Path, path_of}
-use Rattle.dc_plain.specs.Refusals.{spot_on, name_or, is_full, path_or_fault}
-use Rattle.dc_plain.specs.Effects.{with_new}
+use Rattle.dc_plain.specs.Refusals.{path_or_fault}
 use Rattle.dc_plain.specs.Operations.{make, symlink, left_alone}
 use Rattle.dc_plain.specs.IsWellFormed.{IsWellFormed, IsWithin}
-use Rattle.dc_plain.proofs.Made.{with_new-IsWellFormed, IsGood, free_spot, length_new}
+use Rattle.dc_plain.proofs.Made.{with_new-IsWellFormed, IsGood, length_new}
 use Rattle.dc_plain.proofs.Found.{makes}
-use Rattle.dc_plain.proofs.Chains.{after, after_test, named, left_with}
-use Rattle.dc_plain.proofs.Spotted.{spot_live, spot_named, path_is}
+use Rattle.dc_plain.proofs.Chains.{after, left_with}
+use Rattle.dc_plain.proofs.Spotted.{path_is}
 
 -- the tree that is left is well formed, and within the limit where the first one was
 abbrev pub IsKept : ℕ → Tree → Tree → Type 0

@@ -1,5 +1,5 @@
 -- A rename keeps a tree well formed.
-use Rattle.std.proofs.Common.{◌≡◌, ◌⊎◌, inl, inr, ℕ, List, Option, Some, None, Ok, subst}
+use Rattle.std.proofs.Common.{◌≡◌, inl, inr, ℕ, List, Option, Some, None, Ok, subst}
 use Rattle.dc_plain.specs.Facts.{Place}
 use Rattle.dc_plain.specs.Trees.{Tree}
 use Rattle.dc_plain.specs.Requests.{Answer}
@@ -9,7 +9,7 @@ use Rattle.dc_plain.specs.IsWellFormed.{IsWellFormed, IsWithin}
 use Rattle.dc_plain.proofs.Moved.{moved-IsWellFormed}
 use Rattle.dc_plain.proofs.Kept.{IsKept}
 use Rattle.dc_plain.proofs.KeptNames.{without_entry-IsWithin}
-use Rattle.dc_plain.proofs.FoundMoves.{Moves, Stays, renames}
+use Rattle.dc_plain.proofs.FoundMoves.{renames}
 
 there-within : (limit : ℕ) (t : Tree) (d : ℕ) (name : List ℕ) (there : Option Place) → IsWithin limit t → IsWithin limit (without_there t d name there)
 there-within limit t d name None within = within

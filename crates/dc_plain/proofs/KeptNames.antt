@@ -1,25 +1,13 @@
 -- Calls that give a further name or take one away keep a tree well formed.
-use Rattle.std.proofs.Common.{◌≡◌, ℕ, ◌<◌, ◌==◌, List, Bool, true, false, not, Option, Some, None, Ok, is_some, refl, sym, ◌∙◌, arith, option_map, option_and_then, subst, if◌then◌else◌}
-use Rattle.std.specs.Prelude.{nat_le}
-use Rattle.std.proofs.lemmas.Bool.Decides.{nat_tests}
-use Rattle.dc_names.specs.Bytes.{is_empty}
-use Rattle.dc_plain.specs.Facts.{Place}
-use Rattle.dc_plain.specs.Facts.Label.{Entry}
-use Rattle.dc_plain.specs.Resolution.{is_directory}
-use Rattle.dc_plain.specs.Trees.{Tree, Inode, inode_of, place_at, target_of, entry_of, names_of, names_in, kind_of, is_live_directory, is_directory_inode, without_number}
-use Rattle.dc_plain.specs.Trees.Inode.{Directory, Regular, Symbolic}
+use Rattle.std.proofs.Common.{◌≡◌, ℕ, ◌==◌, List, true, false, not, Ok, arith, subst, if◌then◌else◌}
+use Rattle.dc_plain.specs.Trees.{Tree, Inode, names_of, without_number}
 use Rattle.dc_plain.specs.Requests.{Answer}
-use Rattle.dc_plain.specs.Requests.Answer.{Done, Nothing}
-use Rattle.dc_plain.specs.Refusals.{spot_on, place_on, path_or_fault, name_or, name_or_each, present}
-use Rattle.dc_plain.specs.Effects.{with_entry_for, without_entry}
+use Rattle.dc_plain.specs.Effects.{without_entry}
 use Rattle.dc_plain.specs.Operations.{link, unlink, rmdir}
 use Rattle.dc_plain.specs.IsWellFormed.{IsWellFormed, IsWithin}
-use Rattle.dc_plain.proofs.Made.{free_spot}
 use Rattle.dc_plain.proofs.Takes.{length_kept}
 use Rattle.dc_plain.proofs.Linked.{with_entry_for-IsWellFormed}
-use Rattle.dc_plain.proofs.Removed.{without_entry-IsWellFormed, unentered_node, unentered_directory, left_of}
-use Rattle.dc_plain.proofs.Chains.{after, after_test, named, is_there, left_with}
-use Rattle.dc_plain.proofs.Spotted.{place_live, path_named}
+use Rattle.dc_plain.proofs.Removed.{without_entry-IsWellFormed, left_of}
 use Rattle.dc_plain.proofs.Kept.{IsKept}
 use Rattle.dc_plain.proofs.Found.{Takes, links, unlinks, rmdirs}
 

@@ -1,19 +1,19 @@
 -- Which keys a new inode touches.
-use Rattle.std.proofs.Common.{◌≡◌, ◌≢◌, ◌⊎◌, inl, inr, ℕ, ◌==◌, List, [], ◌∷◌, Bool, true, false, cond, not, Option, Some, None, is_some, IsTrue, refl, ap, sym, ◌∙◌, option_and_then, subst}
-use Rattle.std.specs.Ordering.{nat_cmp, eq_by_cmp}
+use Rattle.std.proofs.Common.{◌≡◌, ◌≢◌, ◌⊎◌, inl, inr, ℕ, ◌==◌, List, ◌∷◌, true, false, cond, Option, Some, None, is_some, IsTrue, refl, ap, sym, ◌∙◌, option_and_then, subst}
+use Rattle.std.specs.Ordering.{eq_by_cmp}
 use Rattle.std.specs.FinMap.Entries.{find-put}
 use Rattle.dc_names.specs.declared.kind.Kind.TheVariants.{Dir}
-use Rattle.dc_plain.specs.Facts.{Key, Label}
+use Rattle.dc_plain.specs.Facts.{Label}
 use Rattle.dc_plain.specs.Facts.Label.{Entry, Parent, Text}
-use Rattle.dc_plain.specs.Trees.{Tree, Spot, Inode, spot_cmp, inode_of, target_of, place_at, entry_of, text_of, text_in, fact_at, kind_of, holder_of, is_live_directory, is_directory_inode}
+use Rattle.dc_plain.specs.Trees.{Tree, Spot, Inode, spot_cmp, inode_of, target_of, place_at, entry_of, text_of, text_in, fact_at, kind_of, is_live_directory, is_directory_inode}
 use Rattle.dc_plain.specs.Trees.Inode.{Directory, Regular, Symbolic}
 use Rattle.dc_plain.specs.Effects.{with_new}
 use Rattle.dc_plain.specs.TouchedKeys.{entry_key, own_keys}
 use Rattle.dc_plain.specs.IsWellFormed.{IsWellFormed, Stands}
-use Rattle.dc_plain.proofs.Made.{spots_total, other_number, inode_new, apart, holder_kept, holder_new, unused, made, some_in, All-lookup, is_directory_in, kept, itself}
+use Rattle.dc_plain.proofs.Made.{spots_total, other_number, inode_new, apart, holder_kept, holder_new, unused, made, some_in, All-lookup, is_directory_in, kept}
 use Rattle.dc_plain.proofs.Puts.{All-weaker}
-use Rattle.dc_plain.proofs.Holders.{holder-live, other_test, decided, decided_not}
-use Rattle.dc_plain.proofs.SameFacts.{IsAmong, KeepsOthers, AltersEach, decide, same_key, same_spot, place-same, text-same, entry-same, parent-same, no_parent, parent-fact, entry-fact, no_entry, tied, entries-differ, texts-differ}
+use Rattle.dc_plain.proofs.Holders.{holder-live, decided, decided_not}
+use Rattle.dc_plain.proofs.SameFacts.{IsAmong, KeepsOthers, AltersEach, decide, same_key, place-same, text-same, entry-same, parent-same, no_parent, parent-fact, entry-fact, no_entry, tied, entries-differ, texts-differ}
 
 pub lives_if : (o : Option Inode) → is_directory_inode o ≡ true → is_some o ≡ true
 lives_if None e = cc

@@ -1,5 +1,5 @@
 -- At most four keys are listed for a call.
-use Rattle.std.proofs.Common.{◌≡◌, ℕ, ◌≤◌, ◌==◌, ◌&&◌, not, List, [], ◌∷◌, ◌++◌, Bool, true, false, cond, Option, Some, None, Result, Ok, Err, refl, arith, length, if◌then◌else◌}
+use Rattle.std.proofs.Common.{ℕ, ◌≤◌, ◌==◌, ◌&&◌, not, List, [], ◌∷◌, ◌++◌, true, false, Option, Some, None, Result, Ok, Err, arith, length, if◌then◌else◌}
 use Rattle.std.proofs.lemmas.List.{length-append}
 use Rattle.dc_plain.specs.Facts.{Key}
 use Rattle.dc_plain.specs.Trees.{Tree, Inode, inode_of, target_of, names_of, is_live_directory}
@@ -10,7 +10,7 @@ use Rattle.dc_plain.specs.Places.{Where, Last}
 use Rattle.dc_plain.specs.Places.Last.{Root, Dot, DotDot, Name}
 use Rattle.dc_plain.specs.Refusals.{spot_on}
 use Rattle.dc_plain.specs.Operations.{Change, change_of}
-use Rattle.dc_plain.specs.TouchedKeys.{entry_key, parent_key, own_keys, keys_at, keys_gone, with_target, keys_taken, keys_moved, keys_renamed, same_target, by_last, by_place, at_name, listed, unless_refused}
+use Rattle.dc_plain.specs.TouchedKeys.{entry_key, parent_key, own_keys, keys_at, keys_gone, with_target, keys_taken, keys_moved, keys_renamed, same_target, by_last, by_place, listed, unless_refused}
 use Rattle.dc_plain.specs.Laws.{TouchesFourAtMost}
 
 one_own : (n : ℕ) (inode : Inode) → length (own_keys n inode) ≤ 1

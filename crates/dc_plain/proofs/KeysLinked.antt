@@ -1,10 +1,10 @@
 -- A further name touches its own key alone.
-use Rattle.std.proofs.Common.{◌≡◌, ◌≢◌, ◌⊎◌, inl, inr, ℕ, List, [], ◌∷◌, Bool, true, false, cond, Option, Some, None, IsTrue, refl, ap, ◌∙◌}
+use Rattle.std.proofs.Common.{◌≡◌, ◌⊎◌, inl, inr, ℕ, List, [], ◌∷◌, false, cond, Some, None, IsTrue, refl, ap, ◌∙◌}
 use Rattle.std.specs.Ordering.{eq_by_cmp}
 use Rattle.std.specs.FinMap.Entries.{find-put}
-use Rattle.dc_plain.specs.Facts.{Key, Label}
+use Rattle.dc_plain.specs.Facts.{Label}
 use Rattle.dc_plain.specs.Facts.Label.{Entry, Parent, Text}
-use Rattle.dc_plain.specs.Trees.{Tree, Inode, spot_cmp, inode_of, target_of, entry_of, fact_at, kind_of, is_live_directory, is_directory_inode}
+use Rattle.dc_plain.specs.Trees.{Tree, Inode, spot_cmp, inode_of, target_of, fact_at, kind_of, is_live_directory, is_directory_inode}
 use Rattle.dc_plain.specs.Effects.{with_entry_for}
 use Rattle.dc_plain.specs.TouchedKeys.{entry_key}
 use Rattle.dc_plain.specs.IsWellFormed.{IsWellFormed}

@@ -1,23 +1,22 @@
 -- A call touches the keys that are listed for it, and no others.
-use Rattle.std.proofs.Common.{◌≡◌, ◌≢◌, ◌⊎◌, inl, inr, ◌↔◌, ℕ, zero, suc, ◌<◌, ◌≤◌, ◌==◌, Result, get_or, List, [], ◌∷◌, ◌++◌, Bool, true, false, Option, Some, None, Ok, Err, IsTrue, refl, ap, sym, ◌∙◌, arith, length, subst, if◌then◌else◌}
+use Rattle.std.proofs.Common.{◌≡◌, ◌≢◌, inl, inr, ℕ, zero, suc, ◌<◌, Result, get_or, List, [], ◌∷◌, Bool, true, false, Option, Some, None, Ok, Err, refl, ap, sym, ◌∙◌, arith, length, subst}
 use Rattle.std.specs.List.{Contains}
 use Rattle.dc_plain.specs.Facts.{Key, Place}
 use Rattle.dc_plain.specs.Facts.Label.{Entry}
-use Rattle.dc_plain.specs.Trees.{Tree, Inode, inode_of, target_of, entry_of, fact_at, kind_of, names_of}
+use Rattle.dc_plain.specs.Trees.{Tree, Inode, entry_of, kind_of}
 use Rattle.dc_plain.specs.Trees.Inode.{Directory, Regular, Symbolic}
 use Rattle.dc_plain.specs.Requests.{Answer, Request}
 use Rattle.dc_plain.specs.Requests.Request.{Look, Readlink, Stat, List_names, Mkdir, Create, Hard_link, Symlink, Unlink, Rmdir, Rename}
-use Rattle.dc_plain.specs.Places.{Where}
-use Rattle.dc_plain.specs.Refusals.{path_or_fault, spot_on}
+use Rattle.dc_plain.specs.Refusals.{path_or_fault}
 use Rattle.dc_plain.specs.Effects.{with_new, with_entry_for, without_entry, without_there}
-use Rattle.dc_plain.specs.Operations.{make, symlink, look, readlink, stat, list_names, left_alone, link, rename, change_of, settled, Change, same_inode}
-use Rattle.dc_plain.specs.Runs.{tree_after, Touches}
+use Rattle.dc_plain.specs.Operations.{make, look, readlink, stat, list_names, left_alone, link, rename, change_of, settled, Change, same_inode}
+use Rattle.dc_plain.specs.Runs.{tree_after}
 use Rattle.dc_plain.specs.IsWellFormed.{IsWellFormed}
-use Rattle.dc_plain.specs.TouchedKeys.{entry_key, own_keys, keys_taken, keys_gone, keys_moved, keys_renamed, with_target, same_target, by_last, by_place, at_name, listed, unless_refused, keys_touched}
+use Rattle.dc_plain.specs.TouchedKeys.{entry_key, own_keys, keys_taken, keys_gone, keys_renamed, with_target, by_last, by_place, at_name, listed, unless_refused, keys_touched}
 use Rattle.dc_plain.specs.Laws.{TouchesTheListed}
 use Rattle.dc_plain.proofs.Chains.{after, left_with}
-use Rattle.dc_plain.proofs.Found.{Leads, Ends_in, Makes, Takes, makes, links, unlinks, rmdirs, entry-leads}
-use Rattle.dc_plain.proofs.FoundMoves.{Moves, Stays, renames}
+use Rattle.dc_plain.proofs.Found.{Leads, Ends_in, Takes, makes, links, unlinks, rmdirs, entry-leads}
+use Rattle.dc_plain.proofs.FoundMoves.{renames}
 use Rattle.dc_plain.proofs.Holders.{decided_not}
 use Rattle.dc_plain.proofs.Removed.{IsUnentered, inode-left}
 use Rattle.dc_plain.proofs.Moved.{IsReady, moved_to}

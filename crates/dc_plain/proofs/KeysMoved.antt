@@ -1,19 +1,17 @@
 -- Which keys a moved entry touches.
-use Rattle.std.proofs.Common.{◌≡◌, ◌≢◌, ◌⊎◌, inl, inr, ℕ, ◌+◌, ◌≤◌, ◌==◌, ◌&&◌, List, [], ◌∷◌, Bool, true, false, cond, not, Option, Some, None, is_some, IsTrue, refl, ap, sym, ◌∙◌, arith, find, option_map, subst, if◌then◌else◌}
+use Rattle.std.proofs.Common.{◌≡◌, ◌≢◌, ◌⊎◌, inl, inr, ℕ, ◌+◌, ◌≤◌, ◌==◌, ◌&&◌, List, [], ◌∷◌, Bool, true, false, cond, not, Some, None, IsTrue, refl, ap, sym, ◌∙◌, arith, find, option_map, subst, if◌then◌else◌}
 use Rattle.std.specs.Ordering.{eq_by_cmp}
 use Rattle.std.specs.FinMap.Entries.{find-put}
 use Rattle.std.specs.FinMap.Entries.{find as lookup}
 use Rattle.dc_names.specs.declared.kind.Kind.TheVariants.{Dir}
-use Rattle.dc_plain.specs.Facts.{Key, Label}
+use Rattle.dc_plain.specs.Facts.{Label}
 use Rattle.dc_plain.specs.Facts.Label.{Entry, Parent, Text}
-use Rattle.dc_plain.specs.Trees.{Tree, Spot, Inode, spot_cmp, how_many, inode_of, target_of, entry_of, fact_at, kind_of, holder_of, names_of, is_live_directory, is_directory_inode, without_spot}
-use Rattle.dc_plain.specs.Trees.Inode.{Directory}
+use Rattle.dc_plain.specs.Trees.{Tree, Spot, Inode, spot_cmp, how_many, inode_of, target_of, entry_of, fact_at, kind_of, holder_of, names_of, is_live_directory, without_spot}
 use Rattle.dc_plain.specs.TouchedKeys.{entry_key, keys_moved}
-use Rattle.dc_plain.specs.IsWellFormed.{IsWellFormed}
-use Rattle.dc_plain.proofs.Made.{spots_total, is_directory_in}
+use Rattle.dc_plain.proofs.Made.{spots_total}
 use Rattle.dc_plain.proofs.Takes.{lookup-take}
-use Rattle.dc_plain.proofs.Holders.{holder-live, other_test, same_test, decided, decided_not}
-use Rattle.dc_plain.proofs.Moved.{IsReady, moved_to, holder_else, holder_moved, still_free, single}
+use Rattle.dc_plain.proofs.Holders.{holder-live, same_test, decided, decided_not}
+use Rattle.dc_plain.proofs.Moved.{IsReady, moved_to, holder_else, holder_moved, single}
 use Rattle.dc_plain.proofs.SameFacts.{IsAmong, KeepsOthers, decide, same_spot, same_key, entry-same, parent-same, no_parent, parent-fact, entry-fact, no_entry, tied}
 
 pub some_counted : (spot : Spot) (n : ℕ) (es : List (Spot × ℕ)) → lookup spot_cmp spot es ≡ Some n → 1 ≤ how_many (λ (e : Spot × ℕ). e.1 == n) es

@@ -1,21 +1,20 @@
 -- Which keys a name that goes touches.
-use Rattle.std.proofs.Common.{◌≡◌, ◌≢◌, ◌⊎◌, inl, inr, ℕ, ◌+◌, ◌≤◌, ◌==◌, List, [], ◌∷◌, Bool, true, false, cond, not, Option, Some, None, is_some, IsTrue, refl, ap, sym, ◌∙◌, arith, option_and_then, subst, if◌then◌else◌}
+use Rattle.std.proofs.Common.{◌≡◌, ◌≢◌, ◌⊎◌, inl, inr, ℕ, ◌+◌, ◌==◌, List, [], ◌∷◌, Bool, true, false, cond, not, Option, Some, None, is_some, IsTrue, refl, ap, sym, ◌∙◌, arith, option_and_then, subst, if◌then◌else◌}
 use Rattle.std.proofs.lemmas.Bool.Decides.{nat_tests}
-use Rattle.std.specs.Ordering.{nat_cmp, eq_by_cmp}
-use Rattle.std.specs.FinMap.Entries.{find as lookup}
+use Rattle.std.specs.Ordering.{eq_by_cmp}
 use Rattle.dc_names.specs.declared.kind.Kind.TheVariants.{Dir}
 use Rattle.dc_plain.specs.Facts.{Key, Label}
 use Rattle.dc_plain.specs.Facts.Label.{Entry, Parent, Text}
-use Rattle.dc_plain.specs.Trees.{Tree, Spot, Inode, spot_cmp, inode_of, target_of, place_at, entry_of, text_of, text_in, fact_at, kind_of, holder_of, names_of, is_live_directory, is_directory_inode, without_number, without_spot}
+use Rattle.dc_plain.specs.Trees.{Tree, Inode, spot_cmp, inode_of, target_of, place_at, entry_of, text_of, text_in, fact_at, kind_of, holder_of, names_of, is_live_directory, is_directory_inode, without_number}
 use Rattle.dc_plain.specs.Trees.Inode.{Directory, Regular, Symbolic}
 use Rattle.dc_plain.specs.Effects.{without_entry}
 use Rattle.dc_plain.specs.TouchedKeys.{entry_key, own_keys, keys_at, keys_gone}
 use Rattle.dc_plain.specs.IsWellFormed.{IsWellFormed}
-use Rattle.dc_plain.proofs.Made.{spots_total, some_in, is_directory_in}
+use Rattle.dc_plain.proofs.Made.{spots_total, some_in}
 use Rattle.dc_plain.proofs.Takes.{lookup-take}
-use Rattle.dc_plain.proofs.Holders.{holder-live, other_test, same_test, decided, decided_not}
+use Rattle.dc_plain.proofs.Holders.{holder-live, same_test, decided, decided_not}
 use Rattle.dc_plain.proofs.Moved.{held_by}
-use Rattle.dc_plain.proofs.Removed.{IsUnentered, left_of, without_entry-IsWellFormed, inode_without, still_there, one_less, not_root, not_holder, holder_left, either_left, inode-left}
+use Rattle.dc_plain.proofs.Removed.{IsUnentered, left_of, without_entry-IsWellFormed, inode_without, one_less, not_root, not_holder, holder_left, either_left, inode-left}
 use Rattle.dc_plain.proofs.Keys.{target_lives}
 use Rattle.dc_plain.proofs.SameFacts.{IsAmong, KeepsOthers, AltersEach, decide, same_key, place-same, text-same, entry-same, parent-same, no_parent, parent-fact, entry-fact, no_entry, tied, entries-differ, texts-differ}
 

@@ -1,7 +1,7 @@
 -- Which keys a rename touches.
-use Rattle.std.proofs.Common.{◌≡◌, ◌≢◌, ◌⊎◌, inl, inr, ℕ, ◌≤◌, ◌==◌, ◌&&◌, List, [], ◌∷◌, ◌++◌, Bool, true, false, cond, not, Option, Some, None, is_some, IsTrue, refl, ap, sym, ◌∙◌, arith, subst, if◌then◌else◌}
+use Rattle.std.proofs.Common.{◌≡◌, ◌≢◌, ◌⊎◌, inl, inr, ℕ, ◌==◌, ◌&&◌, List, [], ◌∷◌, ◌++◌, Bool, true, false, not, Option, Some, None, IsTrue, refl, ap, sym, ◌∙◌, arith, subst, if◌then◌else◌}
 use Rattle.dc_names.specs.declared.kind.Kind.TheVariants.{Dir}
-use Rattle.dc_plain.specs.Facts.{Key, Label, Place}
+use Rattle.dc_plain.specs.Facts.{Key, Place}
 use Rattle.dc_plain.specs.Facts.Label.{Entry, Parent}
 use Rattle.dc_plain.specs.Trees.{Tree, Inode, inode_of, target_of, entry_of, fact_at, kind_of, names_of, is_live_directory, is_directory_inode}
 use Rattle.dc_plain.specs.Trees.Inode.{Directory}
@@ -12,7 +12,7 @@ use Rattle.dc_plain.proofs.Made.{is_directory_in}
 use Rattle.dc_plain.proofs.Holders.{holder-live, decided_not}
 use Rattle.dc_plain.proofs.Removed.{IsUnentered, inode-left}
 use Rattle.dc_plain.proofs.Moved.{IsReady, moved_to}
-use Rattle.dc_plain.proofs.KeysRemoved.{removed-others, gone-each}
+use Rattle.dc_plain.proofs.KeysRemoved.{removed-others}
 use Rattle.dc_plain.proofs.KeysMoved.{some_counted, holder_is, old_after, new_after, parent_after, moved-others}
 use Rattle.dc_plain.proofs.SameFacts.{IsAmong, KeepsOthers, AltersEach, parent-fact, entry-fact, entries-differ}
 

@@ -1,5 +1,5 @@
 -- Which facts of two trees are the same.
-use Rattle.std.proofs.Common.{◌≡◌, ◌≢◌, ◌⊎◌, inl, inr, ℕ, ◌==◌, List, [], ◌∷◌, ◌++◌, Bool, true, false, cond, not, Option, Some, None, IsTrue, refl, ap, sym, ◌∙◌, arith, option_map, option_and_then, if◌then◌else◌, subst}
+use Rattle.std.proofs.Common.{◌≡◌, ◌≢◌, ◌⊎◌, inl, inr, ℕ, ◌==◌, List, [], ◌∷◌, Bool, true, false, not, Option, Some, None, IsTrue, refl, ap, sym, ◌∙◌, option_map, option_and_then, if◌then◌else◌}
 use Rattle.std.specs.Ordering.{eq_by_cmp, is_eq}
 use Rattle.std.specs.declared.cmp.Ordering.{Ordering}
 use Rattle.std.specs.declared.cmp.Ordering.TheVariants.{Less, Equal, Greater}
@@ -12,8 +12,6 @@ use Rattle.dc_plain.specs.Facts.{Place, Key, Label}
 use Rattle.dc_plain.specs.Facts.Label.{Entry, Parent, Text}
 use Rattle.dc_plain.specs.Resolution.{root}
 use Rattle.dc_plain.specs.Trees.{Tree, Spot, Inode, spot_cmp, inode_of, target_of, place_at, entry_of, text_of, text_in, fact_at, kind_of, holder_of, is_live_directory, is_directory_inode}
-use Rattle.dc_plain.specs.Trees.Inode.{Directory}
-use Rattle.dc_plain.specs.IsWellFormed.{IsWellFormed}
 use Rattle.std.specs.Cmp.{tied_itself}
 use Rattle.dc_plain.proofs.Made.{is_directory_in, spots_total}
 use Rattle.dc_plain.proofs.Holders.{other_test}
