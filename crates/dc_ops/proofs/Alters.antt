@@ -1,0 +1,77 @@
+-- What is carried out makes another tree.
+use Rattle.std.proofs.Common.{◌≡◌, ◌≢◌, ℕ, ◌+◌, ◌==◌, List, Bool, true, false, not, cond, Option, Some, None, Ok, Err, refl, ap, sym, ◌∙◌, arith, if◌then◌else◌}
+use Rattle.std.specs.Cmp.{tied_itself}
+use Rattle.std.specs.Ordering.{is_eq}
+use Rattle.std.specs.FinMap.Entries.{put}
+use Rattle.std.specs.FinMap.Entries.{find as lookup}
+use Rattle.dc_plain.specs.Trees.{Tree, Spot, spot_cmp, target_of, how_many, names_of, without_spot, without_number}
+use Rattle.dc_plain.specs.Requests.{Request, Answer}
+use Rattle.dc_plain.specs.Requests.Answer.{Refused}
+use Rattle.dc_plain.specs.Operations.{Change, change_of, settled, operation}
+use Rattle.dc_plain.specs.Runs.{alters}
+use Rattle.dc_plain.specs.Effects.{without_entry}
+use Rattle.dc_plain.proofs.Made.{spots_total}
+use Rattle.dc_plain.proofs.Takes.{lookup-take}
+use Rattle.dc_plain.proofs.Puts.{count-put}
+use Rattle.dc_plain.proofs.SameTree.{alters_so, alters_not}
+use Rattle.dc_store.specs.Added.{tree_added}
+use Rattle.dc_store.specs.Spots.{spot_at}
+use Rattle.dc_store.specs.declared.store.New as rust_new
+use Rattle.dc_store.specs.declared.store.New.TheVariants as news
+use Rattle.dc_ops.specs.declared.steps.Plan as rust_plan
+use Rattle.dc_ops.specs.declared.steps.Plan.TheVariants as plans
+use Rattle.dc_ops.specs.Plans.{effect, CanCarry, Plans, Declines}
+
+-- a new entry makes one entry more
+put_differs : (spot : Spot) (n : ℕ) (t : Tree) → target_of t spot ≡ None → put spot_cmp spot n t.entries ≢ t.entries
+put_differs spot n t free same =
+    let more = count-put spot_cmp spot n (λ e. true) t.entries free in
+    let still = ap (how_many (λ e. true)) same in
+    absurd (omega arith)
+
+added_differs : (t : Tree) (d : ℕ) (name : List ℕ) (new : rust_new.New) → target_of t (spot_at d name) ≡ None → tree_added t d name new ≢ t
+added_differs t d name news.Dir free same = put_differs (spot_at d name) t.next t free (ap (λ (u : Tree). u.entries) same)
+added_differs t d name news.File free same = put_differs (spot_at d name) t.next t free (ap (λ (u : Tree). u.entries) same)
+added_differs t d name (news.Link text) free same = put_differs (spot_at d name) t.next t free (ap (λ (u : Tree). u.entries) same)
+added_differs t d name (news.Same n) free same = put_differs (spot_at d name) n t free (ap (λ (u : Tree). u.entries) same)
+
+no_some : (n : ℕ) → ◌≡◌ {A = Option ℕ} None (Some n) → ⊥
+no_some n e = cc
+
+-- an entry that went is no longer found
+gone : (t : Tree) (spot : Spot) (n : ℕ) → target_of t spot ≡ Some n → without_spot spot t.entries ≢ t.entries
+gone t spot n there same =
+    let none : lookup spot_cmp spot (without_spot spot t.entries) ≡ None = lookup-take spot_cmp spots_total spot spot t.entries
+    ∙ ap (λ o. cond (not (is_eq o)) (lookup spot_cmp spot t.entries) None) (tied_itself spots_total spot) in
+    let still : lookup spot_cmp spot (without_spot spot t.entries) ≡ Some n = ap (lookup spot_cmp spot) same ∙ there in
+    no_some n (sym none ∙ still)
+
+entries_without : (t : Tree) (d : ℕ) (name : List ℕ) (n : ℕ) → (without_entry t d name n).entries ≡ without_spot (spot_at d name) t.entries
+entries_without t d name n = by (names_of (record t { entries = without_spot (spot_at d name) t.entries }) n == 0)
+  where
+    by : (b : Bool) → (if b then record t { entries = without_spot (spot_at d name) t.entries; inodes = without_number n t.inodes } else record t { entries = without_spot (spot_at d name) t.entries }).entries ≡ without_spot (spot_at d name) t.entries
+    by true = refl
+    by false = refl
+
+dropped_differs : (t : Tree) (d : ℕ) (name : List ℕ) (n : ℕ) → target_of t (spot_at d name) ≡ Some n → without_entry t d name n ≢ t
+dropped_differs t d name n there same = gone t (spot_at d name) n there (sym (entries_without t d name n) ∙ ap (λ (u : Tree). u.entries) same)
+
+effect_differs : (plan : rust_plan.Plan) (t : Tree) → CanCarry plan t → (effect plan t).1 ≢ t
+effect_differs (plans.Add d name new number) t can = added_differs t d name.bytes.now new can.1
+effect_differs (plans.Drop d name number) t can = dropped_differs t d name.bytes.now number can.0
+
+-- a change that comes to a plan
+pub plans_so : (limit : ℕ) (t : Tree) (request : Request) (plan : rust_plan.Plan) → change_of limit t request ≡ Ok (effect plan t) → CanCarry plan t → Plans limit t request plan
+plans_so limit t request plan is can =
+    let whole : operation limit t request ≡ effect plan t = ap (settled t) is in
+    record {
+      operation = whole;
+      can = can;
+      alters = alters_so limit t request (λ same. effect_differs plan t can (ap (λ (p : Answer × Tree). p.1) (sym whole) ∙ same));
+    }
+
+-- and one that is refused
+pub declines_so : (limit : ℕ) (t : Tree) (request : Request) (number : ℕ) → change_of limit t request ≡ Err number → Declines limit t request (Refused number)
+declines_so limit t request number is =
+    let whole : operation limit t request ≡ (Refused number, t) = ap (settled t) is in
+    record { operation = whole; alters = alters_not limit t request (ap (λ (p : Answer × Tree). p.1) whole) }

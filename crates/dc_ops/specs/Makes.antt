@@ -1,0 +1,38 @@
+-- Changes that make a new inode.
+use Rattle.std.specs.Prelude.{◌≡◌, ℕ, List, Bool, true, false, None, Result}
+use Rattle.dc_names.specs.Paths.{fault_of}
+use Rattle.dc_plain.specs.Trees.{Tree, Inode}
+use Rattle.dc_plain.specs.Trees.Inode.{Directory, Regular, Symbolic}
+use Rattle.dc_plain.specs.Operations.{Change, make}
+use Rattle.dc_store.specs.declared.store.New as rust_new
+use Rattle.dc_store.specs.declared.store.New.TheVariants as news
+
+abbrev pub MakesInode : rust_new.New → Type 0
+MakesInode news.Dir = Unit {0}
+MakesInode news.File = Unit {0}
+MakesInode (news.Link text) = Unit {0}
+MakesInode (news.Same n) = ⊥
+
+-- a link's text has a path
+abbrev pub HasPath : rust_new.New → Type 0
+HasPath news.Dir = Unit {0}
+HasPath news.File = Unit {0}
+HasPath (news.Link text) = fault_of text.now ≡ None
+HasPath (news.Same n) = Unit {0}
+
+-- the inode that is made
+abbrev pub inode_made : rust_new.New → Inode
+inode_made news.Dir = Directory
+inode_made news.File = Regular
+inode_made (news.Link text) = Symbolic text.now
+inode_made (news.Same n) = Regular
+
+-- a slash may end the path of a new directory alone
+abbrev pub may_end_in_slash : rust_new.New → Bool
+may_end_in_slash news.Dir = true
+may_end_in_slash news.File = false
+may_end_in_slash (news.Link text) = false
+may_end_in_slash (news.Same n) = false
+
+abbrev pub made_for : ℕ → Tree → ℕ → List ℕ → rust_new.New → Change
+made_for limit t base text new = make limit t base text (may_end_in_slash new) (inode_made new)

@@ -1,0 +1,64 @@
+ghost use Rattle.std.specs.Prelude.{◌≡◌, false, refl, IsTrue};
+ghost use Rattle.dc_plain.specs.Facts.Label.{Entry, Parent};
+ghost use Rattle.dc_plain.specs.Trees.{told_of, entry_of};
+ghost use Rattle.dc_names.specs.Paths.Part.{DotDot};
+ghost use Rattle.dc_resolve.specs.Asked.{may_be_found};
+ghost use Rattle.dc_ops.specs.Same.{one_after, same_tells};
+
+use dc_names::{Kind, Name, Part};
+use dc_resolve::{Finder, Stop};
+use dc_store::Store;
+
+/// Answers the questions of a walk from a store.
+pub struct StoreFinder<'a, S: Store> {
+    pub store: &'a S,
+}
+
+/// Where a name in a directory leads.
+pub fn entry<S: Store>(store: &S, dir: u64, name: Name<'_>) -> Option<(u64, Kind)>
+    ensures { result ≡ entry_of (S.tree store.now) dir (Entry name.entry.bytes.now) }
+{
+    let number = store.find(dir, name)?;
+    let kind = store.kind(number)?;
+    Some((number, kind))
+}
+
+/// The directory that a directory's dot-dot leads to.
+fn up<S: Store>(store: &S, dir: u64) -> Option<(u64, Kind)>
+    ensures up { result ≡ entry_of (S.tree store.now) dir Parent }
+    ensures directory { IsTrue (may_be_found DotDot result) }
+{
+    let number = store.parent(dir)?;
+    Some((number, Kind::Dir))
+}
+
+impl<'a, S: Store> Finder for StoreFinder<'a, S> {
+    type Text = &'a [u8];
+
+    ghost said = { λ finder. told_of (S.tree finder.store.now) };
+
+    ghost has_stopped = { λ finder. false };
+
+    ghost becomes = { λ f g. S.tree g.store.now ≡ S.tree f.store.now };
+
+    fn find(&mut self, dir: u64, part: Part<'_>) -> Result<Option<(u64, Kind)>, Stop> {
+        match part {
+            Part::Normal(name) => Ok(entry(self.store, dir, name)),
+            Part::DotDot => Ok(up(self.store, dir)),
+            Part::Dot => unreachable!(),
+        }
+    }
+
+    fn link_text(&mut self, number: u64) -> Result<&'a [u8], Stop> {
+        match self.store.text(number) {
+            Some(text) => Ok(text),
+            None => unreachable!(),
+        }
+    }
+
+    ghost stays = { λ f. refl };
+
+    ghost goes_on = { λ f g h p q. one_after (S.tree f.store.now) (S.tree g.store.now) (S.tree h.store.now) p q };
+
+    ghost keeps = { λ f g p. same_tells (S.tree f.store.now) (S.tree g.store.now) p };
+}
