@@ -6,3 +6,5 @@ pub mod Made
 pub mod Linked
 pub mod HowMany
 pub mod Dropped
+pub mod HowManyHeld
+pub mod Listed

@@ -1,6 +1,8 @@
 -- The bytes that an entry is kept under: its directory's number in 8 bytes, the highest first, and its name.
-use Rattle.std.specs.Prelude.{◌≡◌, ℕ, ◌<◌, ◌^◌, List, ◌++◌, take, drop}
+use Rattle.std.specs.Prelude.{◌≡◌, ℕ, ◌<◌, ◌^◌, List, [], ◌∷◌, ◌++◌, take, drop, Option, Some, None, if◌then◌else◌}
 use Rattle.std.specs.Int.{w64, to_be_bytes, from_be_bytes}
+use Rattle.std.specs.Option.{option_to_list}
+use Rattle.std.specs.Str.{bytes_eq}
 use Rattle.dc_plain.specs.Trees.{Spot}
 
 unfoldable pub number_bytes : ℕ → List ℕ
@@ -14,6 +16,15 @@ key_of spot = number_bytes spot.directory ++ spot.name
 
 abbrev pub spot_in : List ℕ → Spot
 spot_in key = record { directory = number_in (take 8 key); name = drop 8 key }
+
+-- the name of a key, where it is for an entry in a directory
+abbrev pub name_held : ℕ → List ℕ → Option (List ℕ)
+name_held d key = if bytes_eq (take 8 key) (number_bytes d) then Some (drop 8 key) else None
+
+-- the names of the keys that are for entries in a directory
+abbrev pub names_held : ℕ → List (List ℕ) → List (List ℕ)
+names_held d [] = []
+names_held d (key ∷ keys) = option_to_list (name_held d key) ++ names_held d keys
 
 -- the bytes are the key of a spot
 pub record IsKey (key : List ℕ) : Type 0 where

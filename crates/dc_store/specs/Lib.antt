@@ -2,5 +2,6 @@
 pub mod Spots
 pub mod Added
 pub mod Keys
+pub mod Counts
 pub mod Dropped
 pub mod Maps

@@ -5,7 +5,7 @@ ghost use Rattle.dc_store.specs.Added.{CanBeNamed};
 ghost use Rattle.dc_store.specs.Maps.{tree_in, node_shown, IsNodeAt, CanKeep, IsSound};
 ghost use Rattle.dc_store.specs.Spots.{spot_at};
 
-use crate::counts::drop_unnamed;
+use crate::counts::{drop_unnamed, held, names, names_held};
 use crate::key::Key;
 use crate::node::Node;
 use crate::store::{New, Store};
@@ -116,6 +116,19 @@ impl Store for MapStore {
 
     fn next(&self) -> u64 {
         self.next
+    }
+
+    fn count(&self, number: u64) -> u64 {
+        match self.kind(number) {
+            Some(Kind::Dir) => held(&self.entries, number),
+            Some(Kind::File) => names(&self.entries, number),
+            Some(Kind::Link) => names(&self.entries, number),
+            None => 0,
+        }
+    }
+
+    fn list(&self, alloc: Global, dir: u64) -> Result<Vec<Vec<u8>>, NoMemory> {
+        names_held(alloc, &self.entries, dir)
     }
 
     fn add(

@@ -1,10 +1,11 @@
-ghost use Rattle.std.specs.Prelude.{◌≡◌, ℕ, None, length, option_map, IsTrue, IfSome, IfOk, OnOk, OnErr};
+ghost use Rattle.std.specs.Prelude.{◌≡◌, ℕ, None, length, map, option_map, IsTrue, IfSome, IfOk, OnOk, OnErr};
 ghost use Rattle.dc_names.specs.Paths.{fault_of};
 ghost use Rattle.dc_plain.specs.Effects.{without_entry};
 ghost use Rattle.dc_plain.specs.Facts.Label.{Parent};
 ghost use Rattle.dc_plain.specs.IsWellFormed.{IsWellFormed};
-ghost use Rattle.dc_plain.specs.Trees.{Tree, target_of, inode_of, entry_of, text_of, kind_of, is_live_directory};
+ghost use Rattle.dc_plain.specs.Trees.{Tree, target_of, inode_of, entry_of, text_of, kind_of, names_in, is_live_directory};
 ghost use Rattle.dc_store.specs.Added.{CanAdd, tree_added, number_added};
+ghost use Rattle.dc_store.specs.Counts.{count_of};
 ghost use Rattle.dc_store.specs.Dropped.{CanDrop};
 ghost use Rattle.dc_store.specs.Spots.{spot_at};
 
@@ -56,6 +57,14 @@ pub trait Store {
     fn next(&self) -> u64
         ensures next { result ≡ (tree self.now).next }
         ensures well { IsWellFormed (tree self.now) };
+
+    /// How many names a file or link has, or how many entries stand in a directory. 0 where nothing lives.
+    fn count(&self, number: u64) -> u64
+        ensures { result ≡ count_of (tree self.now) number };
+
+    /// The names in a directory, by their bytes. `NoMemory` where memory was refused.
+    fn list(&self, alloc: Global, dir: u64) -> Result<Vec<Vec<u8>>, NoMemory>
+        ensures { IfOk result (λ names. map (λ name. name.items) names.items ≡ names_in (tree self.now) dir) };
 
     /// Adds an entry, with a new inode or for one that lives, and answers the number that it leads to.
     /// `NoMemory` where memory was refused: then nothing has changed.

@@ -1,0 +1,20 @@
+use Rattle.std.proofs.Common.{Some, ap, sym, ◌∙◌, length}
+use Rattle.dc_names.specs.declared.kind.Kind.TheVariants.{Dir, File, Link}
+use Rattle.dc_plain.specs.Trees.{Tree, names_in, names_of}
+use Rattle.dc_store.proofs.HowManyHeld.{names_counted, names_among, count_as}
+use Rattle.dc_store.proofs.map_store.MapStoreStore.count.Goals as goal
+
+pub returns-in-Some-Dir : goal.returns-in-Some-Dir
+returns-in-Some-Dir c =
+    c.held.ensures ∙ names_counted c.args.number c.ranges.number.fits c.self.inside.entries.entries c.self.inside.nodes.entries c.self.inside.next c.self.invariant.keys
+    ∙ ap (λ (t : Tree). length (names_in t c.args.number)) c.self.view_is ∙ count_as c.args.self.now c.args.number Dir (ap (λ k. Some k) (sym c.in-Some-Dir.field-0-is) ∙ c.in-Some-Dir.ensures)
+
+pub returns-in-Some-File : goal.returns-in-Some-File
+returns-in-Some-File c =
+    c.names.ensures ∙ names_among c.self.inside.entries.entries c.args.number ∙ ap (λ (t : Tree). names_of t c.args.number) c.self.view_is
+    ∙ count_as c.args.self.now c.args.number File (ap (λ k. Some k) (sym c.in-Some-File.field-0-is) ∙ c.in-Some-File.ensures)
+
+pub returns-in-Some-Link : goal.returns-in-Some-Link
+returns-in-Some-Link c =
+    c.names-in-Some-Link.ensures ∙ names_among c.self.inside.entries.entries c.args.number ∙ ap (λ (t : Tree). names_of t c.args.number) c.self.view_is
+    ∙ count_as c.args.self.now c.args.number Link (ap (λ k. Some k) (sym c.in-Some-Link.field-0-is) ∙ c.in-Some-Link.ensures)
