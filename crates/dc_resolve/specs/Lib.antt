@@ -6,3 +6,4 @@ pub mod Steps
 pub mod Ends
 pub mod Fits
 pub mod Spots
+pub mod Tables

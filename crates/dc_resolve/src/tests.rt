@@ -1,0 +1,289 @@
+ghost use Rattle.std.specs.Prelude.{◌≡◌, option_map, refl};
+ghost use Rattle.std.proofs.Common.{sym, subst, ◌∙◌};
+ghost use Rattle.dc_plain.specs.Tellers.{Extends};
+ghost use Rattle.dc_resolve.specs.Tables.{target_in, parent_in, text_in, said_by};
+
+use crate::{Finder, Last, Placed, Stop, Walked, place, walk};
+use arrayvec::ArrayVec;
+use dc_names::{Kind, Part, PathText, TextFault, parse};
+use dc_plain::Follow;
+use std::test::Fail;
+
+/// A name in a directory, and where it leads.
+type Row<'a> = (u64, &'a [u8], (u64, Kind));
+
+/// Where a name leads by rows.
+fn target_in(rows: &[Row<'_>], dir: u64, name: &[u8]) -> Option<(u64, Kind)>
+    ensures { result ≡ target_in rows.now dir name.now }
+{
+    rows.iter()
+        .find(|row| row.0 == dir && row.1 == name)
+        .map(|row| row.2)
+}
+
+/// Where a directory's dot-dot leads by pairs.
+fn parent_in(parents: &[(u64, u64)], dir: u64) -> Option<u64>
+    ensures { result ≡ parent_in parents.now dir }
+{
+    parents.iter().find(|up| up.0 == dir).map(|up| up.1)
+}
+
+/// The text of a link by pairs.
+fn text_in<'a>(texts: &[(u64, &'a [u8])], number: u64) -> Option<&'a [u8]>
+    ensures { option_map (λ text. text.now) result ≡ text_in texts.now number }
+{
+    texts
+        .iter()
+        .find(|link| link.0 == number)
+        .map(|link| link.1)
+}
+
+/// Entries, parents and texts of links, that stay as they are.
+#[derive(Clone, Copy)]
+struct Table<'a> {
+    rows: &'a [Row<'a>],
+    parents: &'a [(u64, u64)],
+    texts: &'a [(u64, &'a [u8])],
+}
+
+/// Answers from a table, and notes what is asked: a name by its first byte, a text as `@`.
+#[derive(Drop)]
+struct Fixed<'a> {
+    table: Table<'a>,
+    asked: ArrayVec<(u64, u8), 32>,
+    stopped: bool,
+}
+
+impl Fixed<'_> {
+    fn note(&mut self, number: u64, what: u8)
+        ensures table { self.new.table ≡ self.old.table }
+        ensures stopped { self.new.stopped ≡ self.old.stopped }
+    {
+        let _ = self.asked.try_push((number, what));
+    }
+}
+
+fn first_byte(part: Part<'_>) -> u8 {
+    match part {
+        Part::Normal(name) => *name.bytes().first().unwrap_or(&0),
+        Part::Dot | Part::DotDot => b'.',
+    }
+}
+
+impl<'a> Finder for Fixed<'a> {
+    type Text = &'a [u8];
+
+    ghost said = { λ fixed. said_by fixed.table.rows.now fixed.table.parents.now fixed.table.texts.now };
+
+    ghost has_stopped = { λ fixed. fixed.stopped };
+
+    ghost becomes = { λ f g. g.table ≡ f.table };
+
+    fn find(&mut self, dir: u64, part: Part<'_>) -> Result<Option<(u64, Kind)>, Stop> {
+        self.note(dir, first_byte(part));
+        match part {
+            Part::Normal(name) => Ok(target_in(self.table.rows, dir, name.bytes())),
+            Part::DotDot => Ok(parent_in(self.table.parents, dir).map(|up| (up, Kind::Dir))),
+            Part::Dot => unreachable!(),
+        }
+    }
+
+    fn link_text(&mut self, number: u64) -> Result<&'a [u8], Stop> {
+        self.note(number, b'@');
+        match text_in(self.table.texts, number) {
+            Some(text) if parse(text).is_ok() => Ok(text),
+            _ => {
+                self.stopped = true;
+                Err(Stop)
+            }
+        }
+    }
+
+    ghost stays = { λ f. refl };
+
+    ghost goes_on = { λ f g h p q. q ∙ p };
+
+    ghost keeps = { λ f g p. subst (λ t. Extends (said_by f.table.rows.now f.table.parents.now f.table.texts.now) (said_by t.rows.now t.parents.now t.texts.now)) (sym p) (record { entry = λ d label found told. told; text = λ n bytes told. told }) };
+}
+
+const ROWS: [Row<'static>; 22] = [
+    (1, b"d", (2, Kind::Dir)),
+    (2, b"f", (3, Kind::File)),
+    (2, b"e", (4, Kind::Dir)),
+    (1, b"r", (10, Kind::Link)),
+    (2, b"a", (11, Kind::Link)),
+    (2, b"p", (12, Kind::Link)),
+    (1, b"l", (13, Kind::Link)),
+    (1, b"x", (14, Kind::Link)),
+    (2, b"q", (15, Kind::Link)),
+    (2, b"s", (16, Kind::Link)),
+    (1, b"bad", (17, Kind::Link)),
+    (1, b"c1", (21, Kind::Link)),
+    (1, b"c2", (22, Kind::Link)),
+    (1, b"c3", (23, Kind::Link)),
+    (1, b"c4", (24, Kind::Link)),
+    (1, b"c5", (25, Kind::Link)),
+    (1, b"c6", (26, Kind::Link)),
+    (1, b"c7", (27, Kind::Link)),
+    (1, b"c8", (28, Kind::Link)),
+    (1, b"c9", (29, Kind::Link)),
+    (1, &[b'n'; 255], (30, Kind::File)),
+    (4, b"up", (31, Kind::Link)),
+];
+
+const PARENTS: [(u64, u64); 3] = [(1, 1), (2, 1), (4, 2)];
+
+const TEXTS: [(u64, &[u8]); 17] = [
+    (10, b"d/e/"),
+    (11, b"/d/e"),
+    (12, b"e/../f"),
+    (13, b"l"),
+    (14, b"none"),
+    (15, b"f"),
+    (16, b"f/"),
+    (17, b""),
+    (21, b"d"),
+    (22, b"c1"),
+    (23, b"c2"),
+    (24, b"c3"),
+    (25, b"c4"),
+    (26, b"c5"),
+    (27, b"c6"),
+    (28, b"c7"),
+    (29, b"c8"),
+];
+
+fn new_fixed<'a>(
+    rows: &'a [Row<'a>],
+    parents: &'a [(u64, u64)],
+    texts: &'a [(u64, &'a [u8])],
+) -> Fixed<'a> {
+    Fixed {
+        table: Table {
+            rows,
+            parents,
+            texts,
+        },
+        asked: ArrayVec::new(),
+        stopped: false,
+    }
+}
+
+fn walked(base: u64, path: &[u8], follow: Follow) -> Result<Walked, TextFault> {
+    let mut finder = new_fixed(&ROWS, &PARENTS, &TEXTS);
+    Ok(walk(&mut finder, base, parse(path)?, follow))
+}
+
+#[test]
+fn walks(rt: HostRuntime) -> Result<(), Fail> {
+    let cases: [(u64, &[u8], Follow, Walked); 34] = [
+        (1, b"/d/f", Follow::Yes, Walked::Found(3, Kind::File)),
+        (1, b"//d//f", Follow::Yes, Walked::Found(3, Kind::File)),
+        (2, b"f", Follow::Yes, Walked::Found(3, Kind::File)),
+        (4, b"../f", Follow::Yes, Walked::Found(3, Kind::File)),
+        (4, b".", Follow::Yes, Walked::Found(4, Kind::Dir)),
+        (1, b"/", Follow::Dir, Walked::Found(1, Kind::Dir)),
+        (1, b"/../..", Follow::Yes, Walked::Found(1, Kind::Dir)),
+        (1, b"/d/f/", Follow::Yes, Walked::Refused(20)),
+        (1, b"/d/f/e", Follow::Yes, Walked::Refused(20)),
+        (1, b"/d/f/..", Follow::Yes, Walked::Refused(20)),
+        (1, b"/d/f", Follow::Dir, Walked::Refused(20)),
+        (1, b"/none/e", Follow::Yes, Walked::Refused(2)),
+        (1, b"/r", Follow::No, Walked::Found(10, Kind::Link)),
+        (1, b"/r", Follow::Yes, Walked::Found(4, Kind::Dir)),
+        (1, b"/r", Follow::Dir, Walked::Found(4, Kind::Dir)),
+        (1, b"/r/", Follow::No, Walked::Found(4, Kind::Dir)),
+        (1, b"/r/..", Follow::Yes, Walked::Found(2, Kind::Dir)),
+        (1, b"/d/a/.", Follow::Yes, Walked::Found(4, Kind::Dir)),
+        (1, b"/d/p", Follow::Yes, Walked::Found(3, Kind::File)),
+        (1, b"/d/q", Follow::Yes, Walked::Found(3, Kind::File)),
+        (1, b"/d/q/", Follow::No, Walked::Refused(20)),
+        (1, b"/d/s", Follow::No, Walked::Found(16, Kind::Link)),
+        (1, b"/d/s", Follow::Yes, Walked::Refused(20)),
+        (1, b"/x", Follow::Yes, Walked::Refused(2)),
+        (1, b"/l", Follow::Yes, Walked::Refused(40)),
+        (1, b"/bad", Follow::Yes, Walked::Stopped),
+        (1, b"/c8", Follow::Yes, Walked::Found(2, Kind::Dir)),
+        (1, b"/c9", Follow::Yes, Walked::Refused(40)),
+        (1, b"/c9", Follow::No, Walked::Found(29, Kind::Link)),
+        (1, b"/c7/q", Follow::Yes, Walked::Found(3, Kind::File)),
+        (1, b"/c8/q", Follow::Yes, Walked::Refused(40)),
+        (1, &[b'n'; 255], Follow::Yes, Walked::Found(30, Kind::File)),
+        (3, b"f", Follow::Yes, Walked::Refused(2)),
+        (99, b"/d/f", Follow::Yes, Walked::Found(3, Kind::File)),
+    ];
+    for (base, path, follow, want) in cases {
+        assert_eq!(rt; walked(base, path, follow)?, want);
+    }
+    Ok(())
+}
+
+#[test]
+fn counts_the_paths_apart(rt: HostRuntime) -> Result<(), Fail> {
+    let mut finder = new_fixed(&ROWS, &PARENTS, &TEXTS);
+    let path = parse(b"/c8")?;
+    let first = walk(&mut finder, 1, path, Follow::Yes);
+    let second = walk(&mut finder, 1, path, Follow::Yes);
+    assert_eq!(rt; first, Walked::Found(2, Kind::Dir));
+    assert_eq!(rt; second, Walked::Found(2, Kind::Dir));
+    Ok(())
+}
+
+#[test]
+fn asks_in_order(rt: HostRuntime) -> Result<(), Fail> {
+    let cases: [(u64, &[u8], &[(u64, u8)]); 6] = [
+        (
+            4,
+            b"../q/.",
+            &[(4, b'.'), (4, b'.'), (2, b'q'), (15, b'@'), (2, b'f')],
+        ),
+        (4, b".", &[(4, b'.')]),
+        (1, b"d/..", &[(1, b'd'), (2, b'.')]),
+        (4, b"/../d", &[(1, b'd')]),
+        (1, b".././", &[]),
+        (1, b"/d/q", &[(1, b'd'), (2, b'q')]),
+    ];
+    for (base, path, want) in cases {
+        let mut finder = new_fixed(&ROWS, &PARENTS, &TEXTS);
+        let _ = walk(&mut finder, base, parse(path)?, Follow::No);
+        assert!(rt; finder.asked.as_slice() == want);
+    }
+    Ok(())
+}
+
+/// The directory, the last part as it is spelled, and the slash.
+fn shown<'p>(placed: Placed<'p>) -> Result<(u64, &'p [u8], bool), u64> {
+    match placed {
+        Placed::At(dir, Last::Root, slash) => Ok((dir, b"/", slash)),
+        Placed::At(dir, Last::Dot, slash) => Ok((dir, b".", slash)),
+        Placed::At(dir, Last::DotDot, slash) => Ok((dir, b"..", slash)),
+        Placed::At(dir, Last::Normal(name), slash) => Ok((dir, name.bytes(), slash)),
+        Placed::Refused(number) => Err(number),
+        Placed::Stopped => Err(0),
+    }
+}
+
+#[test]
+fn places(rt: HostRuntime) -> Result<(), Fail> {
+    let cases: [(u64, &[u8], Result<(u64, &[u8], bool), u64>); 14] = [
+        (1, b"/d/f", Ok((2, b"f", false))),
+        (1, b"/d/new//", Ok((2, b"new", true))),
+        (1, b"///", Ok((1, b"/", false))),
+        (1, b"/d/..", Ok((2, b"..", false))),
+        (4, b".", Ok((4, b".", false))),
+        (4, b"../g", Ok((2, b"g", false))),
+        (1, b"/l", Ok((1, b"l", false))),
+        (1, b"/r/g", Ok((4, b"g", false))),
+        (1, b"/c8/g", Ok((2, b"g", false))),
+        (1, b"/c9/g", Err(40)),
+        (1, b"/d/q/g", Err(20)),
+        (1, b"/none/g", Err(2)),
+        (3, b"g", Err(2)),
+        (1, b"/bad/g", Err(0)),
+    ];
+    for (base, path, want) in cases {
+        let mut finder = new_fixed(&ROWS, &PARENTS, &TEXTS);
+        assert!(rt; shown(place(&mut finder, base, parse(path)?)) == want);
+    }
+    Ok(())
+}
