@@ -1,3 +1,4 @@
 -- The rows of the cache, and the words that spell them.
+pub mod Rooms
 pub mod Rows
 pub mod Spelling

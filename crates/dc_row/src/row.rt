@@ -2,14 +2,14 @@ use crate::RowText;
 use dc_names::Kind;
 
 /// The entry of a directory that a row tells of.
-#[derive(Drop)]
+#[derive(Debug, Drop, PartialEq, Eq)]
 pub enum RowLabel {
     Name(RowText),
     DotDot,
 }
 
 /// What a row of the cache tells.
-#[derive(Drop)]
+#[derive(Debug, Drop, PartialEq, Eq)]
 pub enum Row {
     /// Nothing.
     Empty,

@@ -1,7 +1,5 @@
 use crate::{ROW_WORDS, Row, RowLabel, RowText, decode, encode, kind, length, number, tag, value};
 use dc_names::Kind;
-use std::process::Abort;
-
 /// Whether the row is spelled by these words, whatever the sequence count is.
 fn is_spelled_by(row: &Row, words: &[u64; ROW_WORDS]) -> bool {
     match encode(row) {
@@ -44,20 +42,15 @@ fn example(at: usize) -> Option<Row> {
     }
 }
 
+fn words_of(at: usize) -> Option<[u64; ROW_WORDS]> {
+    encode(&example(at)?)
+}
+
 #[test]
 fn spells_the_examples(rt: HostRuntime) {
     for at in 0..5 {
-        let words = EXAMPLES[at];
-        let row = example(at);
-        assert!(rt; row.is_some());
-        if let Some(row) = row {
-            assert_eq!(rt; encode(&row), Some(words));
-        }
-        let read = decode(&words);
-        assert!(rt; read.is_some());
-        if let Some(read) = read {
-            assert!(rt; is_spelled_by(&read, &words));
-        }
+        assert_eq!(rt; words_of(at), Some(EXAMPLES[at]));
+        assert_eq!(rt; decode(&EXAMPLES[at]), example(at));
     }
 }
 
@@ -100,9 +93,9 @@ fn spells_nothing_with_a_byte_after_the_text(rt: HostRuntime) {
 fn spells_with_one_bit_turned_just_what_is_read(rt: HostRuntime) {
     for words in EXAMPLES {
         for at in 1..ROW_WORDS {
-            for bit in 0..64 {
+            for bit in 0..64u32 {
                 let mut turned = words;
-                turned[at] ^= 1 << bit;
+                turned[at] ^= 1u64 << bit;
                 assert!(rt; is_nothing_or_spelled(&turned));
             }
         }
@@ -115,16 +108,44 @@ fn next(seed: u64) -> u64 {
         .wrapping_add(1442695040888963407)
 }
 
+/// Eight letters, of which the first `used` stand.
+fn letters(seed: u64, used: u64) -> u64 {
+    let all = (seed | 0x4040404040404040) & 0x7f7f7f7f7f7f7f7f;
+    if used == 0 {
+        0
+    } else if used < 8 {
+        all & (u64::MAX >> (64 - 8 * used))
+    } else {
+        all
+    }
+}
+
+/// Words such as a row has, where the text is now and then longer than its length.
+fn likely(seed: u64) -> [u64; ROW_WORDS] {
+    let len = seed % 40;
+    let mut left = len + seed / 5400 % 2;
+    let mut words = [0; ROW_WORDS];
+    words[1] = seed / 40 % 3 + 256 * len + 16777216 * (seed / 120 % 5);
+    words[2] = seed / 600 % 3;
+    words[3] = seed / 1800 % 3;
+    for word in words[4..].iter_mut() {
+        *word = letters(next(seed), left);
+        left = left.saturating_sub(8);
+    }
+    words
+}
+
 #[test]
 fn spells_at_random_just_what_is_read(rt: HostRuntime) {
     let mut seed = 1;
+    let mut rows: u64 = 0;
     for _ in 0..20000 {
-        let mut words = [0; ROW_WORDS];
-        for word in words.iter_mut() {
-            seed = next(seed);
-            *word = seed >> (seed >> 58);
-        }
-        words[1] = words[1] % 3 + 256 * (words[1] / 3 % 40) + 16777216 * (words[1] / 131 % 5);
+        seed = next(seed);
+        let words = likely(seed >> 20);
         assert!(rt; is_nothing_or_spelled(&words));
+        if decode(&words).is_some() {
+            rows = rows.wrapping_add(1);
+        }
     }
+    assert!(rt; rows > 100);
 }

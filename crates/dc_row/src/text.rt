@@ -5,18 +5,26 @@ use crate::ROW_TEXT;
 use std::marker::Model;
 
 /// The bytes of a name or of a link's text, as many as a row has room for.
-#[derive(Drop)]
+#[derive(Debug, Drop, PartialEq, Eq)]
 pub struct RowText {
     room: [u8; ROW_TEXT],
     len: usize,
 }
 
 impl Model for RowText {
+    ghost use Rattle.std.specs.Prelude.{List, ℕ};
+
     ghost Value = { List ℕ };
 
-    ghost view = { λ t. take t.len t.room };
+    ghost use Rattle.dc_row.specs.Rooms.{text_in, IsPadded, in_room, in_room-text_in};
 
-    ghost invariant = { λ t. t.len ≤ ROW_TEXT };
+    ghost view = { text_in };
+
+    ghost invariant = { IsPadded };
+
+    ghost inverse = { in_room };
+
+    ghost inverse_ok = { in_room-text_in };
 }
 
 impl RowText {
