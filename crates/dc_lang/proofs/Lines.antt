@@ -1,5 +1,5 @@
 -- What a line says is what reading computes, and nothing else.
-use Rattle.std.proofs.Common.{◌≡◌, ℕ, ◌==◌, ◌||◌, Bool, true, false, List, [], ◌∷◌, Option, Some, None, option_map, map, length, refl, sym, ap, ◌∙◌, inl, inr, cond, codes, subst, find}
+use Rattle.std.proofs.Common.{◌≡◌, ℕ, ◌==◌, ◌||◌, Bool, true, false, List, [], ◌∷◌, Option, Some, None, Result, Ok, Err, IfOk, IsErrOf, option_map, map, length, refl, sym, ap, ◌∙◌, inl, inr, cond, codes, subst, find}
 use Rattle.std.specs.Fmt.{decimal}
 use Rattle.std.specs.List.{list_any}
 use Rattle.std.specs.Str.{bytes_eq}
@@ -7,12 +7,15 @@ use Rattle.std.proofs.lemmas.Bool.Decides.{Decides-eqb}
 use Rattle.std.proofs.lemmas.List.Splits.{join_with_byte-slice_split}
 use Rattle.std.proofs.lemmas.Slice.Eq.{bytes_eq-Decides}
 use Rattle.std.proofs.lemmas.List.{length-map}
+use Rattle.dc_lang.specs.declared.line.Line.{Line}
+use Rattle.dc_lang.specs.declared.line.LineFault.{LineFault}
+use Rattle.dc_lang.specs.declared.line.LineFault.TheVariants.{Bad, NoMemory}
 use Rattle.dc_lang.specs.declared.line.Verb.{Verb}
 use Rattle.dc_lang.specs.declared.line.Verb.TheVariants.{Look, Llook, Cd, Mkdir}
 use Rattle.dc_lang.specs.Words.{spelled, spaced}
-use Rattle.dc_lang.specs.Commands.{Order, IsOrder, Said, Says, verb_text, word_count, line_text}
+use Rattle.dc_lang.specs.Commands.{Order, IsOrder, Said, Says, verb_text, word_count, line_text, said_by}
 use Rattle.dc_lang.specs.Commands.Said.{Sync, Orders}
-use Rattle.dc_lang.specs.Reading.{session_in, verbs, verb_in, words_in, counted_words, ◌>>=◌, order_in, parts, said_in}
+use Rattle.dc_lang.specs.Reading.{session_in, verbs, verb_in, words_in, counted_words, ◌>>=◌, order_in, parts, said_in, Reads}
 use Rattle.dc_lang.proofs.Words.{chosen, words_in-spelled, words_in_spells}
 use Rattle.dc_lang.proofs.Parts.{HasNoSpace, all_spelled, parts-spaced}
 use Rattle.dc_lang.proofs.Sessions.{session_in-decimal, session_in_spells, HasNoSpace-session}
@@ -144,3 +147,13 @@ says_from_said_in line said e = elim (chosen (bytes_eq line (codes "sync")) (Som
 pub one_thing : (line : List ℕ) (a b : Said) → Says line a → Says line b → a ≡ b
 one_thing line a b first second =
     let same : Some a ≡ Some b = sym (said_in_from_says line a first) ∙ said_in_from_says line b second in cc
+
+-- what is read is said by the line, and a bad line says nothing
+pub says_what_is_read : (line : List ℕ) (read : Result Line LineFault) → Reads said_by read (said_in line) → IfOk read (λ said. Says line (said_by said))
+says_what_is_read line (Ok said) e = says_from_said_in line (said_by said) e
+says_what_is_read line (Err fault) e = tt
+
+pub bad_says_nothing : (line : List ℕ) (read : Result Line LineFault) → Reads said_by read (said_in line) → IsErrOf read Bad → (said : Said) → Says line said → ⊥
+bad_says_nothing line (Ok read) e bad said says = cc
+bad_says_nothing line (Err Bad) e bad said says = let none : None ≡ Some said = sym e ∙ said_in_from_says line said says in cc
+bad_says_nothing line (Err NoMemory) e bad said says = cc

@@ -87,10 +87,7 @@ fn command_in(alloc: Global, parts: &[&[u8]]) -> Result<Command, LineFault>
     let [session, verb, words @ ..] = parts else {
         return Err(LineFault::Bad);
     };
-    let Some(session) = session_in(session) else {
-        return Err(LineFault::Bad);
-    };
-    let Some(verb) = verb_in(verb) else {
+    let (Some(session), Some(verb)) = (session_in(session), verb_in(verb)) else {
         return Err(LineFault::Bad);
     };
     if words.len() != verb.word_count() {
