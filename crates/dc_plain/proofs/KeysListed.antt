@@ -33,7 +33,7 @@ IsExact t keys u = KeepsOthers t u keys × AltersEach t u keys
 unaltered : (t : Tree) → IsExact t [] t
 unaltered t = (λ key. inr refl, λ key never. absurd never)
 
-at_name-is : (t : Tree) (base : ℕ) (text : List ℕ) (d : ℕ) (name : List ℕ) (keys : ℕ → List ℕ → List Key) → Ends_in t base text d name → at_name t base text keys ≡ keys d name
+pub at_name-is : (t : Tree) (base : ℕ) (text : List ℕ) (d : ℕ) (name : List ℕ) (keys : ℕ → List ℕ → List Key) → Ends_in t base text d name → at_name t base text keys ≡ keys d name
 at_name-is t base text d name keys ends =
     ap (λ r. by_place r keys) ends.spot ∙ ap (λ l. by_last l (keys ends.at.directory)) ends.last ∙ ap (λ (k : ℕ). keys k name) ends.directory
 
@@ -89,19 +89,21 @@ stay-exact t from old to new moved source (Some p) at same =
     let leads = entry-leads t to new p at in
     subst (λ keys. IsExact t keys t) (sym (unmoved_keys t from old to new moved.0 p.0 source.target leads.target same)) (unaltered t)
 
+-- of both names of a rename
+pub both_named : (t : Tree) (base : ℕ) (old new : List ℕ) (from : ℕ) (a : List ℕ) (to : ℕ) (b : List ℕ) → Ends_in t base old from a → Ends_in t base new to b
+    → at_name t base old (λ from a. at_name t base new (λ to b. keys_renamed t from a to b)) ≡ keys_renamed t from a to b
+both_named t base old new from a to b ends ends' =
+    at_name-is t base old from a (λ from a. at_name t base new (λ to b. keys_renamed t from a to b)) ends ∙ at_name-is t base new to b (λ to b. keys_renamed t from a to b) ends'
+
 rename-exact : (t : Tree) (base : ℕ) (old new : List ℕ) (done : Answer × Tree) → IsWellFormed t → rename t base old new ≡ Ok done
     → IsExact t (at_name t base old (λ from a. at_name t base new (λ to b. keys_renamed t from a to b))) done.1
 rename-exact t base old new done well e = elim (renames t base old new done well e) [
   | inl m ↦ subst (IsExact t (at_name t base old (λ from a. at_name t base new (λ to b. keys_renamed t from a to b)))) m.left
       (subst (λ keys. IsExact t keys (moved_to (without_there t m.to m.new_name m.there) m.from m.old_name m.to m.new_name m.moved.0))
-      (sym (both_named m.from m.old_name m.to m.new_name m.old_ends m.new_ends)) (move-exact t m.from m.old_name m.to m.new_name m.moved well m.source m.there m.at m.apart m.unentered m.ready))
+      (sym (both_named t base old new m.from m.old_name m.to m.new_name m.old_ends m.new_ends)) (move-exact t m.from m.old_name m.to m.new_name m.moved well m.source m.there m.at m.apart m.unentered m.ready))
   | inr s ↦ subst (IsExact t (at_name t base old (λ from a. at_name t base new (λ to b. keys_renamed t from a to b)))) s.left
-      (subst (λ keys. IsExact t keys t) (sym (both_named s.from s.old_name s.to s.new_name s.old_ends s.new_ends)) (stay-exact t s.from s.old_name s.to s.new_name s.moved s.source s.there s.at s.same))
+      (subst (λ keys. IsExact t keys t) (sym (both_named t base old new s.from s.old_name s.to s.new_name s.old_ends s.new_ends)) (stay-exact t s.from s.old_name s.to s.new_name s.moved s.source s.there s.at s.same))
 ]
-  where
-    both_named : (from : ℕ) (a : List ℕ) (to : ℕ) (b : List ℕ) → Ends_in t base old from a → Ends_in t base new to b → at_name t base old (λ from a. at_name t base new (λ to b. keys_renamed t from a to b)) ≡ keys_renamed t from a to b
-    both_named from a to b ends ends' =
-        at_name-is t base old from a (λ from a. at_name t base new (λ to b. keys_renamed t from a to b)) ends ∙ at_name-is t base new to b (λ to b. keys_renamed t from a to b) ends'
 
 change-exact : (limit : ℕ) (t : Tree) (request : Request) (done : Answer × Tree) → IsWellFormed t → change_of limit t request ≡ Ok done → IsExact t (listed t request) done.1
 change-exact limit t (Look base path how) done well e = reads-exact t (look t base path how) done e

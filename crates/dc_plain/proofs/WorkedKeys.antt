@@ -1,7 +1,7 @@
 -- Which keys calls touch, in small trees.
-use Rattle.std.proofs.Common.{◌≡◌, ℕ, List, [], ◌∷◌, refl}
+use Rattle.std.proofs.Common.{◌≡◌, List, [], ◌∷◌, refl}
 use Rattle.dc_plain.specs.Facts.{Key}
-use Rattle.dc_plain.specs.Trees.{Tree, empty_tree}
+use Rattle.dc_plain.specs.Trees.{empty_tree}
 use Rattle.dc_plain.specs.Requests.{Request}
 use Rattle.dc_plain.specs.Requests.Request.{Mkdir, Create, Hard_link, Symlink, Unlink, Rmdir, Rename}
 use Rattle.dc_plain.specs.Resolution.{resolve}

@@ -1,5 +1,5 @@
 -- What holds of every call on every tree.
-use Rattle.std.specs.Prelude.{◌≡◌, ◌↔◌, ◌≤◌, length, ℕ, List, Bool, IsTrue, ◌==◌, ◌||◌, Some}
+use Rattle.std.specs.Prelude.{◌≡◌, ◌≢◌, [], ◌↔◌, ◌≤◌, length, ℕ, List, Bool, IsTrue, ◌==◌, ◌||◌, Some}
 use Rattle.dc_names.specs.Paths.{Path}
 use Rattle.dc_plain.specs.declared.call.Follow.{Follow}
 use Rattle.dc_plain.specs.Facts.{Teller, Key}
@@ -11,7 +11,7 @@ use Rattle.dc_plain.specs.Places.Placed.{Not}
 use Rattle.dc_plain.specs.Trees.{Tree}
 use Rattle.dc_plain.specs.IsWellFormed.{IsWellFormed, IsWithin}
 use Rattle.dc_plain.specs.Requests.{Request}
-use Rattle.dc_plain.specs.Runs.{tree_after, tree_after_all, Touches}
+use Rattle.dc_plain.specs.Runs.{tree_after, tree_after_all, Touches, Alters}
 use Rattle.dc_plain.specs.TouchedKeys.{keys_touched}
 use Rattle.std.specs.List.{Contains}
 
@@ -52,3 +52,7 @@ TouchesTheListed = (limit : ℕ) (t : Tree) (request : Request) → IsWellFormed
 -- which are four at most
 abbrev pub TouchesFourAtMost : Type 0
 TouchesFourAtMost = (limit : ℕ) (t : Tree) (request : Request) → length (keys_touched limit t request) ≤ 4
+
+-- so a call alters a tree exactly where it touches some key
+abbrev pub AltersWhereItTouches : Type 0
+AltersWhereItTouches = (limit : ℕ) (t : Tree) (request : Request) → IsWellFormed t → Alters limit t request ↔ keys_touched limit t request ≢ []

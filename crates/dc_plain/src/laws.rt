@@ -2,7 +2,7 @@
 
 ghost use Rattle.dc_plain.specs.Trees.{empty_tree};
 ghost use Rattle.dc_plain.specs.IsWellFormed.{IsWellFormed};
-ghost use Rattle.dc_plain.specs.Laws.{KeepsTreesWellFormed, KeepsWithinLimit, KeepsRunsWellFormed, WalksRefuseByThree, PlacesRefuseByThree, WalksStay, PlacesStay, TouchesTheListed, TouchesFourAtMost};
+ghost use Rattle.dc_plain.specs.Laws.{KeepsTreesWellFormed, KeepsWithinLimit, KeepsRunsWellFormed, WalksRefuseByThree, PlacesRefuseByThree, WalksStay, PlacesStay, TouchesTheListed, TouchesFourAtMost, AltersWhereItTouches};
 
 /// The tree that is opened is well formed.
 pub fn opening_tree_is_well_formed()
@@ -32,4 +32,5 @@ pub fn resolution_stays_as_more_is_told()
 pub fn calls_touch_the_listed_keys()
     ensures keys { TouchesTheListed }
     ensures few { TouchesFourAtMost }
+    ensures alters { AltersWhereItTouches }
 {}
