@@ -16,7 +16,6 @@ use Rattle.dc_ops.specs.declared.steps.Plan.TheVariants as plans
 -- the reply of a plan and the tree that it leaves
 abbrev pub effect : rust_plan.Plan → Tree → Answer × Tree
 effect (plans.Add dir name new number) t = (Done number, tree_added t dir name.bytes.now new)
-
 effect (plans.Drop dir name number) t = (Nothing, without_entry t dir name.bytes.now number)
 
 -- an entry may be added: its directory lives, it isn't there, and it leads to the number told

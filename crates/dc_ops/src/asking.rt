@@ -9,8 +9,8 @@ ghost use Rattle.dc_ops.specs.Wheres.{where_shown, name_shown};
 
 use crate::finder::entry;
 use crate::paths::{Where, path_of, place_path};
-use dc_resolve::Last;
 use dc_names::{Kind, Name};
+use dc_resolve::Last;
 use dc_store::Store;
 
 /// Where a text's last part is to be looked up, or the number of its refusal.

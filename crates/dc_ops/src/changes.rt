@@ -13,11 +13,7 @@ use dc_store::{New, Store};
 /// The plan of a change, or the reply of one that alters nothing. It takes no memory.
 ///
 /// `max_inodes`, from 1 to 1,048,576, is how many inodes may live, the root among them.
-pub fn plan<'a, S: Store>(
-    store: &S,
-    call: &Call<'a>,
-    max_inodes: u64,
-) -> Result<Plan<'a>, Reply>
+pub fn plan<'a, S: Store>(store: &S, call: &Call<'a>, max_inodes: u64) -> Result<Plan<'a>, Reply>
     requires { IsChange call.now }
     ensures planned { IfOk result (Plans max_inodes (S.tree store.now) (request_of call.now)) }
     ensures declined { IfErr result (λ reply.

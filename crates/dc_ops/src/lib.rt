@@ -14,3 +14,5 @@ pub use changes::plan;
 pub use reads::seek;
 pub use steps::Plan;
 
+#[cfg(test)]
+mod tests;

@@ -7,9 +7,9 @@ ghost use Rattle.dc_plain.specs.Trees.{told_of};
 ghost use Rattle.dc_ops.specs.Wheres.{where_shown};
 
 use crate::finder::StoreFinder;
-use dc_resolve::{Last, Placed, Walked, place, walk};
 use dc_names::{Kind, PathText, parse};
 use dc_plain::Follow;
+use dc_resolve::{Last, Placed, Walked, place, walk};
 use dc_store::Store;
 
 /// The directory in which the last part of a path is to be looked up, and whether a slash ends it.
