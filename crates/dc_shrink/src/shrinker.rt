@@ -161,7 +161,8 @@ impl Shrinker {
 
     /// The same among the rows `4 * bucket` to `4 * bucket + 3`.
     pub fn victim_of(&self, bucket: u64) -> Option<u64>
-        ensures { result ≡ last_of (filter (in_bucket bucket) self.now.listed) }
+        ensures victim { result ≡ last_of (filter (in_bucket bucket) self.now.listed) }
+        ensures valid { IsListing self.now }
     {
         self.buckets.get(bucket as usize)?.last_listed(&self.listed)
     }
