@@ -1,0 +1,4 @@
+-- Which key stands in which row.
+pub mod Slots
+pub mod OwnKeys
+pub mod Choices

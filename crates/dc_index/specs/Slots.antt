@@ -1,0 +1,55 @@
+-- The rows of the cache, each with the key that it has.
+use Rattle.std.specs.Prelude.{◌≡◌, ℕ, ◌*◌, ◌<◌, ◌≤◌, ◌/◌, ◌%◌, Bool, true, false, ◌==◌, ◌&&◌, List, [], ◌∷◌, length, slice_index_or}
+use Rattle.dc_names.specs.Hash.{hash_of}
+use Rattle.dc_plain.specs.Facts.{Key, Label, same_label}
+use Rattle.dc_plain.specs.Facts.Label.{Entry, Parent, Text}
+
+-- a row: free, never to be used again, or with the key that it has
+pub data Slot : Type 0 where
+  Free : Slot
+  Retired : Slot
+  Holds : Key → Slot
+
+abbrev pub slot_of : List Slot → ℕ → Slot
+slot_of slots row = slice_index_or slots row Free
+
+abbrev pub is_free : Slot → Bool
+is_free Free = true
+is_free Retired = false
+is_free (Holds key) = false
+
+abbrev pub has_key : Slot → Bool
+has_key Free = false
+has_key Retired = false
+has_key (Holds key) = true
+
+abbrev pub same_key : Key → Key → Bool
+same_key a b = a.number == b.number && same_label a.label b.label
+
+abbrev pub is_slot_of : Key → Slot → Bool
+is_slot_of key Free = false
+is_slot_of key Retired = false
+is_slot_of key (Holds other) = same_key other key
+
+-- without the key that it has; a retired row stays so
+abbrev pub cleared : Slot → Slot
+cleared Free = Free
+cleared Retired = Retired
+cleared (Holds key) = Free
+
+-- a name, the two dots of dot-dot, or nothing for a text
+abbrev pub label_bytes : Label → List ℕ
+label_bytes (Entry name) = name
+label_bytes Parent = 46 ∷ 46 ∷ []
+label_bytes Text = []
+
+abbrev pub bucket_of : List Slot → Key → ℕ
+bucket_of slots key = hash_of key.number (label_bytes key.label) % (length slots / 4)
+
+-- four rows a bucket; a key stands in its bucket, in one row at most
+pub record IsIndex (slots : List Slot) : Type 0 where
+  pub some : 0 < length slots / 4
+  pub short : length slots ≤ 4096
+  pub fours : 4 * (length slots / 4) ≡ length slots
+  pub home : (row : ℕ) (key : Key) → slot_of slots row ≡ Holds key → row / 4 ≡ bucket_of slots key
+  pub one : (row other : ℕ) (key : Key) → slot_of slots row ≡ Holds key → slot_of slots other ≡ Holds key → row ≡ other

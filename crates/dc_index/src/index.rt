@@ -1,0 +1,133 @@
+ghost use Rattle.std.specs.Prelude.{◌≡◌, ◌<◌, ◌≤◌, ◌*◌, ◌/◌, ◌↔◌, ◌≢◌, ℕ, Some, None, OnOk, OnErr, IfOk, IfSome, length, replicate, slice_set, position, option_map, map};
+ghost use Rattle.dc_plain.specs.KeysShown.{key_shown, label_shown};
+ghost use Rattle.dc_index.specs.Slots.{slot_of, cleared, is_slot_of, bucket_of, label_bytes, IsIndex};
+ghost use Rattle.dc_index.specs.Slots.Slot.{Free as IsFree, Retired as IsRetired, Holds};
+ghost use Rattle.dc_index.specs.OwnKeys.{slot_shown};
+ghost use Rattle.dc_index.specs.Choices.{first_free, slots_in, choice, AgreeIn, MayTake};
+
+use crate::slot::{OwnKey, Slot, free_slots, place_of_free, place_of_key};
+use dc_names::{NoMemory, hash};
+use dc_plain::{Key, Label};
+use dc_shrink::Shrinker;
+use std::alloc::{AllocError, Global};
+use std::marker::Model;
+
+/// For each row the key that it has, if any. A bucket has four rows, in one of which its keys stand.
+#[derive(Drop)]
+pub struct Index {
+    slots: Vec<Slot>,
+}
+
+impl Model for Index {
+    ghost use Rattle.std.specs.Prelude.{List, map};
+    ghost use Rattle.dc_index.specs.Slots.{Slot as SpecSlot, IsIndex};
+    ghost use Rattle.dc_index.specs.OwnKeys.{slot_shown};
+
+    ghost Value = { List SpecSlot };
+
+    ghost view = { λ i. map slot_shown i.slots.items };
+
+    ghost invariant = { λ i. IsIndex (map slot_shown i.slots.items) };
+}
+
+/// The bytes of a label that its key's hash takes.
+fn label_bytes<'a>(label: &Label<'a>) -> &'a [u8]
+    ensures { result.now ≡ label_bytes (label_shown label.now) }
+{
+    match label {
+        Label::Name(name) => name.bytes(),
+        Label::DotDot => b"..",
+        Label::Text => b"",
+    }
+}
+
+impl Index {
+    /// No row has a key. There are 1 to 1,024 buckets.
+    pub fn new(alloc: Global, buckets: u64) -> Result<Index, NoMemory>
+        requires { (0 < buckets) × (buckets ≤ 1024) }
+        ensures { IfOk result (λ index. index ≡ replicate (4 * buckets) IsFree) }
+    {
+        let slots = free_slots(alloc, 4 * buckets)?;
+        Ok(Index { slots })
+    }
+
+    /// The bucket of a key, by the hash of its number and its label's bytes.
+    fn bucket_of(&self, key: &Key<'_>) -> u64
+        ensures bucket { result ≡ bucket_of self.now (key_shown key.now) }
+        ensures within { result < length self.now / 4 }
+    {
+        hash(key.number, label_bytes(&key.label)) % (self.slots.len() / 4) as u64
+    }
+
+    /// The slots of a bucket.
+    fn slots_in(&self, bucket: u64) -> &[Slot]
+        requires { bucket < length self.now / 4 }
+        ensures slots { map slot_shown result.now ≡ slots_in self.now bucket }
+        ensures valid { IsIndex self.now }
+    {
+        let slots = self.slots.as_slice();
+        let first = 4 * bucket as usize;
+        &slots[first..first + 4]
+    }
+
+    /// The row that has a key.
+    pub fn row_of(&self, key: &Key<'_>) -> Option<u64>
+        ensures row { (row : ℕ) → (result ≡ Some row) ↔ (slot_of self.now row ≡ Holds (key_shown key.now)) }
+        ensures valid { IsIndex self.now }
+    {
+        let bucket = self.bucket_of(key);
+        let place = place_of_key(self.slots_in(bucket), key)?;
+        Some(4 * bucket + place as u64)
+    }
+
+    /// The free row of a bucket with the lowest number.
+    fn first_free(&self, bucket: u64) -> Option<u64>
+        requires { bucket < length self.now / 4 }
+        ensures row { result ≡ first_free self.now bucket }
+        ensures valid { IsIndex self.now }
+    {
+        let place = place_of_free(self.slots_in(bucket))?;
+        Some(4 * bucket + place as u64)
+    }
+
+    /// The row for a key that has none: the free row of its bucket with the lowest number, or else
+    /// its bucket's least recently used unpinned row, or `None`.
+    pub fn choose(&self, shrinker: &Shrinker, key: &Key<'_>) -> Option<u64>
+        requires { AgreeIn (bucket_of self.now (key_shown key.now)) self.now shrinker.now }
+        ensures choice { result ≡ choice self.now shrinker.now (key_shown key.now) }
+        ensures safe { IfSome result (MayTake self.now shrinker.now (key_shown key.now)) }
+    {
+        let bucket = self.bucket_of(key);
+        self.first_free(bucket).or(shrinker.victim_of(bucket))
+    }
+
+    /// Gives a key without a row a row of its bucket, which loses the key that it had.
+    pub fn set(&mut self, alloc: Global, row: u64, key: &Key<'_>) -> Result<(), NoMemory>
+        requires home { row / 4 ≡ bucket_of self.old (key_shown key.now) }
+        requires unretired { slot_of self.old row ≢ IsRetired }
+        requires absent { (other : ℕ) → slot_of self.old other ≢ Holds (key_shown key.now) }
+        ensures set { OnOk result (self.new ≡ slice_set self.old row (Holds (key_shown key.now))) }
+        ensures err { OnErr result (self.new ≡ self.old) }
+    {
+        let own = OwnKey::of(alloc, key)?;
+        self.slots[row as usize] = Slot::Held(own);
+        Ok(())
+    }
+
+    /// Takes from a row the key that it has, if any.
+    pub fn clear(&mut self, row: u64)
+        requires { row < length self.old }
+        ensures { self.new ≡ slice_set self.old row (cleared (slot_of self.old row)) }
+    {
+        let slot = &mut self.slots[row as usize];
+        slot.clear();
+    }
+
+    /// Takes from a row the key that it has, if any. The row gets no further one.
+    pub fn retire(&mut self, row: u64)
+        requires { row < length self.old }
+        ensures { self.new ≡ slice_set self.old row IsRetired }
+    {
+        self.slots[row as usize] = Slot::Retired;
+    }
+}

@@ -1,0 +1,10 @@
+//! Which key stands in which row of the cache.
+#![tactic(auto)]
+
+mod index;
+mod slot;
+
+pub use index::Index;
+
+#[cfg(test)]
+mod tests;
