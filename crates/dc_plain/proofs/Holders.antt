@@ -1,10 +1,10 @@
 -- Who holds a directory, and the way up from it.
-use Rattle.std.proofs.Common.{◌≡◌, ◌≢◌, ℕ, zero, suc, ◌==◌, Bool, true, false, Option, Some, None, IsTrue, refl, sym, find, option_map, subst}
+use Rattle.std.proofs.Common.{cond, List, [], ◌∷◌, ◌||◌, ◌≡◌, ◌≢◌, ℕ, zero, suc, ◌==◌, Bool, true, false, Option, Some, None, IsTrue, refl, sym, find, option_map, subst}
 use Rattle.std.proofs.lemmas.Bool.Decides.{nat_tests}
 use Rattle.std.proofs.Common.{arith}
+use Rattle.std.specs.List.{AllByRecursion}
 use Rattle.dc_plain.specs.Trees.{Tree, Spot, holder_of, if_held, is_live_directory}
 use Rattle.dc_plain.specs.IsWellFormed.{IsWellFormed, Stands, comes_up}
-use Rattle.dc_plain.proofs.Made.{All-find, or_later, held_later}
 
 pub other_test : (m n : ℕ) → m ≢ n → (m == n) ≡ false
 other_test m n e = grind (arith, nat_tests)
@@ -17,6 +17,23 @@ decided m n e = grind (arith, nat_tests)
 
 pub decided_not : (m n : ℕ) → (m == n) ≡ false → m ≢ n
 decided_not m n e = grind (arith, nat_tests)
+
+-- what holds of each holds of the one that is found
+pub All-find : {X : Type 0} (P : X → Type 0) (p : X → Bool) (xs : List X) → AllByRecursion P xs → (x : X) → find p xs ≡ Some x → P x
+All-find P p [] all x e = cc
+All-find P p (y ∷ ys) all x e =
+    elim (p y) as (λ b. cond b (Some y) (find p ys) ≡ Some x → P x) [
+      | true ↦ λ is. let same : y ≡ x = cc in subst P same all.0
+      | false ↦ λ is. All-find P p ys all.1 x is
+    ] e
+
+or_later : (a b c : Bool) → (IsTrue b → IsTrue c) → IsTrue (a || b) → IsTrue (a || c)
+or_later true b c so h = h
+or_later false b c so h = so h
+
+held_later : (o : Option ℕ) (f g : ℕ → Bool) → ((k : ℕ) → o ≡ Some k → IsTrue (f k) → IsTrue (g k)) → IsTrue (if_held o f) → IsTrue (if_held o g)
+held_later None f g so h = h
+held_later (Some k) f g so h = so k refl h
 
 -- who holds a directory is a live directory
 pub holder-live : (t : Tree) → IsWellFormed t → (n up : ℕ) → holder_of t n ≡ Some up → IsTrue (is_live_directory t up)

@@ -1,5 +1,5 @@
 -- A tree with a new inode stays well formed.
-use Rattle.std.proofs.Common.{◌≡◌, ◌≢◌, ℕ, zero, suc, ◌≤◌, ◌<◌, ◌==◌, ◌||◌, ◌^◌, List, [], ◌∷◌, Bool, true, false, cond, Option, Some, None, is_some, is_ok, IsTrue, T, refl, ap, sym, ◌∙◌, arith, find, length, option_map, option_and_then, subst}
+use Rattle.std.proofs.Common.{◌≡◌, ◌≢◌, ℕ, suc, ◌≤◌, ◌<◌, ◌==◌, ◌||◌, ◌^◌, List, [], ◌∷◌, Bool, true, false, cond, Option, Some, None, is_some, is_ok, IsTrue, T, refl, ap, sym, ◌∙◌, arith, length, option_map, option_and_then, subst}
 use Rattle.std.specs.declared.cmp.Ordering.{Ordering}
 use Rattle.std.specs.Prelude.{IfNone}
 use Rattle.dc_plain.specs.Facts.{Place}
@@ -16,9 +16,9 @@ use Rattle.dc_names.specs.Bytes.{is_name}
 use Rattle.dc_names.specs.Paths.{path_of}
 use Rattle.dc_plain.specs.Trees.{entry_of, place_at, Tree, Spot, Inode, spot_cmp, inode_of, target_of, names_of, holder_of, is_live_directory, is_directory_inode}
 use Rattle.dc_plain.specs.Trees.Inode.{Directory, Regular, Symbolic}
-use Rattle.dc_plain.specs.Trees.{if_held}
 use Rattle.dc_plain.specs.Effects.{with_new}
 use Rattle.dc_plain.specs.IsWellFormed.{IsWellFormed, Stands, Lives, IsReached, comes_up}
+use Rattle.dc_plain.proofs.Holders.{other_test, same_test, holder-live, comes_up-kept}
 use Rattle.dc_plain.proofs.Puts.{count-put, All-put, find-put_no, find-put_yes, All-weaker, count_none}
 
 pub spots_total : IsTotalOrder spot_cmp
@@ -33,16 +33,6 @@ itself n = grind (arith, nat_tests)
 pub other_number : (m n : ℕ) → m ≢ n → eq_by_cmp nat_cmp m n ≡ false
 other_number m n e = grind (arith, nat_tests)
 
-other_test : (m n : ℕ) → m ≢ n → (m == n) ≡ false
-other_test m n e = grind (arith, nat_tests)
-
-same_test : (n : ℕ) → (n == n) ≡ true
-same_test n = grind (arith, nat_tests)
-
-pub or_later : (a b c : Bool) → (IsTrue b → IsTrue c) → IsTrue (a || b) → IsTrue (a || c)
-or_later true b c so h = h
-or_later false b c so h = so h
-
 pub is_directory_in : (o : Option Inode) → is_directory_inode o ≡ true → o ≡ Some Directory
 is_directory_in None e = cc
 is_directory_in (Some Directory) e = refl
@@ -52,14 +42,6 @@ is_directory_in (Some (Symbolic text)) e = cc
 pub some_in : (o : Option Inode) → is_some o ≡ true → (i : Inode) × (o ≡ Some i)
 some_in None e = absurd cc
 some_in (Some i) e = (i, refl)
-
-pub All-find : {X : Type 0} (P : X → Type 0) (p : X → Bool) (xs : List X) → AllByRecursion P xs → (x : X) → find p xs ≡ Some x → P x
-All-find P p [] all x e = cc
-All-find P p (y ∷ ys) all x e =
-    elim (p y) as (λ b. cond b (Some y) (find p ys) ≡ Some x → P x) [
-      | true ↦ λ is. let same : y ≡ x = cc in subst P same all.0
-      | false ↦ λ is. All-find P p ys all.1 x is
-    ] e
 
 pub to_test : (b : Bool) → b ≡ true → T b
 to_test true e = tt
@@ -78,10 +60,6 @@ IsGood (Symbolic text) = IsTrue (is_ok (path_of text))
 pub or_right : (a b : Bool) → IsTrue b → IsTrue (a || b)
 or_right true b h = refl
 or_right false b h = h
-
-pub held_later : (o : Option ℕ) (f g : ℕ → Bool) → ((k : ℕ) → o ≡ Some k → IsTrue (f k) → IsTrue (g k)) → IsTrue (if_held o f) → IsTrue (if_held o g)
-held_later None f g so h = h
-held_later (Some k) f g so h = so k refl h
 
 module _ (t : Tree) (d : ℕ) (name : List ℕ) (inode : Inode) (well : IsWellFormed t) (in_directory : IsTrue (is_live_directory t d))
     (free : target_of t (record { directory = d; name = name }) ≡ None) where
@@ -129,22 +107,11 @@ module _ (t : Tree) (d : ℕ) (name : List ℕ) (inode : Inode) (well : IsWellFo
   holder_kept n other =
       ap (option_map (λ e. e.0.directory)) (find-put_no spot_cmp (record { directory = d; name = name }) t.next (λ e. e.1 == n) t.entries free (other_test t.next n (λ same. other (sym same))))
 
-  pub holder_live_by : (n : ℕ) (o : Option (Spot × ℕ)) → find (λ e. e.1 == n) t.entries ≡ o → (up : ℕ) → option_map (λ e. e.0.directory) o ≡ Some up → IsTrue (is_live_directory t up)
-  holder_live_by n None e up is = absurd cc
-  holder_live_by n (Some found) e up is =
-      let stands = All-find (Stands t) (λ e. e.1 == n) t.entries well.entries found e in
-      let same : found.0.directory ≡ up = cc in
-      subst (λ k. IsTrue (is_live_directory t k)) same stands.held
+  holder_kept_live : (n : ℕ) → IsTrue (is_live_directory t n) → holder_of (with_new t d name inode) n ≡ holder_of t n
+  holder_kept_live n live = holder_kept n (apart n Directory (is_directory_in (inode_of t n) live))
 
   up_kept : (steps n : ℕ) → IsTrue (is_live_directory t n) → IsTrue (comes_up steps t n) → IsTrue (comes_up steps (with_new t d name inode) n)
-  up_kept zero n live h = h
-  up_kept (suc steps) n live h =
-      let other = apart n Directory (is_directory_in (inode_of t n) live) in
-      let old : ℕ → Bool = λ up. comes_up steps t up in
-      let later : ℕ → Bool = λ up. comes_up steps (with_new t d name inode) up in
-      or_later (n == 1) (if_held (holder_of t n) old) (if_held (holder_of (with_new t d name inode) n) later)
-      (λ up. subst (λ o. IsTrue (if_held o later)) (sym (holder_kept n other))
-      (held_later (holder_of t n) old later (λ k e. up_kept steps k (holder_live_by n (find (λ e'. e'.1 == n) t.entries) refl k e)) up)) h
+  up_kept = comes_up-kept (λ n. IsTrue (is_live_directory t n)) t (with_new t d name inode) (λ n up live e. holder-live t well n up e) holder_kept_live
 
   pub length_new : length (put nat_cmp t.next inode t.inodes) ≡ suc (length t.inodes)
   length_new = length-put nat_cmp nat_cmp_total t.next inode t.inodes (to_test _ well.inodes_in_order) ∙ rw unused (omega arith)

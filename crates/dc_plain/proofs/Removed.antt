@@ -12,8 +12,8 @@ use Rattle.std.specs.FinMap.Entries.{find as lookup}
 use Rattle.std.proofs.lemmas.Bool.Decides.{nat_tests}
 use Rattle.dc_plain.proofs.Puts.{All-weaker}
 use Rattle.dc_plain.proofs.Takes.{All-filter, count-take, find-take, none_passes}
-use Rattle.dc_plain.proofs.Made.{spots_total, to_test, from_test, is_directory_in, some_in, same_number, All-find}
-use Rattle.dc_plain.proofs.Holders.{other_test, same_test, decided, decided_not, holder-live, comes_up-kept}
+use Rattle.dc_plain.proofs.Made.{spots_total, to_test, from_test, is_directory_in, some_in, same_number}
+use Rattle.dc_plain.proofs.Holders.{other_test, same_test, decided, decided_not, holder-live, comes_up-kept, All-find}
 
 -- without the entry, and with these inodes
 abbrev pub left_of : Tree → ℕ → List ℕ → List (ℕ × Inode) → Tree
