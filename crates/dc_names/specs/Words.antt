@@ -1,5 +1,5 @@
 -- Bytes in a word of 64 bits, the first lowest.
-use Rattle.std.specs.Prelude.{ℕ, List, ◌<◌, ◌-◌, ◌++◌, length, replicate, slice_index}
+use Rattle.std.specs.Prelude.{ℕ, List, ◌≡◌, ◌<◌, ◌≤◌, ◌-◌, ◌++◌, length, replicate, slice_index}
 use Rattle.std.specs.Int.{w64, to_le_bytes, from_le_bytes}
 
 abbrev pub AreBytes : List ℕ → Type 0
@@ -16,3 +16,7 @@ word_of bytes = from_le_bytes w64 bytes
 -- the 8 bytes of a word
 unfoldable pub bytes_in : ℕ → List ℕ
 bytes_in word = to_le_bytes w64 word
+
+-- the result is what was packed in the word
+abbrev pub GivesBack : ℕ → List ℕ → Type 0
+GivesBack word result = (bytes : List ℕ) → length bytes ≤ 8 → AreBytes bytes → word ≡ word_of bytes → result ≡ padded bytes

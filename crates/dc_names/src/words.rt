@@ -1,5 +1,5 @@
-ghost use Rattle.std.specs.Prelude.{◌≡◌, List, ℕ, ◌≤◌, length};
-ghost use Rattle.dc_names.specs.Words.{AreBytes, word_of, bytes_in, padded};
+ghost use Rattle.std.specs.Prelude.{◌≡◌, ◌≤◌, length};
+ghost use Rattle.dc_names.specs.Words.{GivesBack, word_of, bytes_in, padded};
 
 /// At most 8 bytes in one word, the first byte lowest, the rest zero.
 pub fn pack(bytes: &[u8]) -> u64
@@ -16,7 +16,7 @@ pub fn pack(bytes: &[u8]) -> u64
 pub fn unpack(word: u64) -> [u8; 8]
     ensures bytes { result ≡ bytes_in word }
     ensures back { word_of result ≡ word }
-    ensures undoes { (bytes : List ℕ) → length bytes ≤ 8 → AreBytes bytes → word ≡ word_of bytes → result ≡ padded bytes }
+    ensures undoes { GivesBack word result }
 {
     word.to_le_bytes()
 }

@@ -8,7 +8,7 @@ use Rattle.dc_names.specs.declared.kind.Kind.TheVariants.{Dir, File, Link}
 use Rattle.dc_plain.specs.Facts.{Place, Label, Fact}
 use Rattle.dc_plain.specs.Facts.Label.{Entry, Parent, Text}
 use Rattle.dc_plain.specs.Facts.Fact.{Leads, Reads}
-use Rattle.dc_row.specs.Spelling.{Fields, Spells, fields_of, has_spelling, has_room, is_path, is_numbered, kind_code, word_at, text_word}
+use Rattle.dc_row.specs.Spelling.{Fields, Spells, TellsByte, fields_of, has_spelling, has_room, is_path, is_numbered, kind_code, word_at, text_word}
 use Rattle.dc_row.specs.declared.TheConstants.{ROW_WORDS, ROW_TEXT}
 use Rattle.dc_row.proofs.Written.{word_at-text}
 
@@ -65,7 +65,7 @@ part_short text m = grind (arith, common_steps)
 part_at : (text : List ℕ) (n m i : ℕ) → i < n → get_or (take n (drop m text)) i 0 ≡ get_or text (m + i) 0
 part_at text n m i within = get_or-take n (drop m text) i 0 within ∙ get_or-drop m text i 0
 
-pub byte_is : {words : List ℕ} {fact : Option Fact} → Spells words fact → (i b : ℕ) → i < ROW_TEXT → ((bytes : List ℕ) → length bytes ≤ 8 → AreBytes bytes → get_or words (4 + i / 8) 0 ≡ word_of bytes → b ≡ get_or bytes (i % 8) 0) → b ≡ get_or (fields_of fact).text i 0
+byte_is : {words : List ℕ} {fact : Option Fact} → Spells words fact → (i b : ℕ) → i < ROW_TEXT → ((bytes : List ℕ) → length bytes ≤ 8 → AreBytes bytes → get_or words (4 + i / 8) 0 ≡ word_of bytes → b ≡ get_or bytes (i % 8) 0) → b ≡ get_or (fields_of fact).text i 0
 byte_is {words} {fact} s i b within reads =
     let text = (fields_of fact).text in
     let at : 4 + i / 8 < ROW_WORDS = omega arith in
@@ -73,11 +73,14 @@ byte_is {words} {fact} s i b within reads =
     let here : 8 * (i / 8) + i % 8 ≡ i = omega arith in
     reads (take 8 (drop (8 * (i / 8)) text)) (part_short text (8 * (i / 8))) (part_bytes text 8 (8 * (i / 8)) s.bytes) word ∙ part_at text 8 (8 * (i / 8)) (i % 8) (omega arith) ∙ ap (λ (k : ℕ). get_or text k 0) here
 
-pub set_text : (text room : List ℕ) (i v : ℕ) → i < length room → v ≡ get_or text i 0 → ((k : ℕ) → k < i → get_or room k 0 ≡ get_or text k 0) → (k : ℕ) → k < i + 1 → get_or (set room i v) k 0 ≡ get_or text k 0
+set_text : (text room : List ℕ) (i v : ℕ) → i < length room → v ≡ get_or text i 0 → ((k : ℕ) → k < i → get_or room k 0 ≡ get_or text k 0) → (k : ℕ) → k < i + 1 → get_or (set room i v) k 0 ≡ get_or text k 0
 set_text text room i v within is before =
     below_more (λ k. get_or (set room i v) k 0 ≡ get_or text k 0) i
     (λ k h. let ne : k ≢ i = omega arith in rw get_or-set_other (before k h))
     (rw get_or-set_same is)
+
+pub next_byte : {words : List ℕ} {fact : Option Fact} → Spells words fact → (room : List ℕ) (i b : ℕ) → length room ≡ ROW_TEXT → i < ROW_TEXT → TellsByte words i b → ((k : ℕ) → k < i → get_or room k 0 ≡ get_or (fields_of fact).text k 0) → (k : ℕ) → k < i + 1 → get_or (set room i b) k 0 ≡ get_or (fields_of fact).text k 0
+next_byte {fact = fact} s room i b size within tells before = set_text (fields_of fact).text room i b (omega arith) (byte_is s i b within tells) before
 
 front_is : (text room : List ℕ) → length text ≤ length room → ((k : ℕ) → k < length text → get_or room k 0 ≡ get_or text k 0) → take (length text) room ≡ text
 front_is [] room within same = refl

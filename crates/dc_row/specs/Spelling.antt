@@ -32,11 +32,14 @@ pub record Fields : Type 0 where
   pub value : ℕ
   pub text : List ℕ
 
+abbrev pub fields : ℕ → ℕ → ℕ → ℕ → List ℕ → Fields
+fields tag kind number value text = record { tag = tag; kind = kind; number = number; value = value; text = text }
+
 -- tag 0 for no fact, 1 for an entry, 2 for a link's text
 abbrev pub fields_of : Option Fact → Fields
-fields_of None = record { tag = 0; kind = 0; number = 0; value = 0; text = [] }
-fields_of (Some (Leads d label target)) = record { tag = 1; kind = kind_code target; number = d; value = target_number target; text = label_bytes label }
-fields_of (Some (Reads n text)) = record { tag = 2; kind = 0; number = n; value = 0; text = text }
+fields_of None = fields 0 0 0 0 []
+fields_of (Some (Leads d label target)) = fields 1 (kind_code target) d (target_number target) (label_bytes label)
+fields_of (Some (Reads n text)) = fields 2 0 n 0 text
 
 -- the tag in the lowest byte, the length of the text in the next two, the kind in the next
 abbrev pub head_of : Fields → ℕ
@@ -78,5 +81,16 @@ pub record Spells (words : List ℕ) (fact : Option Fact) : Type 0 where
   pub bytes : AreBytes (fields_of fact).text
   pub spelled : IsSpelled words (fields_of fact)
 
+-- the label, or the target, of any entry that the words spell; a byte of the text that stands in them
+abbrev pub TellsLabel : List ℕ → Option Label → Type 0
+TellsLabel words result = (d : ℕ) (label : Label) (target : Option Place) → Spells words (Some (Leads d label target)) → result ≡ Some label
+
+abbrev pub TellsTarget : List ℕ → Option Place → Type 0
+TellsTarget words result = (d : ℕ) (label : Label) (target : Option Place) → Spells words (Some (Leads d label target)) → result ≡ target
+
+abbrev pub TellsByte : List ℕ → ℕ → ℕ → Type 0
+TellsByte words k result = (bytes : List ℕ) → length bytes ≤ 8 → AreBytes bytes → slice_index words (4 + k / 8) ≡ word_of bytes → result ≡ slice_index bytes (k % 8)
+
+-- the words of a row after its sequence count are always the same
 abbrev pub HasOneSpelling : Type 0
 HasOneSpelling = (fact : Option Fact) (v w : List ℕ) → Spells v fact → Spells w fact → drop 1 v ≡ drop 1 w

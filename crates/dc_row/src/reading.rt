@@ -1,10 +1,8 @@
-ghost use Rattle.std.specs.Prelude.{◌≡◌, ℕ, ◌+◌, ◌/◌, ◌%◌, ◌<◌, ◌≤◌, List, Option, Some, length, slice_index, IfSome};
+ghost use Rattle.std.specs.Prelude.{◌≡◌, ◌<◌, Option, Some, IfSome};
 ghost use Rattle.std.specs.Option.{option_map};
-ghost use Rattle.dc_names.specs.Words.{AreBytes, word_of};
-ghost use Rattle.dc_plain.specs.Facts.{Place, Label, Fact};
-ghost use Rattle.dc_plain.specs.Facts.Fact.{Leads};
+ghost use Rattle.dc_plain.specs.Facts.{Fact};
 ghost use Rattle.dc_row.specs.Rows.{row_shown, label_shown};
-ghost use Rattle.dc_row.specs.Spelling.{Spells, fields_of};
+ghost use Rattle.dc_row.specs.Spelling.{Spells, TellsLabel, TellsTarget, TellsByte, fields_of};
 ghost use Rattle.dc_row.specs.declared.TheConstants.{ROW_WORDS, ROW_TEXT};
 
 use crate::fields::word;
@@ -43,7 +41,7 @@ fn read(words: &[u64]) -> Option<Row>
 }
 
 fn label_in(words: &[u64]) -> Option<RowLabel>
-    ensures { (d : ℕ) (label : Label) (target : Option Place) → Spells words.now (Some (Leads d label target)) → option_map label_shown result ≡ Some label }
+    ensures { TellsLabel words.now (option_map label_shown result) }
 {
     let text = text_in(words)?;
     if text.bytes() == b"..".as_slice() {
@@ -54,7 +52,7 @@ fn label_in(words: &[u64]) -> Option<RowLabel>
 }
 
 fn target_in(words: &[u64]) -> Option<(u64, Kind)>
-    ensures { (d : ℕ) (label : Label) (target : Option Place) → Spells words.now (Some (Leads d label target)) → result ≡ target }
+    ensures { TellsTarget words.now result }
 {
     match kind(words) {
         1 => Some((value(words), Kind::Dir)),
@@ -81,7 +79,7 @@ fn text_in(words: &[u64]) -> Option<RowText>
 /// A byte of the text.
 fn byte(words: &[u64], at: usize) -> u8
     requires { at < ROW_TEXT }
-    ensures { (bytes : List ℕ) → length bytes ≤ 8 → AreBytes bytes → slice_index words.now (4 + at / 8) ≡ word_of bytes → result ≡ slice_index bytes (at % 8) }
+    ensures { TellsByte words.now at result }
 {
     unpack(word(words, 4 + at / 8))[at % 8]
 }

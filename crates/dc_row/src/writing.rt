@@ -2,7 +2,7 @@ ghost use Rattle.std.specs.Prelude.{◌≡◌, ℕ, ◌≤◌, ◌<◌, ◌↔�
 ghost use Rattle.dc_names.specs.Bytes.{is_name};
 ghost use Rattle.dc_names.specs.Words.{AreBytes};
 ghost use Rattle.dc_row.specs.Rows.{row_shown};
-ghost use Rattle.dc_row.specs.Spelling.{Spells, has_spelling, is_numbered, is_path, kind_code, target_number, text_word, Fields, IsSpelled};
+ghost use Rattle.dc_row.specs.Spelling.{Spells, has_spelling, is_numbered, is_path, kind_code, target_number, text_word, fields, IsSpelled};
 ghost use Rattle.dc_row.specs.declared.TheConstants.{ROW_WORDS, ROW_TEXT};
 
 use crate::{ROW_WORDS, Row, RowLabel};
@@ -89,7 +89,7 @@ fn spell(tag: u64, kind: u64, number: u64, value: u64, text: &[u8]) -> [u64; ROW
     requires tag { tag ≤ 2 }
     requires kind { kind ≤ 3 }
     requires room { length text.now ≤ ROW_TEXT }
-    ensures words { IsSpelled result (record { tag = tag; kind = kind; number = number; value = value; text = text.now }) }
+    ensures words { IsSpelled result (fields tag kind number value text.now) }
     ensures bytes { AreBytes text.now }
     ensures count { slice_index result 0 ≡ 0 }
 {
