@@ -79,7 +79,7 @@ shown_free a (suc n) = ap (λ r. Free ∷ r) (shown_free (a + 1) n)
 pub below_of_bucket : {slots : List Slot} → IsIndex slots → (row : ℕ) (b : ℕ) → b < length slots / 4 → row / 4 ≡ b → row < length slots
 below_of_bucket is row b h e = omega (arith, is.fours)
 
-all_free : (n r : ℕ) → slot_of (replicate n Free) r ≡ Free
+pub all_free : (n r : ℕ) → slot_of (replicate n Free) r ≡ Free
 all_free n r = at (cases_lt r n)
   where
     at : (r < n) ⊎ (n ≤ r) → slot_of (replicate n Free) r ≡ Free
