@@ -67,7 +67,7 @@ module _ (t : Tree) (from : ℕ) (old : List ℕ) (to : ℕ) (new : List ℕ) (m
   not_beneath : IsTrue (is_live_directory t moved.0) → is_beneath (length t.inodes) t to moved.0 ≡ false
   not_beneath live = apart_by (is_directory moved) (is_beneath (length t.inodes) t to moved.0) (is_live_directory t moved.0) (source.kind ∙ sym (ap is_directory_inode source.lives)) apart live
 
-  ready_alone : entry_of t to (Entry new) ≡ None → IsReady t from old to new moved.0
+  pub ready_alone : entry_of t to (Entry new) ≡ None → IsReady t from old to new moved.0
   ready_alone none = record {
     well = well;
     source = source.target;
@@ -105,7 +105,7 @@ module _ (t : Tree) (from : ℕ) (old : List ℕ) (to : ℕ) (new : List ℕ) (m
         (holder_left t to new there.0 well target unentered (without_number there.0 t.inodes) d here) (holder_left t to new there.0 well target unentered t.inodes d here))
         (length t.inodes) to moved.0 (λ same. not_there (sym same))
 
-    ready_after : IsReady (without_entry t to new there.0) from old to new moved.0
+    pub ready_after : IsReady (without_entry t to new there.0) from old to new moved.0
     ready_after = record {
       well = without_entry-IsWellFormed t to new there.0 well target unentered;
       source = source_now;

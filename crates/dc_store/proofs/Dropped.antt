@@ -1,5 +1,5 @@
 -- The two maps without an entry, and without the node where that was its last name.
-use Rattle.std.proofs.Common.{◌≡◌, ◌≢◌, ℕ, ◌+◌, ◌<◌, ◌≤◌, ◌^◌, ◌==◌, ◌&&◌, not, List, Bool, true, false, cond, map, Option, Some, None, IfSome, IsSomeAnd, IsTrue, refl, ap, sym, ◌∙◌, subst, arith, if◌then◌else◌}
+use Rattle.std.proofs.Common.{◌≡◌, ◌≢◌, ℕ, ◌<◌, ◌^◌, ◌==◌, ◌&&◌, not, List, Bool, true, false, cond, map, Option, Some, None, IfSome, IsSomeAnd, IsTrue, refl, ap, sym, ◌∙◌, subst, arith, if◌then◌else◌}
 use Rattle.std.specs.BTreeMap.{is_at}
 use Rattle.std.specs.Cmp.{nat_cmp_total, unsigned_tied}
 use Rattle.std.specs.Cmp.Lexicographic.{slice_cmp}
@@ -13,7 +13,7 @@ use Rattle.dc_plain.proofs.Made.{to_test}
 use Rattle.dc_plain.proofs.Removed.{IsUnentered, left_of, one_less, not_root, holder_left, unentered_node, unentered_directory, without_entry-IsWellFormed}
 use Rattle.dc_plain.specs.Effects.{without_entry}
 use Rattle.dc_plain.specs.IsWellFormed.{IsWellFormed}
-use Rattle.dc_plain.specs.Trees.{Tree, Inode, how_many, inode_of, target_of, names_of, names_in, holder_of, is_live_directory, without_spot, without_number}
+use Rattle.dc_plain.specs.Trees.{Tree, how_many, target_of, names_of, names_in, is_live_directory, without_spot, without_number}
 use Rattle.dc_plain.specs.Trees.Inode.{Directory}
 use Rattle.dc_store.specs.Dropped.{CanDrop, is_full_directory}
 use Rattle.dc_store.specs.Keys.{key_of, IsKey}

@@ -8,3 +8,5 @@ pub mod HowMany
 pub mod Dropped
 pub mod HowManyHeld
 pub mod Listed
+pub mod MovedEntries
+pub mod Moves

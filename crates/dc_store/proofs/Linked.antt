@@ -13,7 +13,7 @@ use Rattle.dc_plain.specs.IsWellFormed.{IsWellFormed}
 use Rattle.dc_plain.specs.Trees.{Tree, inode_of, target_of, is_directory_inode, is_live_directory}
 use Rattle.dc_store.specs.Added.{CanBeNamed}
 use Rattle.dc_store.specs.Keys.{key_of, IsKey}
-use Rattle.dc_store.specs.Maps.{inode_shown, node_at, parent_in, tree_in, IsSound}
+use Rattle.dc_store.specs.Maps.{inode_shown, parent_in, tree_in, IsSound}
 use Rattle.dc_store.specs.declared.node.Node as rust_node
 use Rattle.dc_store.specs.declared.node.Node.TheVariants as kinds
 use Rattle.dc_store.proofs.Entries.{entries_put, keys_put}

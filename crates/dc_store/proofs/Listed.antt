@@ -1,13 +1,12 @@
 -- The names in a directory, by the keys of its entries.
-use Rattle.std.proofs.Common.{◌≡◌, ℕ, ◌<◌, ◌^◌, ◌==◌, List, [], ◌∷◌, ◌++◌, Bool, true, false, cond, if◌then◌else◌, Some, None, map, filter, drop, refl, ap, sym, ◌∙◌, append_assoc}
+use Rattle.std.proofs.Common.{◌≡◌, ℕ, ◌<◌, ◌^◌, ◌==◌, List, [], ◌∷◌, ◌++◌, true, false, cond, if◌then◌else◌, Some, None, map, filter, drop, refl, ap, sym, ◌∙◌, append_assoc}
 use Rattle.std.proofs.lemmas.List.{append-nil, map-append}
 use Rattle.std.specs.Global.{Vec}
 use Rattle.std.specs.List.{AllByRecursion}
 use Rattle.std.specs.Option.{option_to_list}
-use Rattle.dc_plain.specs.Trees.{Spot, names_in}
+use Rattle.dc_plain.specs.Trees.{Spot}
 use Rattle.dc_store.specs.Keys.{name_held, names_held, spot_in, IsKey}
-use Rattle.dc_store.specs.Maps.{entry_shown, tree_in}
-use Rattle.dc_store.specs.declared.node.Node as rust_node
+use Rattle.dc_store.specs.Maps.{entry_shown}
 use Rattle.dc_store.proofs.HowManyHeld.{is_held}
 
 more : (d : ℕ) (xs : List (List ℕ)) (key : List ℕ) → names_held d (xs ++ key ∷ []) ≡ names_held d xs ++ option_to_list (name_held d key)

@@ -1,5 +1,5 @@
 -- An ordered map, seen as a list of entries under other keys: look-up, insert and remove.
-use Rattle.std.proofs.Common.{◌≡◌, List, [], ◌∷◌, true, false, cond, Some, None, map, option_map, refl, ap, sym, ◌∙◌, T, Bool, not, ◌&&◌, subst}
+use Rattle.std.proofs.Common.{◌≡◌, List, [], ◌∷◌, true, false, cond, Some, None, map, option_map, refl, ap, sym, ◌∙◌, T, Bool, not, ◌&&◌}
 use Rattle.std.specs.BTreeMap.{is_at, insert_entry}
 use Rattle.std.specs.Cmp.{IsTotalOrder, tied_itself}
 use Rattle.std.specs.FinMap.Entries.{put, by_order, find-put}

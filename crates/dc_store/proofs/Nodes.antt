@@ -6,6 +6,9 @@ use Rattle.std.proofs.Common.{Ok, Err, is_ok, ◌≡◌, ℕ, ◌==◌, List, []
 use Rattle.std.specs.Global.{Vec}
 use Rattle.std.specs.Option.{option_copied}
 use Rattle.std.specs.Ordering.{nat_cmp}
+use Rattle.std.proofs.Common.{map, []}
+use Rattle.std.specs.Map.{lookup, set_value}
+use Rattle.dc_store.specs.Maps.{inode_shown, with_parent}
 use Rattle.std.specs.List.{AllByRecursion}
 use Rattle.dc_plain.proofs.Made.{is_directory_in}
 use Rattle.dc_plain.specs.Facts.{Place}
@@ -76,3 +79,20 @@ module _ (entries : List (Vec ℕ × ℕ)) (nodes : List (ℕ × rust_node.Node)
   pub node_told : IsSound entries nodes next → (o : Option (Bor rust_node.Node)) → option_copied o ≡ node_at nodes n → IfSome o (λ node. IsNodeAt t n node.now)
   node_told sound None is = tt
   node_told sound (Some b) is = told sound b.now (sym is)
+
+shown_the_same : (up : ℕ) (node : rust_node.Node) → node_shown (with_parent up node) ≡ node_shown node
+shown_the_same up (kinds.Dir old) = refl
+shown_the_same up kinds.File = refl
+shown_the_same up (kinds.Link text) = refl
+
+-- a node that shows the same in place of the one that was found
+pub set_shown : (test : ℕ → Bool) (es : List (ℕ × rust_node.Node)) (v w : rust_node.Node) → Some v ≡ lookup test es → node_shown w ≡ node_shown v → map inode_shown (set_value test es w) ≡ map inode_shown es
+set_shown test [] v w found same = refl
+set_shown test (e ∷ es) v w found same =
+    elim (test e.0) as (λ b. Some v ≡ cond b (Some e.1) (lookup test es) → map inode_shown (cond b ((e.0, w) ∷ es) (e ∷ set_value test es w)) ≡ inode_shown e ∷ map inode_shown es) [
+      | true ↦ λ is. let here : v ≡ e.1 = cc in ap (λ i. (e.0, i) ∷ map inode_shown es) (same ∙ ap node_shown here)
+      | false ↦ λ is. ap (λ l. inode_shown e ∷ l) (set_shown test es v w is same)
+    ] found
+
+pub parent_shown : (test : ℕ → Bool) (es : List (ℕ × rust_node.Node)) (up : ℕ) (v w : rust_node.Node) → Some v ≡ lookup test es → w ≡ with_parent up v → map inode_shown (set_value test es w) ≡ map inode_shown es
+parent_shown test es up v w found is = set_shown test es v w found (ap node_shown is ∙ shown_the_same up v)

@@ -5,3 +5,4 @@ pub mod Keys
 pub mod Counts
 pub mod Dropped
 pub mod Maps
+pub mod Moved

@@ -2,11 +2,11 @@
 use Rattle.std.specs.Prelude.{◌≡◌, ⊤, ℕ, option_map, IfSome, IsTrue, ◌==◌, List, map, Option, Some, None, if◌then◌else◌}
 use Rattle.std.specs.BTreeMap.{is_at}
 use Rattle.std.specs.List.{AllByRecursion}
-use Rattle.std.specs.Map.{lookup}
+use Rattle.std.specs.Map.{lookup, remove_entry}
 use Rattle.std.specs.Ordering.{nat_cmp}
 use Rattle.std.specs.Global.{Vec}
 use Rattle.dc_names.specs.Paths.{fault_of}
-use Rattle.dc_plain.specs.Trees.{Tree, Inode, Spot, holder_of, entry_of, text_in, is_live_directory}
+use Rattle.dc_plain.specs.Trees.{Tree, Inode, Spot, how_many, holder_of, entry_of, text_in, is_live_directory}
 use Rattle.dc_plain.specs.Facts.Label.{Parent}
 use Rattle.dc_plain.specs.Trees.Inode.{Directory, Regular, Symbolic}
 use Rattle.dc_plain.specs.IsWellFormed.{IsWellFormed}
@@ -44,6 +44,17 @@ tree_in entries nodes next = record { entries = map entry_shown entries; inodes 
 
 abbrev pub node_at : List (ℕ × rust_node.Node) → ℕ → Option rust_node.Node
 node_at nodes n = lookup (is_at (nat_cmp n)) nodes
+
+-- without the node of what was replaced, where no entry leads to it
+abbrev pub nodes_after : Option ℕ → List (Vec ℕ × ℕ) → List (ℕ × rust_node.Node) → List (ℕ × rust_node.Node)
+nodes_after None entries nodes = nodes
+nodes_after (Some n) entries nodes = if how_many (λ e. e.1 == n) entries == 0 then remove_entry (is_at (nat_cmp n)) nodes else nodes
+
+-- a directory with another parent
+abbrev pub with_parent : ℕ → rust_node.Node → rust_node.Node
+with_parent up (kinds.Dir old) = kinds.Dir up
+with_parent up kinds.File = kinds.File
+with_parent up (kinds.Link text) = kinds.Link text
 
 -- the root is its own parent, and another directory's is the one that holds its entry
 abbrev pub parent_in : Tree → ℕ → Option ℕ

@@ -4,7 +4,7 @@ ghost use Rattle.std.specs.Map.{remove_entry};
 ghost use Rattle.std.specs.Ordering.{nat_cmp};
 ghost use Rattle.dc_plain.specs.Trees.{how_many};
 ghost use Rattle.dc_store.specs.Keys.{name_held, names_held};
-ghost use Rattle.dc_store.specs.Maps.{node_at};
+ghost use Rattle.dc_store.specs.Maps.{node_at, nodes_after};
 ghost use Rattle.dc_store.specs.declared.node.Node as rust_node;
 
 use crate::node::Node;
@@ -59,11 +59,24 @@ pub fn names_held(
 
 /// Drops the node of a number that no entry leads to.
 pub fn drop_unnamed(nodes: &mut BTreeMap<u64, Node>, entries: &BTreeMap<Vec<u8>, u64>, number: u64)
-    ensures entries { nodes.new.entries ≡ (if how_many (λ e. e.1 == number) entries.now.entries == 0
-        then remove_entry (is_at (nat_cmp number)) nodes.old.entries else nodes.old.entries) }
+    ensures entries { nodes.new.entries ≡ nodes_after (Some number) entries.now.entries nodes.old.entries }
     ensures kept { (q : ℕ) (node : rust_node.Node) → node_at nodes.new.entries q ≡ Some node → node_at nodes.old.entries q ≡ Some node }
 {
     if names(entries, number) == 0 {
         nodes.remove(&number);
+    }
+}
+
+/// Drops the node of what was replaced, where no entry leads to it any more.
+pub fn drop_replaced(
+    nodes: &mut BTreeMap<u64, Node>,
+    entries: &BTreeMap<Vec<u8>, u64>,
+    replaced: Option<u64>,
+)
+    ensures entries { nodes.new.entries ≡ nodes_after replaced entries.now.entries nodes.old.entries }
+    ensures kept { (q : ℕ) (node : rust_node.Node) → node_at nodes.new.entries q ≡ Some node → node_at nodes.old.entries q ≡ Some node }
+{
+    if let Some(number) = replaced {
+        drop_unnamed(nodes, entries, number);
     }
 }

@@ -3,11 +3,12 @@ ghost use Rattle.dc_plain.specs.Effects.{with_new, with_entry_for};
 ghost use Rattle.dc_plain.specs.Trees.{Tree, empty_tree, inode_of, target_of, is_live_directory};
 ghost use Rattle.dc_store.specs.Added.{CanBeNamed};
 ghost use Rattle.dc_store.specs.Maps.{tree_in, node_shown, IsNodeAt, CanKeep, IsSound};
+ghost use Rattle.dc_store.specs.Moved.{CanMove, tree_moved};
 ghost use Rattle.dc_store.specs.Spots.{spot_at};
 
-use crate::counts::{drop_unnamed, held, names, names_held};
+use crate::counts::{drop_replaced, drop_unnamed, held, names, names_held};
 use crate::key::Key;
-use crate::node::Node;
+use crate::node::{Node, set_parent};
 use crate::store::{New, Store};
 use dc_names::{Kind, Name, NoMemory};
 use std::alloc::Global;
@@ -87,6 +88,33 @@ impl MapStore {
         self.entries.insert(key, number)?;
         Ok(())
     }
+
+    /// Moves an entry. The new key is what can fail: put in, it finds or makes its place, and the rest takes no memory.
+    fn relocate(
+        &mut self,
+        alloc: Global,
+        from: u64,
+        old: Name<'_>,
+        to: u64,
+        new: Name<'_>,
+    ) -> Result<(), NoMemory>
+        requires { CanMove self.old from old.bytes.now to new.bytes.now }
+        ensures ok { OnOk result (IfSome (target_of self.old (spot_at from old.entry.bytes.now))
+            (λ n. self.new ≡ tree_moved self.old from old.entry.bytes.now to new.entry.bytes.now n)) }
+        ensures err { OnErr result (self.new ≡ self.old) }
+    {
+        let key = Key::new(to, new).as_slice().to_vec(alloc)?;
+        let source = Key::new(from, old);
+        let source = source.as_slice();
+        let Some(number) = self.entries.get(source).copied() else {
+            return Ok(());
+        };
+        let replaced = self.entries.insert(key, number)?;
+        self.entries.remove(source);
+        drop_replaced(&mut self.nodes, &self.entries, replaced);
+        set_parent(&mut self.nodes, number, to);
+        Ok(())
+    }
 }
 
 impl Store for MapStore {
@@ -158,5 +186,14 @@ impl Store for MapStore {
             return;
         };
         drop_unnamed(&mut self.nodes, &self.entries, number);
+    }
+
+    fn move_entry(
+        &mut self,
+        alloc: Global,
+        old: (u64, Name<'_>),
+        new: (u64, Name<'_>),
+    ) -> Result<(), NoMemory> {
+        self.relocate(alloc, old.0, old.1, new.0, new.1)
     }
 }

@@ -1,8 +1,9 @@
-ghost use Rattle.std.specs.Prelude.{◌≡◌, option_map};
+ghost use Rattle.std.specs.Prelude.{◌≡◌, ℕ, ◌==◌, map, option_map, if◌then◌else◌};
 ghost use Rattle.dc_plain.specs.Trees.{kind_of, text_in};
-ghost use Rattle.dc_store.specs.Maps.{node_shown, parent_kept};
+ghost use Rattle.dc_store.specs.Maps.{inode_shown, node_at, node_shown, parent_kept, with_parent};
 
 use dc_names::Kind;
+use std::collections::BTreeMap;
 
 /// What a store keeps under a number.
 #[derive(Drop)]
@@ -34,6 +35,14 @@ impl Node {
         }
     }
 
+    fn set_parent(&mut self, parent: u64)
+        ensures { self.new ≡ with_parent parent self.old }
+    {
+        if let Node::Dir(kept) = self {
+            *kept = parent;
+        }
+    }
+
     pub fn text(&self) -> Option<&[u8]>
         ensures { option_map (λ text. text.now) result ≡ text_in (node_shown self.now) }
     {
@@ -41,5 +50,16 @@ impl Node {
             Node::Dir(_) | Node::File => None,
             Node::Link(text) => Some(text),
         }
+    }
+}
+
+/// Writes a directory's parent. It leaves what is no directory.
+pub fn set_parent(nodes: &mut BTreeMap<u64, Node>, number: u64, parent: u64)
+    ensures shown { map inode_shown nodes.new.entries ≡ map inode_shown nodes.old.entries }
+    ensures set { (q : ℕ) → node_at nodes.new.entries q
+        ≡ (if q == number then option_map (with_parent parent) (node_at nodes.old.entries q) else node_at nodes.old.entries q) }
+{
+    if let Some(node) = nodes.get_mut(&number) {
+        node.set_parent(parent);
     }
 }

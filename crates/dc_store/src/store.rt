@@ -7,6 +7,7 @@ ghost use Rattle.dc_plain.specs.Trees.{Tree, target_of, inode_of, entry_of, text
 ghost use Rattle.dc_store.specs.Added.{CanAdd, tree_added, number_added};
 ghost use Rattle.dc_store.specs.Counts.{count_of};
 ghost use Rattle.dc_store.specs.Dropped.{CanDrop};
+ghost use Rattle.dc_store.specs.Moved.{CanMove, tree_moved};
 ghost use Rattle.dc_store.specs.Spots.{spot_at};
 
 use dc_names::{Kind, Name, NoMemory};
@@ -87,4 +88,17 @@ pub trait Store {
         requires { CanDrop (tree self.old) dir name.bytes.now }
         ensures { IfSome (target_of (tree self.old) (spot_at dir name.entry.bytes.now))
             (λ n. tree self.new ≡ without_entry (tree self.old) dir name.entry.bytes.now n) };
+
+    /// Moves an entry to another name, over what stands there.
+    /// `NoMemory` where memory was refused: then nothing has changed.
+    fn move_entry(
+        &mut self,
+        alloc: Global,
+        old: (u64, Name<'_>),
+        new: (u64, Name<'_>),
+    ) -> Result<(), NoMemory>
+        requires { CanMove (tree self.old) old.0 old.1.bytes.now new.0 new.1.bytes.now }
+        ensures ok { OnOk result (IfSome (target_of (tree self.old) (spot_at old.entry.0 old.entry.1.bytes.now))
+            (λ n. tree self.new ≡ tree_moved (tree self.old) old.entry.0 old.entry.1.bytes.now new.entry.0 new.entry.1.bytes.now n)) }
+        ensures err { OnErr result (tree self.new ≡ tree self.old) };
 }

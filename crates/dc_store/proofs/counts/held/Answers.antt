@@ -1,4 +1,4 @@
-use Rattle.std.proofs.Common.{◌≡◌, ℕ, ◌∙◌, Vec, is_some, rules}
+use Rattle.std.proofs.Common.{◌≡◌, ◌∙◌, is_some, rules}
 use Rattle.std.proofs.iter.runs.Made.{chains}
 use Rattle.std.specs.BTreeMap.{keys}
 use Rattle.std.specs.Prelude.{count_by}

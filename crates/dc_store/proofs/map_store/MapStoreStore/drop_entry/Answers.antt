@@ -1,4 +1,4 @@
-use Rattle.std.proofs.Common.{◌∙◌, sym}
+use Rattle.std.proofs.Common.{◌∙◌}
 use Rattle.dc_store.proofs.Dropped.{dropped, nothing_there}
 use Rattle.dc_store.proofs.map_store.MapStoreStore.drop_entry.Goals as goal
 
