@@ -1,0 +1,35 @@
+-- What reading and writing leave, where a reader and a writer tell their bytes.
+use Rattle.std.specs.Prelude.{◌≡◌, ℕ, ◌≤◌, List, ◌++◌, length, Option}
+use Rattle.std.specs.Io.KnownBytes.{Consumes, IsAtEnd, Appends}
+use Rattle.dc_serve.specs.declared.fault.ServeFault.{ServeFault}
+use Rattle.dc_serve.specs.declared.fault.ServeFault.TheVariants.{BadSize, Read, BadLine, NoMemory, Spent, Write}
+
+-- an input of at most 1,048,576 bytes was read up to its end
+pub record ReadWhole (before after : Option (List ℕ)) (input : List ℕ) : Type 0 where
+  pub consumed : Consumes before after input
+  pub ended : IsAtEnd after
+  pub fits : length input ≤ 1048576
+
+-- reading ends with these faults alone
+abbrev pub IsReadFault : ServeFault → Type 0
+IsReadFault Read = Unit {0}
+IsReadFault NoMemory = Unit {0}
+IsReadFault _ = ⊥
+
+-- answering ends with these faults alone
+abbrev pub IsServiceFault : ServeFault → Type 0
+IsServiceFault NoMemory = Unit {0}
+IsServiceFault Spent = Unit {0}
+IsServiceFault _ = ⊥
+
+-- known bytes have grown by a front of the text
+pub record AppendsFront (old new : Option (List ℕ)) (text : List ℕ) : Type 0 where
+  pub front : List ℕ
+  pub rest : List ℕ
+  pub cut : text ≡ front ++ rest
+  pub appends : Appends old new front
+
+-- writing fails as `Write` alone, after a front of the text
+abbrev pub WritesFront : Option (List ℕ) → Option (List ℕ) → List ℕ → ServeFault → Type 0
+WritesFront old new text Write = AppendsFront old new text
+WritesFront old new text _ = ⊥

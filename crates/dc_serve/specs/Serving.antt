@@ -1,0 +1,59 @@
+-- What the server keeps between commands, and what it answers.
+use Rattle.std.specs.Prelude.{ℕ, List, [], ◌∷◌, ◌++◌, Bool, true, false, replicate, slice_index, slice_set, if◌then◌else◌}
+use Rattle.dc_plain.specs.Trees.{Tree, empty_tree}
+use Rattle.dc_plain.specs.Requests.{Request, Answer}
+use Rattle.dc_plain.specs.Requests.Answer.{Found}
+use Rattle.dc_plain.specs.Runs.{reply_of, tree_after, clock_after}
+use Rattle.dc_lang.specs.declared.line.Verb.{Verb}
+use Rattle.dc_lang.specs.declared.line.Verb.TheVariants.{Cd}
+use Rattle.dc_lang.specs.Commands.{Order, request_from}
+use Rattle.dc_lang.specs.Replies.{reply_text}
+
+-- how many inodes may live, the tree, how many calls have altered it, and where each session starts
+pub record State : Type 0 where
+  pub limit : ℕ
+  pub tree : Tree
+  pub clock : ℕ
+  pub bases : List ℕ
+
+-- an empty tree, and each of the 16 sessions starts at the root
+abbrev pub opening : ℕ → State
+opening limit = record { limit = limit; tree = empty_tree; clock = 0; bases = replicate 16 1 }
+
+-- the call of an order, from its session's starting directory
+abbrev pub request_in : State → Order → Request
+request_in state order = request_from (slice_index state.bases order.session) order
+
+abbrev pub answer_in : State → Order → Answer
+answer_in state order = reply_of state.limit state.tree (request_in state order)
+
+-- the line that an order is answered
+abbrev pub reply_in : State → Order → List ℕ
+reply_in state order = reply_text order.session (answer_in state order) state.clock
+
+-- a directory that a `cd` finds is where its session starts from then on
+abbrev pub bases_after : Verb → ℕ → Answer → List ℕ → List ℕ
+bases_after Cd session (Found number kind) bases = slice_set bases session number
+bases_after verb session answer bases = bases
+
+-- what a call leaves
+abbrev pub called : State → Request → State
+called state request = record state {
+  tree = tree_after state.limit state.tree request;
+  clock = clock_after state.limit state.tree request state.clock;
+}
+
+-- what an order leaves
+abbrev pub after : State → Order → State
+after state order = record (called state (request_in state order)) {
+  bases = bases_after order.verb order.session (answer_in state order) state.bases;
+}
+
+-- the replies to orders, one after the other
+abbrev pub replies_in : State → List Order → List ℕ
+replies_in state [] = []
+replies_in state (order ∷ orders) = reply_in state order ++ replies_in (after state order) orders
+
+abbrev pub after_all : State → List Order → State
+after_all state [] = state
+after_all state (order ∷ orders) = after_all (after state order) orders

@@ -1,0 +1,53 @@
+ghost use Rattle.std.specs.Prelude.{◌≡◌, ◌≤◌, ◌++◌, OnOk, IfOk, IfErr, OnErr, take, length};
+ghost use Rattle.std.specs.Io.KnownBytes.{Consumes, IsAtEnd, Appends};
+ghost use Rattle.dc_serve.specs.Bytes.{ReadWhole, IsReadFault, WritesFront};
+
+use crate::ServeFault;
+use std::alloc::Global;
+use std::io::{Read, Write};
+
+const MOST_BYTES: usize = 1_048_576;
+
+const MOST_READS: u32 = 1_048_578;
+
+/// All bytes of the input, by reads up to one that gives none.
+pub fn read_whole<R: Read>(alloc: Global, reader: &mut R) -> Result<Vec<u8>, ServeFault>
+    ensures ok { IfOk result (λ input. ReadWhole (R.remaining reader.old) (R.remaining reader.new) input.items) }
+    ensures fault { IfErr result IsReadFault }
+{
+    let mut input = Vec::new(alloc);
+    let mut buffer = [0u8; 4096];
+    'reads: for _ in 0..MOST_READS {
+        let Ok(count) = reader.read(&mut buffer) else {
+            return Err(ServeFault::Read);
+        };
+        if count == 0 {
+            return Ok(input);
+        }
+        if count > MOST_BYTES - input.len() {
+            return Err(ServeFault::Read);
+        }
+        let Ok(()) = input.extend_from_slice(&buffer[..count]) else {
+            return Err(ServeFault::NoMemory);
+        };
+    }
+    Err(ServeFault::Read)
+}
+
+/// Writes all the bytes, or a front of them.
+pub fn write_whole<W: Write>(writer: &mut W, bytes: &[u8]) -> Result<(), ServeFault>
+    ensures ok { OnOk result (Appends (W.contents writer.old) (W.contents writer.new) bytes.now) }
+    ensures err { IfErr result (λ fault. WritesFront (W.contents writer.old) (W.contents writer.new) bytes.now fault) }
+{
+    let mut done = 0;
+    'writes: while done < bytes.len() {
+        let Ok(count) = writer.write(&bytes[done..]) else {
+            return Err(ServeFault::Write);
+        };
+        if count == 0 {
+            return Err(ServeFault::Write);
+        }
+        done += count;
+    }
+    Ok(())
+}

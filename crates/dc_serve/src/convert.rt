@@ -1,0 +1,30 @@
+ghost use Rattle.std.specs.Prelude.{◌≡◌};
+ghost use Rattle.dc_serve.specs.declared.fault.ServeFault.TheVariants.{NoMemory as NoMemoryFault};
+
+use crate::ServeFault;
+use dc_names::NoMemory;
+use std::alloc::{AllocError, AllocFailed};
+
+impl From<NoMemory> for ServeFault {
+    ghost from_gives = { λ _ fault. fault ≡ NoMemoryFault };
+
+    fn from(_error: NoMemory) -> ServeFault {
+        ServeFault::NoMemory
+    }
+}
+
+impl From<AllocError> for ServeFault {
+    ghost from_gives = { λ _ fault. fault ≡ NoMemoryFault };
+
+    fn from(_error: AllocError) -> ServeFault {
+        ServeFault::NoMemory
+    }
+}
+
+impl<T: Drop> From<AllocFailed<T>> for ServeFault {
+    ghost from_gives = { λ _ fault. fault ≡ NoMemoryFault };
+
+    fn from(_error: AllocFailed<T>) -> ServeFault {
+        ServeFault::NoMemory
+    }
+}

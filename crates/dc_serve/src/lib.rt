@@ -1,0 +1,25 @@
+//! The server: it answers the lines of an input, phase by phase and session by session.
+#![tactic(auto)]
+
+mod bytes;
+mod command_line;
+mod convert;
+mod fault;
+mod gate;
+mod lines;
+mod phases;
+mod read;
+mod running;
+mod serve;
+mod server;
+mod sizes;
+mod status;
+
+pub use command_line::options;
+pub use fault::{OptionsFault, ServeFault};
+pub use gate::{FreeGate, Gate};
+pub use running::run;
+pub use sizes::Options;
+
+#[cfg(test)]
+mod tests;

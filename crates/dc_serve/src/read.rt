@@ -1,0 +1,43 @@
+ghost use Rattle.std.specs.Prelude.{◌≡◌, ◌≤◌, IfOk, IfErr, map, length};
+ghost use Rattle.dc_lang.specs.Commands.{Says, said_by};
+ghost use Rattle.dc_serve.specs.Bytes.{ReadWhole};
+ghost use Rattle.dc_serve.specs.Input.{AllSay, IsLineFault, IsLinesFault};
+ghost use Rattle.dc_serve.specs.Lines.{lines_of};
+
+use crate::ServeFault;
+use crate::lines::lines_in;
+use dc_lang::{Line, LineFault, read_line};
+use std::alloc::Global;
+
+/// What the line of a number says.
+fn read_numbered(alloc: Global, number: u64, line: &[u8]) -> Result<Line, ServeFault>
+    ensures ok { IfOk result (λ said. Says line.now (said_by said)) }
+    ensures err { IfErr result (IsLineFault number line.now) }
+{
+    match read_line(alloc, line) {
+        Ok(said) => Ok(said),
+        Err(LineFault::Bad) => Err(ServeFault::BadLine(number)),
+        Err(LineFault::NoMemory) => Err(ServeFault::NoMemory),
+    }
+}
+
+/// What lines say.
+fn said_by_all(alloc: Global, lines: &[&[u8]]) -> Result<Vec<Line>, ServeFault>
+    ensures ok { IfOk result (λ said. AllSay (map (λ line. line.now) lines.now) (map said_by said.items)) }
+    ensures err { IfErr result (IsLinesFault (map (λ line. line.now) lines.now)) }
+{
+    let mut said = Vec::new(alloc);
+    for (at, line) in lines.iter().enumerate() {
+        said.push(read_numbered(alloc, at as u64 + 1, line)?)?;
+    }
+    Ok(said)
+}
+
+/// What the lines of an input say.
+pub fn read_lines(alloc: Global, input: &[u8]) -> Result<Vec<Line>, ServeFault>
+    ensures ok { IfOk result (λ said. AllSay (lines_of input.now) (map said_by said.items)) }
+    ensures err { IfErr result (IsLinesFault (lines_of input.now)) }
+{
+    let lines = lines_in(alloc, input)?;
+    said_by_all(alloc, &lines)
+}

@@ -1,0 +1,22 @@
+ghost use Rattle.std.specs.Prelude.{◌≡◌};
+ghost use Rattle.dc_serve.specs.Sizes.{are_right};
+
+/// The sizes that a server is started with.
+#[derive(Clone, Copy, Debug, PartialEq, Eq)]
+pub struct Options {
+    /// Buckets of the cache: a power of two from 1 to 1,024.
+    pub buckets: u64,
+    /// How many inodes may live: from 1 to 1,048,576.
+    pub inodes: u64,
+}
+
+impl Options {
+    /// Whether each size is within its limits.
+    pub fn are_right(&self) -> bool
+        ensures { result ≡ are_right self.now.buckets self.now.inodes }
+    {
+        (1..=1024).contains(&self.buckets)
+            && self.buckets.is_power_of_two()
+            && (1..=1_048_576).contains(&self.inodes)
+    }
+}
