@@ -128,7 +128,7 @@ impl Read for ByteByByte {
         }
         self.left -= 1;
         buf[0] = b"0 look /\n"[self.given % 9];
-        self.given = (self.given + 1) % 9;
+        self.given = (self.given % 9 + 1) % 9;
         Ok(1)
     }
 }
@@ -161,10 +161,18 @@ fn inputs_that_end_badly(rt: HostRuntime) -> Result<(), Fail> {
     Ok(())
 }
 
+/// A line that looks a path of so many slashes up, without its newline.
+fn look_of_slashes(alloc: Global, slashes: u32) -> Result<Vec<u8>, AllocError> {
+    let mut line = Vec::from_slice(alloc, b"0 look ")?;
+    for _ in 0..slashes {
+        line.push(b'/')?;
+    }
+    Ok(line)
+}
+
 #[test]
 fn largest_inputs(rt: HostRuntime) -> Result<(), Fail> {
-    let mut input = vec![in rt.alloc(); b'/'; 1_048_576]?;
-    input[..7].copy_from_slice(b"0 look ");
+    let mut input = look_of_slashes(rt.alloc(), 1_048_569)?;
     let (result, output) = served(&rt, rt.alloc(), USUAL, &input);
     assert_eq!(rt; result, Ok(()));
     assert!(rt; output.as_slice() == b"0 no 36 @0\n".as_slice());
@@ -176,6 +184,7 @@ fn largest_inputs(rt: HostRuntime) -> Result<(), Fail> {
 }
 
 /// Writes down each call as three digits: the session, the line, and whether it came before or after.
+#[derive(Drop)]
 struct Recorder {
     calls: AtomicU64,
 }

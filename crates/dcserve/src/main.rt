@@ -30,14 +30,36 @@ fn serve(rt: &HostRuntime, options: Options) -> u8 {
     fault.status()
 }
 
-fn main(rt: HostRuntime) -> io::Result<ExitCode> {
-    let words: Vec<String> = env::args(&rt)?.skip(1).collect(rt.alloc())?;
-    let status = match options(rt.alloc(), &words) {
-        Ok(options) => serve(&rt, options),
+/// Answers the status of a run by these words.
+fn obey(rt: &HostRuntime, words: &[String]) -> u8 {
+    match options(rt.alloc(), words) {
+        Ok(options) => serve(rt, options),
         Err(fault) => {
-            let _ = refuse(&rt, &fault);
+            let _ = refuse(rt, &fault);
             fault.status()
         }
+    }
+}
+
+/// The words after the program's name.
+fn words(rt: &HostRuntime) -> io::Result<Vec<String>> {
+    Ok(env::args(rt)?.skip(1).collect(rt.alloc())?)
+}
+
+/// Tells why there are no words: memory was refused, or one of them is no text.
+fn refuse_words(rt: &HostRuntime, error: &io::Error) -> u8 {
+    if error.kind() == io::ErrorKind::OutOfMemory {
+        let _ = eprintln!(rt; "dcserve: no memory");
+        return 3;
+    }
+    let _ = eprintln!(rt; "dcserve: an argument is no text");
+    2
+}
+
+fn main(rt: HostRuntime) -> ExitCode {
+    let status = match words(&rt) {
+        Ok(words) => obey(&rt, &words),
+        Err(error) => refuse_words(&rt, &error),
     };
-    Ok(ExitCode::from(status))
+    ExitCode::from(status)
 }
