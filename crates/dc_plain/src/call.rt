@@ -3,34 +3,74 @@ use dc_names::Kind;
 /// What becomes of a link that a path ends in.
 #[derive(Clone, Copy, Debug, PartialEq, Eq)]
 pub enum Follow {
+    /// It is followed.
     Yes,
+    /// It is kept, unless a slash ends the path.
     No,
+    /// It is followed, and what is found must be a directory.
     Dir,
 }
 
-/// A call on a tree.
+/// A call on a tree. `base` is the number of the directory that a relative path starts from, and paths
+/// come as the bytes that the caller gave.
 #[derive(Clone, Copy)]
 pub enum Call<'a> {
+    /// Where a path leads (POSIX.1-2017 XBD 4.13).
     Look {
         base: u64,
         path: &'a [u8],
         follow: Follow,
     },
-    Mkdir {
+    /// The text of a symbolic link.
+    Readlink { base: u64, path: &'a [u8] },
+    /// Where a path leads, and how many names or entries that inode has.
+    Stat { base: u64, path: &'a [u8] },
+    /// The names in a directory.
+    List { base: u64, path: &'a [u8] },
+    /// An empty directory is made.
+    Mkdir { base: u64, path: &'a [u8] },
+    /// An empty regular file is made.
+    Create { base: u64, path: &'a [u8] },
+    /// What `old` names gets the further name `new`.
+    Link {
         base: u64,
+        old: &'a [u8],
+        new: &'a [u8],
+    },
+    /// A symbolic link with a text is made.
+    Symlink {
+        base: u64,
+        text: &'a [u8],
         path: &'a [u8],
+    },
+    /// A name of a file or of a link goes.
+    Unlink { base: u64, path: &'a [u8] },
+    /// An empty directory goes.
+    Rmdir { base: u64, path: &'a [u8] },
+    /// What `old` names gets the name `new` in its place.
+    Rename {
+        base: u64,
+        old: &'a [u8],
+        new: &'a [u8],
     },
 }
 
 /// What a call is answered.
 #[derive(Debug, Drop, PartialEq, Eq)]
 pub enum Reply {
+    /// The number and the kind of what was found.
     Found(u64, Kind),
+    /// The number of what was made or got a further name.
     Done(u64),
+    /// The change was made.
     Unit,
+    /// A link's text.
     Text(Vec<u8>),
+    /// The names in a directory, by their bytes.
     Names(Vec<Vec<u8>>),
+    /// A number, its kind, and how many names it has, or how many entries as a directory.
     Stat(u64, Kind, u64),
+    /// The number of an error, as Linux counts them.
     Refused(u64),
 }
 

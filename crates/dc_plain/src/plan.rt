@@ -49,6 +49,15 @@ impl PlainTree {
                 let change = self.make(alloc, base, path, true, New::Directory)?;
                 Ok(Plan::Change(change))
             }
+            Call::Readlink { .. }
+            | Call::Stat { .. }
+            | Call::List { .. }
+            | Call::Create { .. }
+            | Call::Link { .. }
+            | Call::Symlink { .. }
+            | Call::Unlink { .. }
+            | Call::Rmdir { .. }
+            | Call::Rename { .. } => Err(Stop::OutOfMemory),
         }
     }
 
