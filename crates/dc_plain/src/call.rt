@@ -22,15 +22,30 @@ pub enum Call<'a> {
         follow: Follow,
     },
     /// The text of a symbolic link.
-    Readlink { base: u64, path: &'a [u8] },
+    Readlink {
+        base: u64,
+        path: &'a [u8],
+    },
     /// Where a path leads, and how many names or entries that inode has.
-    Stat { base: u64, path: &'a [u8] },
+    Stat {
+        base: u64,
+        path: &'a [u8],
+    },
     /// The names in a directory.
-    List { base: u64, path: &'a [u8] },
+    List {
+        base: u64,
+        path: &'a [u8],
+    },
     /// An empty directory is made.
-    Mkdir { base: u64, path: &'a [u8] },
+    Mkdir {
+        base: u64,
+        path: &'a [u8],
+    },
     /// An empty regular file is made.
-    Create { base: u64, path: &'a [u8] },
+    Create {
+        base: u64,
+        path: &'a [u8],
+    },
     /// What `old` names gets the further name `new`.
     Link {
         base: u64,
@@ -44,9 +59,15 @@ pub enum Call<'a> {
         path: &'a [u8],
     },
     /// A name of a file or of a link goes.
-    Unlink { base: u64, path: &'a [u8] },
+    Unlink {
+        base: u64,
+        path: &'a [u8],
+    },
     /// An empty directory goes.
-    Rmdir { base: u64, path: &'a [u8] },
+    Rmdir {
+        base: u64,
+        path: &'a [u8],
+    },
     /// What `old` names gets the name `new` in its place.
     Rename {
         base: u64,
