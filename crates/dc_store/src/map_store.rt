@@ -1,5 +1,6 @@
 ghost use Rattle.std.specs.Prelude.{◌≡◌, ◌<◌, ◌^◌, None, option_map, IfSome, IfOk, OnOk, OnErr, IsTrue};
 ghost use Rattle.dc_plain.specs.Effects.{with_new, with_entry_for};
+ghost use Rattle.dc_plain.specs.IsWellFormed.{IsWellFormed};
 ghost use Rattle.dc_plain.specs.Trees.{Tree, empty_tree, inode_of, target_of, is_live_directory};
 ghost use Rattle.dc_store.specs.Added.{CanBeNamed};
 ghost use Rattle.dc_store.specs.Maps.{tree_in, node_shown, IsNodeAt, CanKeep, IsSound};
@@ -49,6 +50,7 @@ impl MapStore {
     fn node(&self, number: u64) -> Option<&Node>
         ensures shown { option_map (λ node. node_shown node.now) result ≡ inode_of self.now number }
         ensures kept { IfSome result (λ node. IsNodeAt self.now number node.now) }
+        ensures well { IsWellFormed self.now }
     {
         self.nodes.get(&number)
     }

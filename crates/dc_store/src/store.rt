@@ -37,7 +37,8 @@ pub trait Store {
 
     /// The kind of a live inode.
     fn kind(&self, number: u64) -> Option<Kind>
-        ensures { result ≡ option_map kind_of (inode_of (tree self.now) number) };
+        ensures kind { result ≡ option_map kind_of (inode_of (tree self.now) number) }
+        ensures well { IsWellFormed (tree self.now) };
 
     /// The directory that holds a live directory's entry. The root holds itself.
     fn parent(&self, number: u64) -> Option<u64>

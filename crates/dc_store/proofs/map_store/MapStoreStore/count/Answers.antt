@@ -7,14 +7,14 @@ use Rattle.dc_store.proofs.map_store.MapStoreStore.count.Goals as goal
 pub returns-in-Some-Dir : goal.returns-in-Some-Dir
 returns-in-Some-Dir c =
     c.held.ensures ∙ names_counted c.args.number c.ranges.number.fits c.self.inside.entries.entries c.self.inside.nodes.entries c.self.inside.next c.self.invariant.keys
-    ∙ ap (λ (t : Tree). length (names_in t c.args.number)) c.self.view_is ∙ count_as c.args.self.now c.args.number Dir (ap (λ k. Some k) (sym c.in-Some-Dir.field-0-is) ∙ c.in-Some-Dir.ensures)
+    ∙ ap (λ (t : Tree). length (names_in t c.args.number)) c.self.view_is ∙ count_as c.args.self.now c.args.number Dir (ap (λ k. Some k) (sym c.in-Some-Dir.field-0-is) ∙ c.in-Some-Dir.ensures.kind)
 
 pub returns-in-Some-File : goal.returns-in-Some-File
 returns-in-Some-File c =
     c.names.ensures ∙ names_among c.self.inside.entries.entries c.args.number ∙ ap (λ (t : Tree). names_of t c.args.number) c.self.view_is
-    ∙ count_as c.args.self.now c.args.number File (ap (λ k. Some k) (sym c.in-Some-File.field-0-is) ∙ c.in-Some-File.ensures)
+    ∙ count_as c.args.self.now c.args.number File (ap (λ k. Some k) (sym c.in-Some-File.field-0-is) ∙ c.in-Some-File.ensures.kind)
 
 pub returns-in-Some-Link : goal.returns-in-Some-Link
 returns-in-Some-Link c =
     c.names-in-Some-Link.ensures ∙ names_among c.self.inside.entries.entries c.args.number ∙ ap (λ (t : Tree). names_of t c.args.number) c.self.view_is
-    ∙ count_as c.args.self.now c.args.number Link (ap (λ k. Some k) (sym c.in-Some-Link.field-0-is) ∙ c.in-Some-Link.ensures)
+    ∙ count_as c.args.self.now c.args.number Link (ap (λ k. Some k) (sym c.in-Some-Link.field-0-is) ∙ c.in-Some-Link.ensures.kind)
