@@ -33,7 +33,8 @@ pub trait Store {
 
     /// The number that a name in a directory leads to.
     fn find(&self, dir: u64, name: Name<'_>) -> Option<u64>
-        ensures { result ≡ target_of (tree self.now) (spot_at dir name.entry.bytes.now) };
+        ensures target { result ≡ target_of (tree self.now) (spot_at dir name.entry.bytes.now) }
+        ensures well { IsWellFormed (tree self.now) };
 
     /// The kind of a live inode.
     fn kind(&self, number: u64) -> Option<Kind>
@@ -62,7 +63,8 @@ pub trait Store {
 
     /// How many names a file or link has, or how many entries stand in a directory. 0 where nothing lives.
     fn count(&self, number: u64) -> u64
-        ensures { result ≡ count_of (tree self.now) number };
+        ensures count { result ≡ count_of (tree self.now) number }
+        ensures well { IsWellFormed (tree self.now) };
 
     /// The names in a directory, by their bytes. `NoMemory` where memory was refused.
     fn list(&self, alloc: Global, dir: u64) -> Result<Vec<Vec<u8>>, NoMemory>
