@@ -11,11 +11,11 @@ use Rattle.dc_lang.specs.declared.line.Line.{Line}
 use Rattle.dc_lang.specs.declared.line.LineFault.{LineFault}
 use Rattle.dc_lang.specs.declared.line.LineFault.TheVariants.{Bad, NoMemory}
 use Rattle.dc_lang.specs.declared.line.Verb.{Verb}
-use Rattle.dc_lang.specs.declared.line.Verb.TheVariants.{Look, Llook, Cd, Mkdir}
+use Rattle.dc_lang.specs.declared.line.Verb.TheVariants as verbs
 use Rattle.dc_lang.specs.Words.{spelled, spaced}
 use Rattle.dc_lang.specs.Commands.{Order, IsOrder, Said, Says, verb_text, word_count, line_text, said_by}
 use Rattle.dc_lang.specs.Commands.Said.{Sync, Orders}
-use Rattle.dc_lang.specs.Reading.{session_in, verbs, verb_in, words_in, counted_words, ◌>>=◌, order_in, parts, said_in, Reads}
+use Rattle.dc_lang.specs.Reading.{session_in, all_verbs, verb_in, words_in, counted_words, ◌>>=◌, order_in, parts, said_in, Reads}
 use Rattle.dc_lang.proofs.Words.{chosen, words_in-spelled, words_in_spells}
 use Rattle.dc_lang.proofs.Parts.{HasNoSpace, all_spelled, parts-spaced}
 use Rattle.dc_lang.proofs.Sessions.{session_in-decimal, session_in_spells, HasNoSpace-session}
@@ -25,10 +25,20 @@ abbrev pub order_words : Order → List (List ℕ)
 order_words order = decimal order.session ∷ verb_text order.verb ∷ map spelled order.words
 
 verb_in-verb_text : (verb : Verb) → verb_in (verb_text verb) ≡ Some verb
-verb_in-verb_text Look = refl
-verb_in-verb_text Llook = refl
-verb_in-verb_text Cd = refl
-verb_in-verb_text Mkdir = refl
+unfolding verb_in
+verb_in-verb_text verbs.Look = refl
+verb_in-verb_text verbs.Llook = refl
+verb_in-verb_text verbs.Cd = refl
+verb_in-verb_text verbs.Readlink = refl
+verb_in-verb_text verbs.Stat = refl
+verb_in-verb_text verbs.List = refl
+verb_in-verb_text verbs.Mkdir = refl
+verb_in-verb_text verbs.Create = refl
+verb_in-verb_text verbs.Link = refl
+verb_in-verb_text verbs.Symlink = refl
+verb_in-verb_text verbs.Unlink = refl
+verb_in-verb_text verbs.Rmdir = refl
+verb_in-verb_text verbs.Rename = refl
 
 neither : (a b : Bool) → (a || b) ≡ false → (a ≡ false) × (b ≡ false)
 neither true b e = cc
@@ -41,10 +51,19 @@ no_space_tested (b ∷ text) e =
     (each.0, no_space_tested text each.1)
 
 HasNoSpace-verb_text : (verb : Verb) → HasNoSpace (verb_text verb)
-HasNoSpace-verb_text Look = no_space_tested (codes "look") refl
-HasNoSpace-verb_text Llook = no_space_tested (codes "llook") refl
-HasNoSpace-verb_text Cd = no_space_tested (codes "cd") refl
-HasNoSpace-verb_text Mkdir = no_space_tested (codes "mkdir") refl
+HasNoSpace-verb_text verbs.Look = no_space_tested (codes "look") refl
+HasNoSpace-verb_text verbs.Llook = no_space_tested (codes "llook") refl
+HasNoSpace-verb_text verbs.Cd = no_space_tested (codes "cd") refl
+HasNoSpace-verb_text verbs.Readlink = no_space_tested (codes "readlink") refl
+HasNoSpace-verb_text verbs.Stat = no_space_tested (codes "stat") refl
+HasNoSpace-verb_text verbs.List = no_space_tested (codes "list") refl
+HasNoSpace-verb_text verbs.Mkdir = no_space_tested (codes "mkdir") refl
+HasNoSpace-verb_text verbs.Create = no_space_tested (codes "create") refl
+HasNoSpace-verb_text verbs.Link = no_space_tested (codes "link") refl
+HasNoSpace-verb_text verbs.Symlink = no_space_tested (codes "symlink") refl
+HasNoSpace-verb_text verbs.Unlink = no_space_tested (codes "unlink") refl
+HasNoSpace-verb_text verbs.Rmdir = no_space_tested (codes "rmdir") refl
+HasNoSpace-verb_text verbs.Rename = no_space_tested (codes "rename") refl
 
 found_passes : {A : Type 0} (p : A → Bool) (xs : List A) (x : A) → find p xs ≡ Some x → p x ≡ true
 found_passes p [] x e = cc
@@ -54,7 +73,8 @@ found_passes p (y ∷ ys) x e = elim (chosen (p y) (Some y) (find p ys) (Some x)
 ]
 
 verb_in_spells : (text : List ℕ) (verb : Verb) → verb_in text ≡ Some verb → verb_text verb ≡ text
-verb_in_spells text verb e = (bytes_eq-Decides (verb_text verb) text).0 (found_passes (λ v. bytes_eq (verb_text v) text) verbs verb e)
+unfolding verb_in
+verb_in_spells text verb e = (bytes_eq-Decides (verb_text verb) text).0 (found_passes (λ v. bytes_eq (verb_text v) text) all_verbs verb e)
 
 bind_at : {A B : Type 0} (found : Option A) (x : A) (next : A → Option B) (y : Option B) → found ≡ Some x → next x ≡ y → (found >>= next) ≡ y
 bind_at found x next y e f = ap (λ o. o >>= next) e ∙ f
@@ -106,7 +126,6 @@ parts_order : (order : Order) → IsOrder order → parts (line_text (Orders ord
 parts_order order is = parts-spaced (decimal order.session) (verb_text order.verb ∷ map spelled order.words)
     (HasNoSpace-session order.session is.session, (HasNoSpace-verb_text order.verb, all_spelled order.words))
 
--- a line with a space isn't the word `sync`
 -- a line with a space isn't the word `sync`
 no_sync : (line : List ℕ) (a b : List ℕ) (rest : List (List ℕ)) → parts line ≡ a ∷ b ∷ rest → bytes_eq line (codes "sync") ≡ false
 no_sync line a b rest e = go (bytes_eq line (codes "sync")) refl

@@ -2,13 +2,13 @@
 use Rattle.std.specs.Prelude.{◌≡◌, ℕ, ◌≤◌, List, [], ◌∷◌, map, length, slice_get, codes, decimal, Some, None}
 use Rattle.dc_lang.specs.Words.{spelled, spaced}
 use Rattle.dc_lang.specs.declared.line.Verb.{Verb}
-use Rattle.dc_lang.specs.declared.line.Verb.TheVariants.{Look, Llook, Cd, Mkdir}
+use Rattle.dc_lang.specs.declared.line.Verb.TheVariants as verbs
 use Rattle.dc_lang.specs.declared.line.Command as rust_command
 use Rattle.dc_lang.specs.declared.line.Line as rust_line
 use Rattle.dc_lang.specs.declared.line.Line.TheVariants as lines
 use Rattle.dc_plain.specs.declared.call.Follow.TheVariants as follow
 use Rattle.dc_plain.specs.Requests.{Request}
-use Rattle.dc_plain.specs.Requests.Request.{Look as LookAt, Mkdir as MkdirAt}
+use Rattle.dc_plain.specs.Requests.Request.{Look, Readlink, Stat, List_names, Mkdir, Create, Hard_link, Symlink, Unlink, Rmdir, Rename}
 
 -- a command: the session, what it asks for, and its words
 pub record Order : Type 0 where
@@ -22,17 +22,35 @@ pub data Said : Type 0 where
   Orders : Order → Said
 
 abbrev pub verb_text : Verb → List ℕ
-verb_text Look = codes "look"
-verb_text Llook = codes "llook"
-verb_text Cd = codes "cd"
-verb_text Mkdir = codes "mkdir"
+verb_text verbs.Look = codes "look"
+verb_text verbs.Llook = codes "llook"
+verb_text verbs.Cd = codes "cd"
+verb_text verbs.Readlink = codes "readlink"
+verb_text verbs.Stat = codes "stat"
+verb_text verbs.List = codes "list"
+verb_text verbs.Mkdir = codes "mkdir"
+verb_text verbs.Create = codes "create"
+verb_text verbs.Link = codes "link"
+verb_text verbs.Symlink = codes "symlink"
+verb_text verbs.Unlink = codes "unlink"
+verb_text verbs.Rmdir = codes "rmdir"
+verb_text verbs.Rename = codes "rename"
 
 -- how many words follow the verb
 abbrev pub word_count : Verb → ℕ
-word_count Look = 1
-word_count Llook = 1
-word_count Cd = 1
-word_count Mkdir = 1
+word_count verbs.Look = 1
+word_count verbs.Llook = 1
+word_count verbs.Cd = 1
+word_count verbs.Readlink = 1
+word_count verbs.Stat = 1
+word_count verbs.List = 1
+word_count verbs.Mkdir = 1
+word_count verbs.Create = 1
+word_count verbs.Link = 2
+word_count verbs.Symlink = 2
+word_count verbs.Unlink = 1
+word_count verbs.Rmdir = 1
+word_count verbs.Rename = 2
 
 -- sessions are 0 to 15, and each verb has its number of words
 pub record IsOrder (order : Order) : Type 0 where
@@ -59,10 +77,19 @@ word_at at order = elim (slice_get order.words at) [ None ↦ [] | Some word ↦
 
 -- the call that an order makes from a starting directory
 abbrev pub asked : ℕ → Order → Verb → Request
-asked base order Look = LookAt base (word_at 0 order) follow.Yes
-asked base order Llook = LookAt base (word_at 0 order) follow.No
-asked base order Cd = LookAt base (word_at 0 order) follow.Dir
-asked base order Mkdir = MkdirAt base (word_at 0 order)
+asked base order verbs.Look = Look base (word_at 0 order) follow.Yes
+asked base order verbs.Llook = Look base (word_at 0 order) follow.No
+asked base order verbs.Cd = Look base (word_at 0 order) follow.Dir
+asked base order verbs.Readlink = Readlink base (word_at 0 order)
+asked base order verbs.Stat = Stat base (word_at 0 order)
+asked base order verbs.List = List_names base (word_at 0 order)
+asked base order verbs.Mkdir = Mkdir base (word_at 0 order)
+asked base order verbs.Create = Create base (word_at 0 order)
+asked base order verbs.Link = Hard_link base (word_at 0 order) (word_at 1 order)
+asked base order verbs.Symlink = Symlink base (word_at 0 order) (word_at 1 order)
+asked base order verbs.Unlink = Unlink base (word_at 0 order)
+asked base order verbs.Rmdir = Rmdir base (word_at 0 order)
+asked base order verbs.Rename = Rename base (word_at 0 order) (word_at 1 order)
 
 abbrev pub request_from : ℕ → Order → Request
 request_from base order = asked base order order.verb

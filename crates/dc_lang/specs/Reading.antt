@@ -3,7 +3,7 @@ use Rattle.std.specs.Prelude.{◌≡◌, ℕ, ◌-◌, ◌==◌, ◌&&◌, ◌||
 use Rattle.std.specs.List.{slice_split}
 use Rattle.std.specs.Str.{bytes_eq}
 use Rattle.dc_lang.specs.declared.line.Verb.{Verb}
-use Rattle.dc_lang.specs.declared.line.Verb.TheVariants.{Look, Llook, Cd, Mkdir}
+use Rattle.dc_lang.specs.declared.line.Verb.TheVariants as verbs
 use Rattle.dc_lang.specs.declared.line.LineFault.{LineFault}
 use Rattle.dc_lang.specs.declared.line.LineFault.TheVariants.{Bad, NoMemory}
 use Rattle.dc_lang.specs.Commands.{Order, Said, verb_text, word_count}
@@ -48,12 +48,14 @@ session_in (a ∷ b ∷ []) = if a == 49 && (nat_le 48 b && nat_le b 53) then So
 session_in (a ∷ b ∷ c ∷ text) = None
 
 -- all of them
-abbrev pub verbs : List Verb
-verbs = Look ∷ Llook ∷ Cd ∷ Mkdir ∷ []
+abbrev pub all_verbs : List Verb
+all_verbs =
+    verbs.Look ∷ verbs.Llook ∷ verbs.Cd ∷ verbs.Readlink ∷ verbs.Stat ∷ verbs.List
+    ∷ verbs.Mkdir ∷ verbs.Create ∷ verbs.Link ∷ verbs.Symlink ∷ verbs.Unlink ∷ verbs.Rmdir ∷ verbs.Rename ∷ []
 
 -- the verb with this text
-abbrev pub verb_in : List ℕ → Option Verb
-verb_in text = find (λ verb. bytes_eq (verb_text verb) text) verbs
+unfoldable pub verb_in : List ℕ → Option Verb
+verb_in text = find (λ verb. bytes_eq (verb_text verb) text) all_verbs
 
 -- the words of a verb, if they are as many as it takes
 abbrev pub counted_words : Verb → List (List ℕ) → Option (List (List ℕ))

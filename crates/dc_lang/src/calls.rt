@@ -1,5 +1,6 @@
 ghost use Rattle.std.specs.Prelude.{◌≡◌};
 ghost use Rattle.dc_plain.specs.Requests.{request_of};
+ghost use Rattle.dc_plain.specs.Requests.Request.{Look};
 ghost use Rattle.dc_lang.specs.Commands.{order_of, word_at, request_from};
 
 use crate::{Command, Verb};
@@ -15,27 +16,35 @@ fn word_at(command: &Command, at: usize) -> &[u8]
     }
 }
 
+fn look(base: u64, path: &[u8], follow: Follow) -> Call<'_>
+    ensures { request_of result ≡ Look base path.now follow }
+{
+    Call::Look { base, path, follow }
+}
+
 /// The call that a command makes from the directory with the number `base`.
 pub fn call(command: &Command, base: u64) -> Call<'_>
     ensures { request_of result ≡ request_from base (order_of command.now) }
 {
     let path = word_at(command, 0);
+    let (old, new) = (path, word_at(command, 1));
     match command.verb {
-        Verb::Look => Call::Look {
-            base,
-            path,
-            follow: Follow::Yes,
-        },
-        Verb::Llook => Call::Look {
-            base,
-            path,
-            follow: Follow::No,
-        },
-        Verb::Cd => Call::Look {
-            base,
-            path,
-            follow: Follow::Dir,
-        },
+        Verb::Look => look(base, path, Follow::Yes),
+        Verb::Llook => look(base, path, Follow::No),
+        Verb::Cd => look(base, path, Follow::Dir),
+        Verb::Readlink => Call::Readlink { base, path },
+        Verb::Stat => Call::Stat { base, path },
+        Verb::List => Call::List { base, path },
         Verb::Mkdir => Call::Mkdir { base, path },
+        Verb::Create => Call::Create { base, path },
+        Verb::Link => Call::Link { base, old, new },
+        Verb::Symlink => Call::Symlink {
+            base,
+            text: old,
+            path: new,
+        },
+        Verb::Unlink => Call::Unlink { base, path },
+        Verb::Rmdir => Call::Rmdir { base, path },
+        Verb::Rename => Call::Rename { base, old, new },
     }
 }

@@ -7,7 +7,26 @@ pub enum Verb {
     Llook,
     /// The same of a directory, which the session starts in from then on.
     Cd,
+    /// The text of a symbolic link.
+    Readlink,
+    /// Where a path leads, and how many names or entries that inode has.
+    Stat,
+    /// The names in a directory.
+    List,
+    /// An empty directory is made.
     Mkdir,
+    /// An empty regular file is made.
+    Create,
+    /// What the first word names gets the second as a further name.
+    Link,
+    /// A symbolic link is made, with the first word as its text.
+    Symlink,
+    /// A name of a file or of a link goes.
+    Unlink,
+    /// An empty directory goes.
+    Rmdir,
+    /// What the first word names gets the second as its name.
+    Rename,
 }
 
 /// A command of a session.

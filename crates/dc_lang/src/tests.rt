@@ -10,28 +10,41 @@ fn is_bad(alloc: Global, line: &[u8]) -> bool {
     matches!(read_line(alloc, line), Err(LineFault::Bad))
 }
 
-fn is(command: &Command, session: u64, verb: Verb, word: &[u8]) -> bool {
-    let [only] = command.words.as_slice() else {
-        return false;
-    };
-    command.session == session && command.verb == verb && only.as_slice() == word
+fn is(command: &Command, session: u64, verb: Verb, words: &[&[u8]]) -> bool {
+    command.session == session
+        && command.verb == verb
+        && command
+            .words
+            .iter()
+            .map(|word| word.as_slice())
+            .eq(words.iter().copied())
 }
 
 #[test]
 fn reads_lines(rt: HostRuntime) -> Result<(), Fail> {
-    let lines: [(&[u8], u64, Verb, &[u8]); 6] = [
-        (b"0 look /", 0, Verb::Look, b"/"),
-        (b"9 llook \\e", 9, Verb::Llook, b""),
-        (b"10 cd ..", 10, Verb::Cd, b".."),
-        (b"15 mkdir /@3", 15, Verb::Mkdir, b"/@3"),
-        (b"0 mkdir a\\sb\\nc\\\\e", 0, Verb::Mkdir, b"a b\nc\\e"),
-        (b"0 look /\0\xff", 0, Verb::Look, b"/\0\xff"),
+    let lines: [(&[u8], u64, Verb, &[&[u8]]); 16] = [
+        (b"0 look /", 0, Verb::Look, &[b"/"]),
+        (b"9 llook \\e", 9, Verb::Llook, &[b""]),
+        (b"10 cd ..", 10, Verb::Cd, &[b".."]),
+        (b"1 readlink l", 1, Verb::Readlink, &[b"l"]),
+        (b"2 stat .", 2, Verb::Stat, &[b"."]),
+        (b"3 list /d/", 3, Verb::List, &[b"/d/"]),
+        (b"15 mkdir /@3", 15, Verb::Mkdir, &[b"/@3"]),
+        (b"0 mkdir a\\sb\\nc\\\\e", 0, Verb::Mkdir, &[b"a b\nc\\e"]),
+        (b"4 create f", 4, Verb::Create, &[b"f"]),
+        (b"5 link f g", 5, Verb::Link, &[b"f", b"g"]),
+        (b"6 symlink ./d l", 6, Verb::Symlink, &[b"./d", b"l"]),
+        (b"6 symlink \\e l", 6, Verb::Symlink, &[b"", b"l"]),
+        (b"7 unlink g", 7, Verb::Unlink, &[b"g"]),
+        (b"8 rmdir d", 8, Verb::Rmdir, &[b"d"]),
+        (b"11 rename a\\sb b", 11, Verb::Rename, &[b"a b", b"b"]),
+        (b"0 look /\0\xff", 0, Verb::Look, &[b"/\0\xff"]),
     ];
-    for (line, session, verb, word) in lines {
+    for (line, session, verb, words) in lines {
         let Line::Command(command) = read_line(rt.alloc(), line)? else {
             return Err(Fail::from(LineFault::Bad));
         };
-        assert!(rt; is(&command, session, verb, word), "{line:?}");
+        assert!(rt; is(&command, session, verb, words), "{line:?}");
     }
     assert!(rt; matches!(read_line(rt.alloc(), b"sync")?, Line::Sync));
     Ok(())
@@ -39,7 +52,7 @@ fn reads_lines(rt: HostRuntime) -> Result<(), Fail> {
 
 #[test]
 fn refuses_what_is_no_line(rt: HostRuntime) {
-    let lines: [&[u8]; 24] = [
+    let lines: [&[u8]; 29] = [
         b"",
         b" ",
         b"0",
@@ -48,6 +61,11 @@ fn refuses_what_is_no_line(rt: HostRuntime) {
         b"0 look ",
         b"0 look / ",
         b"0 look / /",
+        b"0 rename a",
+        b"0 rename a ",
+        b"0 rename a b c",
+        b"0 symlink  l",
+        b"0 rename2 - a b",
         b"0  look /",
         b" 0 look /",
         b"16 look /",
@@ -70,23 +88,56 @@ fn refuses_what_is_no_line(rt: HostRuntime) {
     }
 }
 
+fn is_call(call: Call, base: u64, verb: Verb, first: &[u8], second: &[u8]) -> bool {
+    let (from, wanted, one, other): (u64, Verb, &[u8], &[u8]) = match call {
+        Call::Look { base, path, follow } => (base, looking(follow), path, b""),
+        Call::Readlink { base, path } => (base, Verb::Readlink, path, b""),
+        Call::Stat { base, path } => (base, Verb::Stat, path, b""),
+        Call::List { base, path } => (base, Verb::List, path, b""),
+        Call::Mkdir { base, path } => (base, Verb::Mkdir, path, b""),
+        Call::Create { base, path } => (base, Verb::Create, path, b""),
+        Call::Link { base, old, new } => (base, Verb::Link, old, new),
+        Call::Symlink { base, text, path } => (base, Verb::Symlink, text, path),
+        Call::Unlink { base, path } => (base, Verb::Unlink, path, b""),
+        Call::Rmdir { base, path } => (base, Verb::Rmdir, path, b""),
+        Call::Rename { base, old, new } => (base, Verb::Rename, old, new),
+    };
+    from == base && wanted == verb && one == first && other == second
+}
+
+fn looking(follow: Follow) -> Verb {
+    match follow {
+        Follow::Yes => Verb::Look,
+        Follow::No => Verb::Llook,
+        Follow::Dir => Verb::Cd,
+    }
+}
+
 #[test]
 fn makes_calls(rt: HostRuntime) -> Result<(), Fail> {
-    let calls = [
-        (b"1 look /a".as_slice(), Some(Follow::Yes)),
-        (b"1 llook /a", Some(Follow::No)),
-        (b"1 cd /a", Some(Follow::Dir)),
-        (b"1 mkdir /a", None),
+    let calls: [(&[u8], Verb, &[u8], &[u8]); 13] = [
+        (b"1 look /a", Verb::Look, b"/a", b""),
+        (b"1 llook /a", Verb::Llook, b"/a", b""),
+        (b"1 cd /a", Verb::Cd, b"/a", b""),
+        (b"1 readlink /a", Verb::Readlink, b"/a", b""),
+        (b"1 stat /a", Verb::Stat, b"/a", b""),
+        (b"1 list /a", Verb::List, b"/a", b""),
+        (b"1 mkdir /a", Verb::Mkdir, b"/a", b""),
+        (b"1 create /a", Verb::Create, b"/a", b""),
+        (b"1 link /a b", Verb::Link, b"/a", b"b"),
+        (b"1 symlink /a b", Verb::Symlink, b"/a", b"b"),
+        (b"1 unlink /a", Verb::Unlink, b"/a", b""),
+        (b"1 rmdir /a", Verb::Rmdir, b"/a", b""),
+        (b"1 rename /a b", Verb::Rename, b"/a", b"b"),
     ];
-    for (line, wanted) in calls {
+    for (line, verb, first, second) in calls {
         let Line::Command(command) = read_line(rt.alloc(), line)? else {
             return Err(Fail::from(LineFault::Bad));
         };
-        let (base, path, follow) = match call(&command, 7) {
-            Call::Look { base, path, follow } => (base, path, Some(follow)),
-            Call::Mkdir { base, path } => (base, path, None),
-        };
-        assert!(rt; base == 7 && path == b"/a".as_slice() && follow == wanted);
+        assert!(rt;
+            is_call(call(&command, 7), 7, verb, first, second),
+            "{line:?}"
+        );
     }
     Ok(())
 }
