@@ -4,11 +4,13 @@
 mod apply;
 mod call;
 mod carry;
+mod counts;
 mod key;
 mod laws;
 mod place;
 mod plain;
 mod plan;
+mod reads;
 mod resolve;
 mod rows;
 mod stop;

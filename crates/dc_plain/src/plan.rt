@@ -42,17 +42,16 @@ impl PlainTree {
     {
         match *call {
             Call::Look { base, path, follow } => {
-                let (number, kind) = self.walk(alloc, base, path, follow)?;
-                Ok(Plan::Answer(Reply::Found(number, kind)))
+                Ok(Plan::Answer(self.look(alloc, base, path, follow)?))
             }
+            Call::Readlink { base, path } => Ok(Plan::Answer(self.readlink(alloc, base, path)?)),
+            Call::Stat { base, path } => Ok(Plan::Answer(self.stat(alloc, base, path)?)),
+            Call::List { base, path } => Ok(Plan::Answer(self.list(alloc, base, path)?)),
             Call::Mkdir { base, path } => {
                 let change = self.make(alloc, base, path, true, New::Directory)?;
                 Ok(Plan::Change(change))
             }
-            Call::Readlink { .. }
-            | Call::Stat { .. }
-            | Call::List { .. }
-            | Call::Create { .. }
+            Call::Create { .. }
             | Call::Link { .. }
             | Call::Symlink { .. }
             | Call::Unlink { .. }

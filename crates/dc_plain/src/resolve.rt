@@ -73,7 +73,7 @@ fn at_part(tree: &PlainTree, place: Place, part: Part) -> Reached
     }
 }
 
-fn is_directory(place: Place) -> bool
+pub(crate) fn is_directory(place: Place) -> bool
     ensures { result ≡ is_directory place }
 {
     matches!(place.1, Kind::Dir)

@@ -5,6 +5,7 @@ ghost use Rattle.dc_plain.specs.Stops.{Finds};
 ghost use Rattle.dc_plain.specs.declared.stop.Stop.TheVariants.{Refused as Refusal, OutOfMemory as NoRoom};
 
 use dc_names::{NoMemory, TextFault};
+use std::alloc::AllocError;
 
 /// Why a call goes no further.
 #[derive(Clone, Copy)]
@@ -25,6 +26,14 @@ impl From<NoMemory> for Stop {
     ghost from_gives = { λ fault stop. stop ≡ NoRoom };
 
     fn from(_fault: NoMemory) -> Stop {
+        Stop::OutOfMemory
+    }
+}
+
+impl From<AllocError> for Stop {
+    ghost from_gives = { λ fault stop. stop ≡ NoRoom };
+
+    fn from(_fault: AllocError) -> Stop {
         Stop::OutOfMemory
     }
 }
