@@ -1,7 +1,7 @@
 -- The first piece of a text, and what comes after it.
-use Rattle.std.proofs.Common.{◌≡◌, ℕ, suc, ◌+◌, ◌<◌, ◌≤◌, ◌==◌, ◌&&◌, ◌∷◌, [], List, take, drop, map, length, Bool, true, false, cond, not, refl, ap, sym, ◌∙◌, arith, Option, Some, None, IsTrue, nat_lt, rules, tests}
+use Rattle.std.proofs.Common.{◌≡◌, ℕ, suc, ◌+◌, ◌≤◌, ◌==◌, ◌&&◌, ◌∷◌, [], List, take, drop, map, length, Bool, true, false, cond, not, refl, ap, sym, ◌∙◌, arith, Some, None, IsTrue, nat_lt}
 use Rattle.std.specs.Option.{unwrap_or}
-use Rattle.std.specs.List.{position_or_len, prefix_len, onto_first, list_all, filter}
+use Rattle.std.specs.List.{position_or_len, onto_first, list_all, filter}
 use Rattle.std.proofs.lemmas.List.Sums.{prefix_len-le-length}
 use Rattle.std.proofs.lemmas.Grind.{common_steps}
 use Rattle.dc_names.specs.Bytes.{pieces, is_empty, is_part, has_parts}

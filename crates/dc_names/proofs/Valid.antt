@@ -1,8 +1,7 @@
 -- The pieces of a text without a fault.
-use Rattle.std.proofs.Common.{◌≡◌, ℕ, ◌==◌, ◌&&◌, ◌||◌, ◌∷◌, [], List, length, Bool, true, false, cond, not, refl, ap, sym, ◌∙◌, arith, Option, Some, None, IsTrue, nat_lt, rules, tests}
+use Rattle.std.proofs.Common.{◌≡◌, ℕ, ◌==◌, ◌&&◌, ◌||◌, ◌∷◌, [], List, length, Bool, true, false, cond, not, refl, Some, None, IsTrue, nat_lt}
 use Rattle.std.specs.List.{onto_first, list_all, list_any}
-use Rattle.std.proofs.lemmas.Grind.{common_steps}
-use Rattle.dc_names.specs.Bytes.{pieces, is_empty, is_part, is_name, is_dot, is_dot_dot, has_parts}
+use Rattle.dc_names.specs.Bytes.{pieces, is_empty, is_part, is_dot, is_dot_dot, has_parts}
 use Rattle.dc_names.specs.Paths.{fault_of, is_long}
 use Rattle.dc_names.specs.declared.fault.TextFault.TheVariants.{Empty, Long, Zero}
 

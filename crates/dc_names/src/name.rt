@@ -2,7 +2,7 @@ ghost use Rattle.std.specs.Prelude.{◌≡◌, ◌↔◌, ◌==◌, ◌||◌, �
 ghost use Rattle.std.specs.List.{list_any};
 ghost use Rattle.dc_names.specs.Bytes.{is_empty, is_name, is_dot, is_dot_dot};
 
-/// The name of an entry: 1 to 255 bytes, no slash and no zero byte among them, neither `.` nor `..`.
+/// The name of an entry: 1 to 255 bytes, none of them a slash or zero, and neither `.` nor `..`.
 #[derive(Clone, Copy)]
 pub struct Name<'a> {
     bytes: &'a [u8],
