@@ -15,6 +15,7 @@ use Rattle.dc_plain.specs.Places.{Where}
 use Rattle.dc_plain.specs.Places.Last.{Name}
 use Rattle.dc_plain.specs.Refusals.{◌>>=◌, spot_on, place_on, path_or_fault, name_or, name_or_each, present, is_full}
 use Rattle.dc_plain.specs.Effects.{with_new, with_entry_for, without_entry}
+use Rattle.dc_plain.specs.Plans.{LeadsTo}
 use Rattle.dc_plain.specs.Operations.{make, link, unlink, rmdir}
 use Rattle.dc_plain.specs.IsWellFormed.{IsWellFormed}
 use Rattle.dc_plain.proofs.Made.{free_spot}
@@ -46,6 +47,10 @@ entry-leads t d name place e = by_target (target_of t (record { directory = d; n
     by_target : (o : Option ℕ) → target_of t (record { directory = d; name = name }) ≡ o → option_and_then (place_at t) o ≡ Some place → Leads t d name place
     by_target None at e' = cc
     by_target (Some n) at e' = by_inode n (inode_of t n) at refl e'
+
+pub leads_to : (t : Tree) (d : ℕ) (name : List ℕ) → IsWellFormed t → (found : Option Place) → found ≡ entry_of t d (Entry name) → LeadsTo t d name found
+leads_to t d name well None e = free_spot t d name well (ap is_some (sym e))
+leads_to t d name well (Some place) e = let leads = entry-leads t d name place (sym e) in leads.target
 
 -- a path ends in a name, to be looked up in this directory
 pub record Ends_in (t : Tree) (base : ℕ) (text : List ℕ) (d : ℕ) (name : List ℕ) : Type 0 where

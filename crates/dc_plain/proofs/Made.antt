@@ -1,7 +1,6 @@
 -- A tree with a new inode stays well formed.
 use Rattle.std.proofs.Common.{◌≡◌, ◌≢◌, ℕ, suc, ◌≤◌, ◌<◌, ◌==◌, ◌||◌, ◌^◌, List, [], ◌∷◌, Bool, true, false, cond, Option, Some, None, is_some, is_ok, IsTrue, T, refl, ap, sym, ◌∙◌, arith, length, option_map, option_and_then, subst}
 use Rattle.std.specs.declared.cmp.Ordering.{Ordering}
-use Rattle.std.specs.Prelude.{IfNone}
 use Rattle.dc_plain.specs.Facts.{Place}
 use Rattle.dc_plain.specs.Facts.Label.{Entry}
 use Rattle.std.specs.List.{AllByRecursion}
@@ -188,10 +187,6 @@ free_spot t d name well none = by_target (target_of t (record { directory = d; n
         let live = All-lookup spot_cmp (λ k. IsTrue (is_some (inode_of t k))) (record { directory = d; name = name }) t.entries (All-weaker (Stands t) (λ s. IsTrue (is_some (inode_of t s.1))) (λ x s. s.leads) t.entries well.entries) n e in
         let i = some_in (inode_of t n) live in
         absurd (absent t n i.0 i.1 none')
-
-pub free_if_none : (t : Tree) (d : ℕ) (name : List ℕ) → IsWellFormed t → (found : Option Place) → found ≡ entry_of t d (Entry name) → IfNone found (target_of t (record { directory = d; name = name }) ≡ None)
-free_if_none t d name well None e = free_spot t d name well (ap is_some (sym e))
-free_if_none t d name well (Some place) e = tt
 
 pub unused_number : (t : Tree) → IsWellFormed t → inode_of t t.next ≡ None
 unused_number t well = by_inode (inode_of t t.next) refl

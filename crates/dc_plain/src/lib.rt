@@ -4,6 +4,7 @@
 mod apply;
 mod call;
 mod carry;
+mod changes;
 mod counts;
 mod key;
 mod laws;

@@ -1,4 +1,4 @@
-ghost use Rattle.std.specs.Prelude.{◌≡◌, Some};
+ghost use Rattle.std.specs.Prelude.{◌≡◌, Some, IfOk};
 ghost use Rattle.dc_names.specs.Names.{part_shown};
 ghost use Rattle.dc_names.specs.Paths.{path_in};
 ghost use Rattle.dc_plain.specs.LastParts.{last_shown, at_shown};
@@ -40,11 +40,24 @@ impl<'a> Last<'a> {
             Last::Part(Part::Dot | Part::DotDot) | Last::Root => Err(Stop::Refused(number)),
         }
     }
+
+    /// The name, or else the refusal for the root, dot or dot-dot.
+    pub fn name_or_each(self, root: u64, dot: u64, dot_dot: u64) -> Result<Name<'a>, Stop>
+        ensures { Finds result (λ name. name.bytes.now) (name_or_each root dot dot_dot (last_shown self.entry)) }
+    {
+        match self {
+            Last::Part(Part::Normal(name)) => Ok(name),
+            Last::Root => Err(Stop::Refused(root)),
+            Last::Part(Part::Dot) => Err(Stop::Refused(dot)),
+            Last::Part(Part::DotDot) => Err(Stop::Refused(dot_dot)),
+        }
+    }
 }
 
 /// The path that the bytes are, or the refusal of their first fault.
 pub(crate) fn checked(path: &[u8]) -> Result<PathText<'_>, Stop>
-    ensures { Finds result (λ found. path_in found.bytes.now) (path_or_fault path.now) }
+    ensures found { Finds result (λ found. path_in found.bytes.now) (path_or_fault path.now) }
+    ensures bytes { IfOk result (λ found. found.bytes.now ≡ path.now) }
 {
     Ok(parse(path)?)
 }

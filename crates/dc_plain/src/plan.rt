@@ -25,6 +25,18 @@ pub(crate) enum Change<'a> {
         name: Name<'a>,
         new: New<'a>,
     },
+    /// A further name.
+    Link {
+        directory: u64,
+        name: Name<'a>,
+        number: u64,
+    },
+    /// A name goes, and with the last one its inode.
+    Drop {
+        directory: u64,
+        name: Name<'a>,
+        number: u64,
+    },
 }
 
 /// What a call that isn't refused answers, or changes.
@@ -51,37 +63,17 @@ impl PlainTree {
                 let change = self.make(alloc, base, path, true, New::Directory)?;
                 Ok(Plan::Change(change))
             }
-            Call::Create { .. }
-            | Call::Link { .. }
-            | Call::Symlink { .. }
-            | Call::Unlink { .. }
-            | Call::Rmdir { .. }
-            | Call::Rename { .. } => Err(Stop::OutOfMemory),
+            Call::Create { base, path } => {
+                let change = self.make(alloc, base, path, false, New::File)?;
+                Ok(Plan::Change(change))
+            }
+            Call::Link { base, old, new } => { Ok(Plan::Change(self.link(alloc, base, old, new)?)) }
+            Call::Symlink { base, text, path } => {
+                Ok(Plan::Change(self.symlink(alloc, base, text, path)?))
+            }
+            Call::Unlink { base, path } => Ok(Plan::Change(self.unlink(alloc, base, path)?)),
+            Call::Rmdir { base, path } => Ok(Plan::Change(self.rmdir(alloc, base, path)?)),
+            Call::Rename { .. } => Err(Stop::OutOfMemory),
         }
-    }
-
-    /// A new inode with its entry.
-    fn make<'c>(
-        &self,
-        alloc: Global,
-        base: u64,
-        path: &'c [u8],
-        may_end_in_slash: bool,
-        new: New<'c>,
-    ) -> Result<Change<'c>, Stop>
-        ensures found { Finds result (changed self.now.tree)
-            (make self.now.limit self.now.tree base path.now may_end_in_slash (new_shown new.entry)) }
-        ensures spots { IfOk result (HasSpots self.now.tree) }
-    {
-        let at = self.spot(alloc, base, path)?;
-        let name = at.last.name_or(17)?;
-        refuse(self.entry(at.directory, name.bytes()).is_some(), 17)?;
-        refuse(at.slash && !may_end_in_slash, 2)?;
-        refuse(self.is_full(), 28)?;
-        Ok(Change::Make {
-            directory: at.directory,
-            name,
-            new,
-        })
     }
 }

@@ -1,9 +1,10 @@
 ghost use Rattle.std.specs.Prelude.{◌≡◌, true};
 ghost use Rattle.dc_names.specs.Paths.{fault_number};
-ghost use Rattle.dc_plain.specs.Refusals.{refuse};
+ghost use Rattle.dc_plain.specs.Refusals.{present, refuse};
 ghost use Rattle.dc_plain.specs.Stops.{Finds};
 ghost use Rattle.dc_plain.specs.declared.stop.Stop.TheVariants.{Refused as Refusal, OutOfMemory as NoRoom};
 
+use crate::resolve::Place;
 use dc_names::{NoMemory, TextFault};
 use std::alloc::AllocError;
 
@@ -47,4 +48,11 @@ pub(crate) fn refuse(test: bool, number: u64) -> Result<(), Stop>
     } else {
         Ok(())
     }
+}
+
+/// What is there, or else this refusal.
+pub(crate) fn present(there: Option<Place>, number: u64) -> Result<Place, Stop>
+    ensures { Finds result (λ place. place) (present number there) }
+{
+    there.ok_or(Stop::Refused(number))
 }

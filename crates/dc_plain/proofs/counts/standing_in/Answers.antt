@@ -2,7 +2,7 @@ use Rattle.std.proofs.Common.{◌≡◌, ◌==◌, ◌∙◌, rules}
 use Rattle.std.proofs.iter.runs.Made.{chains}
 use Rattle.std.specs.Prelude.{count_by}
 use Rattle.dc_plain.specs.Plain.{entry_shown}
-use Rattle.dc_plain.proofs.CountedRows.{passing_rows}
+use Rattle.dc_plain.proofs.PassingRows.{passing_rows}
 use Rattle.dc_plain.proofs.counts.standing_in.Goals as goal
 
 pub returns : goal.returns

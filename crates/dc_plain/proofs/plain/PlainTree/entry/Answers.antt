@@ -4,13 +4,13 @@ use Rattle.dc_plain.specs.IsWellFormed.{IsWellFormed}
 use Rattle.dc_plain.specs.Machines.{Machine}
 use Rattle.dc_plain.specs.Trees.{Spot, spot_cmp, target_of, place_at}
 use Rattle.dc_plain.specs.Plain.{entry_shown}
-use Rattle.dc_plain.proofs.Made.{free_if_none}
+use Rattle.dc_plain.proofs.Found.{leads_to}
 use Rattle.dc_plain.proofs.plain.PlainTree.entry.Goals as goal
 
-pub returns-clause-free : goal.returns-clause-free
-returns-clause-free c =
+pub returns-clause-leads : goal.returns-clause-leads
+returns-clause-leads c =
     let t = c.args.self.now.tree in
     let spot : Spot = record { directory = c.args.directory; name = c.args.name.now } in
     let told = c.in_ok-target.ensures ∙ ap (λ es. lookup spot_cmp spot (map entry_shown es)) c.deref.ensures.value ∙ ap (λ (m : Machine). target_of m.tree spot) c.self.view_is in
-    free_if_none t c.args.directory c.args.name.now (subst (λ (m : Machine). IsWellFormed m.tree) c.self.view_is c.self.invariant.well) c.place_at.result
+    leads_to t c.args.directory c.args.name.now (subst (λ (m : Machine). IsWellFormed m.tree) c.self.view_is c.self.invariant.well) c.place_at.result
     (c.place_at.ensures ∙ ap (option_and_then (place_at t)) told)

@@ -1,5 +1,5 @@
--- How many rows pass a test of what they stand for.
-use Rattle.std.proofs.Common.{◌≡◌, ◌+◌, List, [], ◌∷◌, Bool, cond, map, filter, length, refl, ap, sym, ◌∙◌}
+-- The rows that pass a test of what they stand for, and how many they are.
+use Rattle.std.proofs.Common.{◌≡◌, ◌+◌, List, [], ◌∷◌, Bool, true, false, cond, map, filter, length, refl, ap, sym, ◌∙◌}
 use Rattle.std.specs.Prelude.{count_by}
 use Rattle.std.proofs.lemmas.List.Recursion.{is_sum_by}
 use Rattle.std.proofs.lemmas.List.Sums.{length-filter}
@@ -17,3 +17,12 @@ counted_rows p shown rows = counted (λ x. p (shown x)) rows ∙ sym (how_many-m
 
 pub passing_rows : {X Y : Type 0} (p : Y → Bool) (shown : X → Y) (rows : List X) → count_by (λ x. p (shown x)) rows ≡ length (filter p (map shown rows))
 passing_rows p shown rows = counted_rows p shown rows ∙ sym (counted p (map shown rows)) ∙ sym (length-filter p (map shown rows))
+
+pub filter-map : {X Y : Type 0} (p : Y → Bool) (shown : X → Y) (rows : List X) → map shown (filter (λ x. p (shown x)) rows) ≡ filter p (map shown rows)
+filter-map p shown [] = refl
+filter-map p shown (x ∷ xs) =
+    let rest = filter-map p shown xs in
+    elim (p (shown x)) as (λ b. map shown (cond b (x ∷ filter (λ x. p (shown x)) xs) (filter (λ x. p (shown x)) xs)) ≡ cond b (shown x ∷ filter p (map shown xs)) (filter p (map shown xs))) [
+      | true ↦ ap (λ ys. shown x ∷ ys) rest
+      | false ↦ rest
+    ]
