@@ -1,4 +1,4 @@
-ghost use Rattle.std.specs.Prelude.{◌≡◌, ◌∷◌, ◌++◌, IfOk, OnOk, map, codes, string_bytes};
+ghost use Rattle.std.specs.Prelude.{◌≡◌, ◌∷◌, ◌++◌, IfOk, OnOk, map};
 ghost use Rattle.dc_plain.specs.Requests.{answer_of};
 ghost use Rattle.dc_plain.specs.Requests.Answer.{Bytes, Names};
 ghost use Rattle.dc_lang.specs.Words.{spelled, spelled_byte};

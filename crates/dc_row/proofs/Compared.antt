@@ -2,7 +2,7 @@
 use Rattle.std.proofs.Common.{◌≡◌, ℕ, suc, ◌+◌, ◌-◌, ◌<◌, ◌≤◌, List, [], ◌∷◌, length, get_or, take, drop, Option, refl, sym, ap, ◌∙◌, arith}
 use Rattle.std.proofs.lemmas.List.{get_or-take, get_or-drop}
 use Rattle.dc_plain.specs.Facts.{Fact}
-use Rattle.dc_row.specs.Spelling.{Spells, word_at, fields_of}
+use Rattle.dc_row.specs.Spelling.{Spells}
 use Rattle.dc_row.specs.declared.TheConstants.{ROW_WORDS}
 
 from_second : (ws : List ℕ) (n i : ℕ) → 0 < i → i ≤ n → get_or (take n (drop 1 ws)) (i - 1) 0 ≡ get_or ws i 0

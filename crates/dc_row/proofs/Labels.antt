@@ -1,9 +1,9 @@
 -- The label and the target of an entry that the words spell.
-use Rattle.std.proofs.Common.{◌≡◌, ℕ, ◌&&◌, List, [], ◌∷◌, Bool, true, false, Option, Some, None, refl, sym, ap, ◌∙◌, nat_eq}
+use Rattle.std.proofs.Common.{◌≡◌, ℕ, List, [], ◌∷◌, true, false, Option, Some, refl, sym, ap, ◌∙◌, nat_eq}
 use Rattle.std.specs.Cmp.Lexicographic.{pointwise}
 use Rattle.std.proofs.lemmas.Slice.Eq.{bytes_eq-Decides}
 use Rattle.dc_names.specs.Bytes.{is_name}
-use Rattle.dc_plain.specs.Facts.{Place, Label, Fact}
+use Rattle.dc_plain.specs.Facts.{Place, Label}
 use Rattle.dc_plain.specs.Facts.Label.{Entry, Parent, Text}
 use Rattle.dc_plain.specs.Facts.Fact.{Leads}
 use Rattle.dc_row.specs.Spelling.{has_spelling, label_bytes}

@@ -1,14 +1,13 @@
 -- What the words say of the row that they spell.
-use Rattle.std.proofs.Common.{◌≡◌, ℕ, zero, suc, ◌+◌, ◌-◌, ◌*◌, ◌/◌, ◌%◌, ◌<◌, ◌≤◌, ◌==◌, ◌&&◌, not, List, [], ◌∷◌, length, get_or, set, take, drop, IfSome, IfNone, ◌≢◌, below_more, get_or-set_same, get_or-set_other, Bool, true, false, Option, Some, None, IsTrue, nat_lt, arith, refl, sym, ap, ◌∙◌}
+use Rattle.std.proofs.Common.{◌≡◌, ℕ, zero, suc, ◌+◌, ◌*◌, ◌/◌, ◌%◌, ◌<◌, ◌≤◌, ◌&&◌, List, [], ◌∷◌, length, get_or, set, take, drop, IfSome, IfNone, ◌≢◌, below_more, get_or-set_same, get_or-set_other, Bool, true, false, Option, Some, None, arith, refl, ap, ◌∙◌}
 use Rattle.std.proofs.lemmas.Grind.{common_steps}
 use Rattle.std.proofs.lemmas.List.{get_or-take, get_or-drop}
-use Rattle.dc_names.specs.Bytes.{is_name}
 use Rattle.dc_names.specs.Words.{AreBytes, word_of}
 use Rattle.dc_names.specs.declared.kind.Kind.TheVariants.{Dir, File, Link}
-use Rattle.dc_plain.specs.Facts.{Place, Label, Fact}
+use Rattle.dc_plain.specs.Facts.{Place, Fact}
 use Rattle.dc_plain.specs.Facts.Label.{Entry, Parent, Text}
 use Rattle.dc_plain.specs.Facts.Fact.{Leads, Reads}
-use Rattle.dc_row.specs.Spelling.{Fields, Spells, TellsByte, fields_of, has_spelling, has_room, is_path, is_numbered, kind_code, word_at, text_word}
+use Rattle.dc_row.specs.Spelling.{Fields, Spells, TellsByte, fields_of, has_spelling, has_room, kind_code, text_word}
 use Rattle.dc_row.specs.declared.TheConstants.{ROW_WORDS, ROW_TEXT}
 use Rattle.dc_row.proofs.Written.{word_at-text}
 

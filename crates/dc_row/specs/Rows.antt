@@ -1,5 +1,5 @@
 -- What the rows of the program tell, as facts.
-use Rattle.std.specs.Prelude.{List, ℕ, Option, Some, None}
+use Rattle.std.specs.Prelude.{Option, Some, None}
 use Rattle.dc_plain.specs.Facts.{Label, Fact}
 use Rattle.dc_plain.specs.Facts.Label.{Entry, Parent}
 use Rattle.dc_plain.specs.Facts.Fact.{Leads, Reads}

@@ -3,7 +3,6 @@ use Rattle.std.specs.Prelude.{ℕ, List, [], ◌∷◌, Bool, true, false, not, 
 use Rattle.dc_names.specs.Bytes.{is_name}
 use Rattle.dc_names.specs.Paths.{fault_of}
 use Rattle.dc_names.specs.Words.{AreBytes, word_of}
-use Rattle.dc_names.specs.declared.kind.Kind.{Kind}
 use Rattle.dc_names.specs.declared.kind.Kind.TheVariants.{Dir, File, Link}
 use Rattle.dc_plain.specs.Facts.{Place, Label, Fact}
 use Rattle.dc_plain.specs.Facts.Label.{Entry, Parent, Text}
@@ -80,6 +79,10 @@ pub record Spells (words : List ℕ) (fact : Option Fact) : Type 0 where
   pub allowed : IsTrue (has_spelling fact)
   pub bytes : AreBytes (fields_of fact).text
   pub spelled : IsSpelled words (fields_of fact)
+
+-- whatever row the words spell
+abbrev pub TellsRow : List ℕ → Option (Option Fact) → Type 0
+TellsRow words result = (fact : Option Fact) → Spells words fact → result ≡ Some fact
 
 -- the label, or the target, of any entry that the words spell; a byte of the text that stands in them
 abbrev pub TellsLabel : List ℕ → Option Label → Type 0

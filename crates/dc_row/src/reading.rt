@@ -2,7 +2,7 @@ ghost use Rattle.std.specs.Prelude.{◌≡◌, ◌<◌, Option, Some, IfSome};
 ghost use Rattle.std.specs.Option.{option_map};
 ghost use Rattle.dc_plain.specs.Facts.{Fact};
 ghost use Rattle.dc_row.specs.Rows.{row_shown, label_shown};
-ghost use Rattle.dc_row.specs.Spelling.{Spells, TellsLabel, TellsTarget, TellsByte, fields_of};
+ghost use Rattle.dc_row.specs.Spelling.{Spells, TellsRow, TellsLabel, TellsTarget, TellsByte, fields_of};
 ghost use Rattle.dc_row.specs.declared.TheConstants.{ROW_WORDS, ROW_TEXT};
 
 use crate::fields::word;
@@ -11,10 +11,10 @@ use crate::{
 };
 use dc_names::{Kind, unpack};
 
-/// The row that the words spell, or `None` where they spell none. The sequence count isn't looked at.
+/// The row that the words spell, or `None` where they spell none, whatever the sequence count is.
 pub fn decode(words: &[u64]) -> Option<Row>
     ensures spelled { IfSome result (λ row. Spells words.now (row_shown row)) }
-    ensures any { (fact : Option Fact) → Spells words.now fact → option_map row_shown result ≡ Some fact }
+    ensures any { TellsRow words.now (option_map row_shown result) }
 {
     if words.len() != ROW_WORDS {
         return None;
@@ -30,7 +30,7 @@ pub fn decode(words: &[u64]) -> Option<Row>
 
 /// The row that the words spell, or whatever their fields say where they spell none.
 fn read(words: &[u64]) -> Option<Row>
-    ensures { (fact : Option Fact) → Spells words.now fact → option_map row_shown result ≡ Some fact }
+    ensures { TellsRow words.now (option_map row_shown result) }
 {
     match tag(words) {
         0 => Some(Row::Empty),

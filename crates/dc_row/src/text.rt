@@ -1,4 +1,4 @@
-ghost use Rattle.std.specs.Prelude.{◌≡◌, ◌≤◌, ◌<◌, ℕ, List, length, take, IfSome, IfNone};
+ghost use Rattle.std.specs.Prelude.{◌≡◌, ◌≤◌, ◌<◌, ℕ, List, length, IfSome, IfNone};
 ghost use Rattle.dc_row.specs.declared.TheConstants.{ROW_TEXT};
 
 use crate::ROW_TEXT;

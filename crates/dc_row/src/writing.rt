@@ -1,5 +1,4 @@
-ghost use Rattle.std.specs.Prelude.{◌≡◌, ℕ, ◌≤◌, ◌<◌, ◌↔◌, length, slice_index, IfSome, IsSome, IsTrue};
-ghost use Rattle.dc_names.specs.Bytes.{is_name};
+ghost use Rattle.std.specs.Prelude.{◌≡◌, ◌≤◌, ◌<◌, ◌↔◌, length, slice_index, IfSome, IsSome, IsTrue};
 ghost use Rattle.dc_names.specs.Words.{AreBytes};
 ghost use Rattle.dc_row.specs.Rows.{row_shown};
 ghost use Rattle.dc_row.specs.Spelling.{Spells, has_spelling, is_numbered, is_path, kind_code, target_number, text_word, fields, IsSpelled};
@@ -10,8 +9,8 @@ use dc_names::{Kind, Name, pack, parse};
 
 /// The words of a row, with 0 for its sequence count, or `None` where nothing spells the row.
 ///
-/// A name is one of `dc_names`, a link's text a path without a fault, a dot-dot leads to a directory
-/// if anywhere, and no number is 0.
+/// A name is one of `dc_names`, a link's text a path without a fault, a dot-dot leads to a
+/// directory if anywhere, and no number is 0.
 pub fn encode(row: &Row) -> Option<[u64; ROW_WORDS]>
     ensures spelled { IfSome result (λ words. Spells words (row_shown row.now)) }
     ensures count { IfSome result (λ words. slice_index words 0 ≡ 0) }

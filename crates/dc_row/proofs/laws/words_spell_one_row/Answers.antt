@@ -1,4 +1,3 @@
-use Rattle.std.proofs.Common.{sym, ◌∙◌}
 use Rattle.dc_row.proofs.laws.words_spell_one_row.Goals as goal
 
 pub returns : goal.returns
