@@ -32,3 +32,5 @@ climb-up (suc left) t d n up some other below held =
 
 pub climb-out : (left : ℕ) (t : Tree) (d n : ℕ) → left ≡ 0 → is_beneath left t d n ≡ true
 climb-out left t d n none = rw none refl
+
+pub ruleset climbs = (climb-here, climb-top, climb-none, climb-up, climb-out)

@@ -1,29 +1,42 @@
 -- What a call was found to answer, or to change.
-use Rattle.std.specs.Prelude.{◌≡◌, ℕ, List, Option, Some, None, MatchOption, Ok}
+use Rattle.std.specs.Prelude.{◌≡◌, ℕ, List, false, Option, Some, None, MatchOption, Ok}
 use Rattle.dc_plain.specs.declared.plan.New as rust_new
 use Rattle.dc_plain.specs.declared.plan.New.TheVariants as news
 use Rattle.dc_plain.specs.declared.plan.Change as rust_change
 use Rattle.dc_plain.specs.declared.plan.Change.TheVariants as changes
+use Rattle.dc_plain.specs.declared.plan.Spot as rust_spot
 use Rattle.dc_plain.specs.declared.plan.Plan as rust_plan
 use Rattle.dc_plain.specs.declared.plan.Plan.TheVariants as plans
 use Rattle.dc_plain.specs.Facts.{Place}
-use Rattle.dc_plain.specs.Trees.{Tree, Inode, target_of}
+use Rattle.dc_plain.specs.Trees.{Tree, Spot, Inode, target_of}
 use Rattle.dc_plain.specs.Trees.Inode.{Directory, Regular, Symbolic}
 use Rattle.dc_plain.specs.Requests.{Request, Answer, answer_of}
 use Rattle.dc_plain.specs.Requests.Answer.{Done, Nothing}
-use Rattle.dc_plain.specs.Effects.{with_new, with_entry_for, without_entry}
-use Rattle.dc_plain.specs.Operations.{change_of}
+use Rattle.dc_plain.specs.Effects.{with_new, with_entry_for, without_entry, without_entry_alone, without_there}
+use Rattle.dc_plain.specs.Operations.{change_of, same_inode}
 
 abbrev pub new_shown : rust_new.New → Inode
 new_shown news.Directory = Directory
 new_shown news.File = Regular
 new_shown (news.Link text) = Symbolic text.bytes.now
 
+abbrev pub spot_shown : rust_spot.Spot → Spot
+spot_shown s = record { directory = s.directory; name = s.name.bytes.now }
+
+-- without what stood at the new name, and without the old name
+abbrev pub without_moved : Tree → Spot → Spot → Option Place → Tree
+without_moved t from to there = without_entry_alone (without_there t to.directory to.name there) from.directory from.name
+
+-- and with the inode at the new name
+abbrev pub with_moved : Tree → Place → Spot → Spot → Option Place → Tree
+with_moved t moved from to there = with_entry_for (without_moved t from to there) to.directory to.name moved.0
+
 -- what a change answers, and the tree that it makes
 abbrev pub changed : Tree → rust_change.Change → Answer × Tree
-changed t (changes.Make directory name new) = (Done t.next, with_new t directory name.bytes.now (new_shown new))
-changed t (changes.Link directory name number) = (Done number, with_entry_for t directory name.bytes.now number)
-changed t (changes.Drop directory name number) = (Nothing, without_entry t directory name.bytes.now number)
+changed t (changes.Make spot new) = (Done t.next, with_new t spot.directory spot.name.bytes.now (new_shown new))
+changed t (changes.Link spot number) = (Done number, with_entry_for t spot.directory spot.name.bytes.now number)
+changed t (changes.Drop spot number) = (Nothing, without_entry t spot.directory spot.name.bytes.now number)
+changed t (changes.Move moved from to there) = (Nothing, with_moved t moved (spot_shown from) (spot_shown to) there)
 
 abbrev pub planned : Tree → rust_plan.Plan → Answer × Tree
 planned t (plans.Answer reply) = (answer_of reply, t)
@@ -37,9 +50,10 @@ LeadsTo t d name there =
 
 -- where the names of a change lead before it
 abbrev pub HasSpots : Tree → rust_change.Change → Type 0
-HasSpots t (changes.Make directory name new) = target_of t (record { directory = directory; name = name.bytes.now }) ≡ None
-HasSpots t (changes.Link directory name number) = target_of t (record { directory = directory; name = name.bytes.now }) ≡ None
-HasSpots t (changes.Drop directory name number) = target_of t (record { directory = directory; name = name.bytes.now }) ≡ Some number
+HasSpots t (changes.Make spot new) = target_of t (spot_shown spot) ≡ None
+HasSpots t (changes.Link spot number) = target_of t (spot_shown spot) ≡ None
+HasSpots t (changes.Drop spot number) = target_of t (spot_shown spot) ≡ Some number
+HasSpots t (changes.Move moved from to there) = LeadsTo t to.directory to.name.bytes.now there × (same_inode moved there ≡ false)
 
 abbrev pub HasSpotsIfChange : Tree → rust_plan.Plan → Type 0
 HasSpotsIfChange t (plans.Answer reply) = Unit {0}

@@ -1,13 +1,12 @@
-ghost use Rattle.std.specs.Prelude.{◌≡◌, ◌≤◌, ℕ, None, IfOk, OnOk, OnErr, vec_len, vec_capacity};
-ghost use Rattle.dc_plain.specs.Effects.{with_new, with_entry_for, without_entry};
+ghost use Rattle.std.specs.Prelude.{◌≡◌, ◌≤◌, ℕ, IfOk, OnOk, OnErr, vec_len, vec_capacity};
+ghost use Rattle.dc_plain.specs.Effects.{without_entry};
 ghost use Rattle.dc_plain.specs.Plain.{node_shown, tree_in};
-ghost use Rattle.dc_plain.specs.Plans.{new_shown, changed, HasSpots, IsMade};
+ghost use Rattle.dc_plain.specs.Plans.{new_shown, spot_shown, changed, without_moved, HasSpots, IsMade};
 ghost use Rattle.dc_plain.specs.Requests.{answer_of};
-ghost use Rattle.dc_plain.specs.Requests.Answer.{Done as Finished, Nothing};
-ghost use Rattle.dc_plain.specs.Trees.{target_of};
 
 use crate::counts::leading_to;
-use crate::plan::{Change, New};
+use crate::plan::{Change, New, Spot};
+use crate::resolve::Place;
 use crate::rows::{Entry, Inode, Node, insert_entry, insert_inode, remove_entry, remove_inode};
 use crate::{PlainTree, Reply};
 use dc_names::{Name, NoMemory};
@@ -36,99 +35,119 @@ impl PlainTree {
         ensures limit { self.new.limit ≡ self.old.limit }
     {
         match change {
-            Change::Make {
-                directory,
-                name,
-                new,
-            } => Ok(Reply::Done(self.add(alloc, directory, name, new)?)),
-            Change::Link {
-                directory,
-                name,
-                number,
-            } => {
-                self.add_name(alloc, directory, name, number)?;
+            Change::Make(spot, new) => Ok(Reply::Done(self.add(alloc, spot, new)?)),
+            Change::Link(spot, number) => {
+                self.add_name(alloc, spot, number)?;
                 Ok(Reply::Done(number))
             }
-            Change::Drop {
-                directory,
-                name,
-                number,
+            Change::Drop(spot, number) => {
+                self.drop_name(spot, number);
+                Ok(Reply::Unit)
+            }
+            Change::Move {
+                moved,
+                from,
+                to,
+                there,
             } => {
-                self.drop_name(directory, name, number);
+                self.relocate(alloc, moved, from, to, there)?;
                 Ok(Reply::Unit)
             }
         }
     }
 
-    /// Adds an inode under the next number, with its entry.
-    fn add(&mut self, alloc: Global, directory: u64, name: Name, new: New) -> Result<u64, NoMemory>
-        requires made { IsMade self.old.limit self.old.tree (Finished self.old.tree.next, with_new self.old.tree directory name.bytes.now (new_shown new)) }
-        requires free { target_of self.old.tree (record { directory = directory; name = name.bytes.now }) ≡ None }
+    /// Adds an inode under the next number, with its name.
+    fn add(&mut self, alloc: Global, spot: Spot, new: New) -> Result<u64, NoMemory>
+        requires made { IsMade self.old.limit self.old.tree (changed self.old.tree (Change.Make spot new)) }
+        requires free { HasSpots self.old.tree (Change.Make spot new) }
         ensures number { IfOk result (λ number. number ≡ self.old.tree.next) }
-        ensures ok { OnOk result (self.new.tree ≡ with_new self.old.tree directory name.entry.bytes.now (new_shown new.entry)) }
+        ensures ok { OnOk result (self.new.tree ≡ (changed self.old.tree (Change.Make spot.entry new.entry)).1) }
         ensures err { OnErr result (self.new ≡ self.old) }
         ensures limit { self.new.limit ≡ self.old.limit }
     {
         let number = self.next;
-        let name = Vec::from_slice(alloc, name.bytes())?;
+        let name = Vec::from_slice(alloc, spot.name.bytes())?;
         let node = new.node(alloc)?;
         self.inodes.reserve(1)?;
-        insert_entry(&mut self.entries, directory, name, number)?;
+        insert_entry(&mut self.entries, spot.directory, name, number)?;
         insert_inode(&mut self.inodes, number, node).unwrap();
         self.next += 1;
         Ok(number)
     }
 
     /// Adds a name of what lives.
-    fn add_name(
-        &mut self,
-        alloc: Global,
-        directory: u64,
-        name: Name,
-        number: u64,
-    ) -> Result<(), NoMemory>
-        requires made { IsMade self.old.limit self.old.tree (Finished number, with_entry_for self.old.tree directory name.bytes.now number) }
-        requires free { target_of self.old.tree (record { directory = directory; name = name.bytes.now }) ≡ None }
-        ensures ok { OnOk result (self.new.tree ≡ with_entry_for self.old.tree directory name.entry.bytes.now number) }
+    fn add_name(&mut self, alloc: Global, spot: Spot, number: u64) -> Result<(), NoMemory>
+        requires made { IsMade self.old.limit self.old.tree (changed self.old.tree (Change.Link spot number)) }
+        requires free { HasSpots self.old.tree (Change.Link spot number) }
+        ensures ok { OnOk result (self.new.tree ≡ (changed self.old.tree (Change.Link spot.entry number)).1) }
         ensures err { OnErr result (self.new ≡ self.old) }
         ensures limit { self.new.limit ≡ self.old.limit }
     {
-        let name = Vec::from_slice(alloc, name.bytes())?;
-        insert_entry(&mut self.entries, directory, name, number)?;
+        let name = Vec::from_slice(alloc, spot.name.bytes())?;
+        insert_entry(&mut self.entries, spot.directory, name, number)?;
         Ok(())
     }
 
     /// Drops a name, and with the last one the inode.
-    fn drop_name(&mut self, directory: u64, name: Name, number: u64)
-        requires { IsMade self.old.limit self.old.tree (Nothing, without_entry self.old.tree directory name.bytes.now number) }
-        ensures tree { self.new.tree ≡ without_entry self.old.tree directory name.entry.bytes.now number }
+    fn drop_name(&mut self, spot: Spot, number: u64)
+        requires { IsMade self.old.limit self.old.tree (changed self.old.tree (Change.Drop spot number)) }
+        ensures tree { self.new.tree ≡ (changed self.old.tree (Change.Drop spot.entry number)).1 }
         ensures limit { self.new.limit ≡ self.old.limit }
     {
-        take_name(
-            &mut self.entries,
-            &mut self.inodes,
-            directory,
-            name.bytes(),
-            number,
-        );
+        take_name(&mut self.entries, &mut self.inodes, spot, number);
+    }
+
+    /// Moves an inode from one name to another. The room for it is made first, and then nothing can fail.
+    fn relocate(
+        &mut self,
+        alloc: Global,
+        moved: Place,
+        from: Spot,
+        to: Spot,
+        there: Option<Place>,
+    ) -> Result<(), NoMemory>
+        requires made { IsMade self.old.limit self.old.tree (changed self.old.tree (Change.Move moved from to there)) }
+        requires leads { HasSpots self.old.tree (Change.Move moved from to there) }
+        ensures ok { OnOk result (self.new.tree ≡ (changed self.old.tree (Change.Move moved from.entry to.entry there)).1) }
+        ensures err { OnErr result (self.new ≡ self.old) }
+        ensures limit { self.new.limit ≡ self.old.limit }
+    {
+        let name = Vec::from_slice(alloc, to.name.bytes())?;
+        self.entries.reserve(1)?;
+        make_way(&mut self.entries, &mut self.inodes, from, to, there);
+        insert_entry(&mut self.entries, to.directory, name, moved.0).unwrap();
+        Ok(())
     }
 }
 
 /// Takes a name away, and with the last one the inode.
-fn take_name(
-    entries: &mut Vec<Entry>,
-    inodes: &mut Vec<Inode>,
-    directory: u64,
-    name: &[u8],
-    number: u64,
-)
+fn take_name(entries: &mut Vec<Entry>, inodes: &mut Vec<Inode>, spot: Spot, number: u64)
     ensures rows { (next : ℕ) → tree_in entries.new.items inodes.new.items next
-        ≡ without_entry (tree_in entries.old.items inodes.old.items next) directory name.now number }
+        ≡ without_entry (tree_in entries.old.items inodes.old.items next) spot.entry.directory spot.entry.name.bytes.now number }
     ensures bound { vec_len entries.new ≤ vec_len entries.old }
     ensures capacity { vec_capacity entries.new ≡ vec_capacity entries.old }
 {
-    remove_entry(entries, directory, name);
+    remove_entry(entries, spot.directory, spot.name.bytes());
     if leading_to(entries, number) == 0 {
         remove_inode(inodes, number);
     }
+}
+
+/// Takes away what was found at the new name, and the old name.
+fn make_way(
+    entries: &mut Vec<Entry>,
+    inodes: &mut Vec<Inode>,
+    from: Spot,
+    to: Spot,
+    there: Option<Place>,
+)
+    ensures rows { (next : ℕ) → tree_in entries.new.items inodes.new.items next
+        ≡ without_moved (tree_in entries.old.items inodes.old.items next) (spot_shown from.entry) (spot_shown to.entry) there }
+    ensures bound { vec_len entries.new ≤ vec_len entries.old }
+    ensures capacity { vec_capacity entries.new ≡ vec_capacity entries.old }
+{
+    if let Some((number, _)) = there {
+        take_name(entries, inodes, to, number);
+    }
+    remove_entry(entries, from.directory, from.name.bytes());
 }

@@ -34,11 +34,7 @@ impl PlainTree {
         refuse(self.entry(at.directory, name.bytes()).is_some(), 17)?;
         refuse(at.slash && !may_end_in_slash, 2)?;
         refuse(self.is_full(), 28)?;
-        Ok(Change::Make {
-            directory: at.directory,
-            name,
-            new,
-        })
+        Ok(Change::Make(at.spot(name), new))
     }
 
     /// A new link, whose text has to have a path.
@@ -80,11 +76,7 @@ impl PlainTree {
         refuse(self.entry(to.directory, new.bytes()).is_some(), 17)?;
         refuse(to.slash, 2)?;
         refuse(MOST_NAMES <= self.names_of(inode.0), 31)?;
-        Ok(Change::Link {
-            directory: to.directory,
-            name: new,
-            number: inode.0,
-        })
+        Ok(Change::Link(to.spot(new), inode.0))
     }
 
     /// A name of what is no directory goes.
@@ -102,11 +94,7 @@ impl PlainTree {
         let inode = present(self.entry(at.directory, name.bytes()), 2)?;
         refuse(is_directory(inode), 1)?;
         refuse(at.slash, 20)?;
-        Ok(Change::Drop {
-            directory: at.directory,
-            name,
-            number: inode.0,
-        })
+        Ok(Change::Drop(at.spot(name), inode.0))
     }
 
     /// An empty directory goes.
@@ -124,10 +112,6 @@ impl PlainTree {
         let inode = present(self.entry(at.directory, name.bytes()), 2)?;
         refuse(!is_directory(inode), 20)?;
         refuse(!self.is_empty(inode.0), 39)?;
-        Ok(Change::Drop {
-            directory: at.directory,
-            name,
-            number: inode.0,
-        })
+        Ok(Change::Drop(at.spot(name), inode.0))
     }
 }

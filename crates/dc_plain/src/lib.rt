@@ -12,6 +12,7 @@ mod place;
 mod plain;
 mod plan;
 mod reads;
+mod renames;
 mod resolve;
 mod rows;
 mod stop;

@@ -3,12 +3,14 @@ ghost use Rattle.dc_names.specs.Names.{part_shown};
 ghost use Rattle.dc_names.specs.Paths.{path_in};
 ghost use Rattle.dc_plain.specs.LastParts.{last_shown, at_shown};
 ghost use Rattle.dc_plain.specs.Places.{start, last_part, front_of};
+ghost use Rattle.dc_plain.specs.Plans.{spot_shown};
 ghost use Rattle.dc_plain.specs.Refusals.{walk_on, path_or_fault, ended, place_on, spot_on, name_or, name_or_each};
 ghost use Rattle.dc_plain.specs.Resolution.{settled_walk};
 ghost use Rattle.dc_plain.specs.Walks.{walked_shown};
 ghost use Rattle.dc_plain.specs.Stops.{Finds};
 ghost use Rattle.dc_plain.specs.Trees.{told_of};
 
+use crate::plan::Spot;
 use crate::resolve::{Place, ROOT, Walked, parts_in, resolve};
 use crate::stop::Stop;
 use crate::{Follow, PlainTree};
@@ -50,6 +52,18 @@ impl<'a> Last<'a> {
             Last::Root => Err(Stop::Refused(root)),
             Last::Part(Part::Dot) => Err(Stop::Refused(dot)),
             Last::Part(Part::DotDot) => Err(Stop::Refused(dot_dot)),
+        }
+    }
+}
+
+impl<'a> At<'a> {
+    /// A name in that directory.
+    pub fn spot(self, name: Name<'a>) -> Spot<'a>
+        ensures { spot_shown result ≡ record { directory = self.entry.directory; name = name.entry.bytes.now } }
+    {
+        Spot {
+            directory: self.directory,
+            name,
         }
     }
 }

@@ -1,11 +1,12 @@
 ghost use Rattle.std.specs.Prelude.{◌≡◌, IfOk};
-ghost use Rattle.dc_plain.specs.Operations.{make, look, change_of};
-ghost use Rattle.dc_plain.specs.Plans.{new_shown, changed, planned, HasSpots, HasSpotsIfChange};
-ghost use Rattle.dc_plain.specs.Requests.{answer_of, request_of};
+ghost use Rattle.dc_plain.specs.Operations.{change_of};
+ghost use Rattle.dc_plain.specs.Plans.{planned, HasSpotsIfChange};
+ghost use Rattle.dc_plain.specs.Requests.{request_of};
 ghost use Rattle.dc_plain.specs.Stops.{Finds};
 
-use crate::stop::{Stop, refuse};
-use crate::{Call, Follow, PlainTree, Reply};
+use crate::resolve::Place;
+use crate::stop::Stop;
+use crate::{Call, PlainTree, Reply};
 use dc_names::{Name, PathText};
 use std::alloc::Global;
 
@@ -17,25 +18,28 @@ pub(crate) enum New<'a> {
     Link(PathText<'a>),
 }
 
+/// A name in a directory.
+#[derive(Clone, Copy)]
+pub(crate) struct Spot<'a> {
+    pub directory: u64,
+    pub name: Name<'a>,
+}
+
 /// What is to become of the tree.
 #[derive(Clone, Copy)]
 pub(crate) enum Change<'a> {
-    Make {
-        directory: u64,
-        name: Name<'a>,
-        new: New<'a>,
-    },
-    /// A further name.
-    Link {
-        directory: u64,
-        name: Name<'a>,
-        number: u64,
-    },
-    /// A name goes, and with the last one its inode.
-    Drop {
-        directory: u64,
-        name: Name<'a>,
-        number: u64,
+    /// A new inode, with its name.
+    Make(Spot<'a>, New<'a>),
+    /// A further name of an inode.
+    Link(Spot<'a>, u64),
+    /// A name of an inode goes, and with the last one the inode.
+    Drop(Spot<'a>, u64),
+    /// An inode gets another name in place of one of its names, and of what stands there.
+    Move {
+        moved: Place,
+        from: Spot<'a>,
+        to: Spot<'a>,
+        there: Option<Place>,
     },
 }
 
@@ -73,7 +77,7 @@ impl PlainTree {
             }
             Call::Unlink { base, path } => Ok(Plan::Change(self.unlink(alloc, base, path)?)),
             Call::Rmdir { base, path } => Ok(Plan::Change(self.rmdir(alloc, base, path)?)),
-            Call::Rename { .. } => Err(Stop::OutOfMemory),
+            Call::Rename { base, old, new } => self.rename(alloc, base, old, new),
         }
     }
 }

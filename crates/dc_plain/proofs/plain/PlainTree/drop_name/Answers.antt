@@ -7,4 +7,4 @@ pub invariant_of-self : goal.invariant_of-self
 invariant_of-self c =
     let view = c.self.view_is in
     sound_after c.self.inside _ _ _ c.self.invariant view c.requires
-    (c.take_name.ensures.rows c.self.inside.next ∙ (λ i. without_entry ((view i).tree) c.args.directory (c.bytes.ensures.bytes i) c.args.number)) refl
+    (c.take_name.ensures.rows c.self.inside.next ∙ (λ i. without_entry ((view i).tree) c.args.spot.directory (c.args.spot.name.bytes.now) c.args.number)) refl
