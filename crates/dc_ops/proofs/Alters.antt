@@ -1,15 +1,20 @@
 -- What is carried out makes another tree.
-use Rattle.std.proofs.Common.{◌≡◌, ◌≢◌, ℕ, ◌+◌, ◌==◌, List, Bool, true, false, not, cond, Option, Some, None, Ok, Err, refl, ap, sym, ◌∙◌, arith, if◌then◌else◌}
+use Rattle.std.proofs.Common.{◌≡◌, ◌≢◌, ℕ, ◌+◌, ◌==◌, List, Bool, true, false, not, cond, Option, Some, None, Result, Ok, Err, refl, ap, sym, ◌∙◌, arith, if◌then◌else◌}
 use Rattle.std.specs.Cmp.{tied_itself}
 use Rattle.std.specs.Ordering.{is_eq}
-use Rattle.std.specs.FinMap.Entries.{put}
+use Rattle.std.specs.FinMap.Entries.{put, find-put}
 use Rattle.std.specs.FinMap.Entries.{find as lookup}
-use Rattle.dc_plain.specs.Trees.{Tree, Spot, spot_cmp, target_of, how_many, names_of, without_spot, without_number}
+use Rattle.dc_plain.specs.Trees.{Tree, Spot, entry_of, spot_cmp, target_of, how_many, names_of, without_spot, without_number}
 use Rattle.dc_plain.specs.Requests.{Request, Answer}
 use Rattle.dc_plain.specs.Requests.Answer.{Refused}
-use Rattle.dc_plain.specs.Operations.{Change, change_of, settled, operation}
+use Rattle.dc_plain.specs.Facts.Label.{Entry}
+use Rattle.dc_plain.specs.Operations.{change_of, settled, operation, left_alone}
+use Rattle.dc_plain.specs.TouchedKeys.{listed, unless_refused}
+use Rattle.dc_store.specs.Moved.{tree_moved}
+use Rattle.dc_ops.specs.Keys.{keys_of}
+use Rattle.dc_ops.specs.Reads.{answered}
 use Rattle.dc_plain.specs.Runs.{alters}
-use Rattle.dc_plain.specs.Effects.{without_entry}
+use Rattle.dc_plain.specs.Effects.{without_entry, without_entry_alone, without_there}
 use Rattle.dc_plain.proofs.Made.{spots_total}
 use Rattle.dc_plain.proofs.Takes.{lookup-take}
 use Rattle.dc_plain.proofs.Puts.{count-put}
@@ -39,8 +44,8 @@ no_some : (n : ℕ) → ◌≡◌ {A = Option ℕ} None (Some n) → ⊥
 no_some n e = cc
 
 -- an entry that went is no longer found
-gone : (t : Tree) (spot : Spot) (n : ℕ) → target_of t spot ≡ Some n → without_spot spot t.entries ≢ t.entries
-gone t spot n there same =
+freed : (t : Tree) (spot : Spot) (n : ℕ) → target_of t spot ≡ Some n → without_spot spot t.entries ≢ t.entries
+freed t spot n there same =
     let none : lookup spot_cmp spot (without_spot spot t.entries) ≡ None = lookup-take spot_cmp spots_total spot spot t.entries
     ∙ ap (λ o. cond (not (is_eq o)) (lookup spot_cmp spot t.entries) None) (tied_itself spots_total spot) in
     let still : lookup spot_cmp spot (without_spot spot t.entries) ≡ Some n = ap (lookup spot_cmp spot) same ∙ there in
@@ -54,24 +59,42 @@ entries_without t d name n = by (names_of (record t { entries = without_spot (sp
     by false = refl
 
 dropped_differs : (t : Tree) (d : ℕ) (name : List ℕ) (n : ℕ) → target_of t (spot_at d name) ≡ Some n → without_entry t d name n ≢ t
-dropped_differs t d name n there same = gone t (spot_at d name) n there (sym (entries_without t d name n) ∙ ap (λ (u : Tree). u.entries) same)
+dropped_differs t d name n there same = freed t (spot_at d name) n there (sym (entries_without t d name n) ∙ ap (λ (u : Tree). u.entries) same)
+
+-- what moved is found at the new name
+moved_differs : (t : Tree) (from : ℕ) (old : List ℕ) (to : ℕ) (new : List ℕ) (n : ℕ) → target_of t (spot_at to new) ≢ Some n → tree_moved t from old to new n ≢ t
+moved_differs t from old to new n other same =
+    let spot = spot_at to new in
+    let rest : Tree = without_entry_alone (without_there t to new (entry_of t to (Entry new))) from old in
+    let there : target_of (tree_moved t from old to new n) spot ≡ Some n = find-put spot_cmp spots_total spot spot n rest.entries
+    ∙ ap (λ o. cond (is_eq o) (Some n) (lookup spot_cmp spot rest.entries)) (tied_itself spots_total spot) in
+    other (sym (ap (λ u. target_of u spot) same) ∙ there)
 
 effect_differs : (plan : rust_plan.Plan) (t : Tree) → CanCarry plan t → (effect plan t).1 ≢ t
 effect_differs (plans.Add d name new number) t can = added_differs t d name.bytes.now new can.1
-effect_differs (plans.Drop d name number) t can = dropped_differs t d name.bytes.now number can.0
+effect_differs (plans.Drop d name number freed) t can = dropped_differs t d name.bytes.now number can.0
+effect_differs (plans.Move from to number turns freed) t can = moved_differs t from.0 from.1.bytes.now to.0 to.1.bytes.now number can.1.other
 
 -- a change that comes to a plan
-pub plans_so : (limit : ℕ) (t : Tree) (request : Request) (plan : rust_plan.Plan) → change_of limit t request ≡ Ok (effect plan t) → CanCarry plan t → Plans limit t request plan
-plans_so limit t request plan is can =
+pub plans_so : (limit : ℕ) (t : Tree) (request : Request) (plan : rust_plan.Plan) → change_of limit t request ≡ Ok (effect plan t) → CanCarry plan t
+    → keys_of plan ≡ listed t request → Plans limit t request plan
+plans_so limit t request plan is can keys =
     let whole : operation limit t request ≡ effect plan t = ap (settled t) is in
     record {
       operation = whole;
       can = can;
       alters = alters_so limit t request (λ same. effect_differs plan t can (ap (λ (p : Answer × Tree). p.1) (sym whole) ∙ same));
+      keys = keys ∙ sym (ap (λ change. unless_refused change (listed t request)) is);
     }
 
--- and one that is refused
-pub declines_so : (limit : ℕ) (t : Tree) (request : Request) (number : ℕ) → change_of limit t request ≡ Err number → Declines limit t request (Refused number)
-declines_so limit t request number is =
-    let whole : operation limit t request ≡ (Refused number, t) = ap (settled t) is in
-    record { operation = whole; alters = alters_not limit t request (ap (λ (p : Answer × Tree). p.1) whole) }
+-- a call that leaves the tree as it is
+pub declines_so : (limit : ℕ) (t : Tree) (request : Request) (answer : Answer) → operation limit t request ≡ (answer, t) → Declines limit t request answer
+declines_so limit t request answer is = record { operation = is; alters = alters_not limit t request (ap (λ (p : Answer × Tree). p.1) is) }
+
+-- a read does
+told : (t : Tree) (r : Result Answer ℕ) → settled t (left_alone t r) ≡ (answered r, t)
+told t (Ok answer) = refl
+told t (Err number) = refl
+
+pub reads_so : (limit : ℕ) (t : Tree) (request : Request) (r : Result Answer ℕ) (answer : Answer) → change_of limit t request ≡ left_alone t r → answer ≡ answered r → Declines limit t request answer
+reads_so limit t request r answer is e = declines_so limit t request answer (ap (settled t) is ∙ told t r ∙ ap (λ a. (a, t)) (sym e))

@@ -1,6 +1,9 @@
 -- What plans do to the plain tree of a store.
 pub mod Asked
+pub mod Keys
 pub mod Plans
+pub mod Reads
+pub mod Renames
 pub mod Wheres
 pub mod Makes
 pub mod Same

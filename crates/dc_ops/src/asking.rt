@@ -1,10 +1,12 @@
-ghost use Rattle.std.specs.Prelude.{◌≡◌, is_some};
+ghost use Rattle.std.specs.Prelude.{◌≡◌, ◌≤◌, true, false, None, Some, is_some, IfOk, IfErr, OnOk};
 ghost use Rattle.dc_plain.specs.Facts.Label.{Entry};
 ghost use Rattle.dc_plain.specs.IsWellFormed.{IsWellFormed};
+ghost use Rattle.dc_plain.specs.Places.Last.{Name as Named};
 ghost use Rattle.dc_plain.specs.Refusals.{is_full, name_or, name_or_each, present, spot_on};
 ghost use Rattle.dc_plain.specs.Resolution.{is_directory};
-ghost use Rattle.dc_plain.specs.Trees.{entry_of};
+ghost use Rattle.dc_plain.specs.Trees.{entry_of, target_of, place_at, names_of};
 ghost use Rattle.dc_resolve.specs.Spots.{last_shown};
+ghost use Rattle.dc_store.specs.Spots.{spot_at};
 ghost use Rattle.dc_ops.specs.Wheres.{where_shown, name_shown};
 
 use crate::finder::entry;
@@ -13,19 +15,25 @@ use dc_names::{Kind, Name};
 use dc_resolve::Last;
 use dc_store::Store;
 
+/// Refuses with a number where a test holds.
+pub fn refuse(test: bool, number: u64) -> Result<(), u64>
+    ensures ok { OnOk result (test ≡ false) }
+    ensures err { IfErr result (λ n. (test ≡ true) × (n ≡ number)) }
+{
+    if test { Err(number) } else { Ok(()) }
+}
+
 /// Where a text's last part is to be looked up, or the number of its refusal.
 pub fn place_text<'p, S: Store>(store: &S, base: u64, text: &'p [u8]) -> Result<Where<'p>, u64>
     ensures { where_shown result ≡ spot_on (S.tree store.now) base text.now }
 {
-    match path_of(text) {
-        Ok(path) => place_path(store, base, path),
-        Err(number) => Err(number),
-    }
+    place_path(store, base, path_of(text)?)
 }
 
 /// The name that a path ends in, or else this refusal.
 pub fn name_or(number: u64, last: Last<'_>) -> Result<Name<'_>, u64>
-    ensures { name_shown result ≡ name_or number (last_shown last.entry) }
+    ensures shown { name_shown result ≡ name_or number (last_shown last.entry) }
+    ensures named { IfOk result (λ name. last_shown last.entry ≡ Named name.bytes.now) }
 {
     match last {
         Last::Normal(name) => Ok(name),
@@ -40,7 +48,8 @@ pub fn name_or_each(
     at_dot_dot: u64,
     last: Last<'_>,
 ) -> Result<Name<'_>, u64>
-    ensures { name_shown result ≡ name_or_each at_root at_dot at_dot_dot (last_shown last.entry) }
+    ensures shown { name_shown result ≡ name_or_each at_root at_dot at_dot_dot (last_shown last.entry) }
+    ensures named { IfOk result (λ name. last_shown last.entry ≡ Named name.bytes.now) }
 {
     match last {
         Last::Normal(name) => Ok(name),
@@ -50,19 +59,16 @@ pub fn name_or_each(
     }
 }
 
-/// Where a name in a directory leads, or else this refusal.
-pub fn present<S: Store>(
-    store: &S,
-    number: u64,
-    dir: u64,
-    name: Name<'_>,
-) -> Result<(u64, Kind), u64>
-    ensures { result ≡ present number (entry_of (S.tree store.now) dir (Entry name.entry.bytes.now)) }
+/// Where a name in a directory leads, or else ENOENT.
+pub fn present<S: Store>(store: &S, dir: u64, name: Name<'_>) -> Result<(u64, Kind), u64>
+    ensures found { result ≡ present 2 (entry_of (S.tree store.now) dir (Entry name.entry.bytes.now)) }
+    ensures target { IfOk result (λ place.
+        target_of (S.tree store.now) (spot_at dir name.entry.bytes.now) ≡ Some place.0) }
+    ensures lives { IfOk result (λ place. place_at (S.tree store.now) place.0 ≡ Some place) }
+    ensures named { IfOk result (λ place. 1 ≤ names_of (S.tree store.now) place.0) }
+    ensures well { IsWellFormed (S.tree store.now) }
 {
-    match entry(store, dir, name) {
-        Some(place) => Ok(place),
-        None => Err(number),
-    }
+    entry(store, dir, name).ok_or(2)
 }
 
 pub fn is_directory(place: (u64, Kind)) -> bool
@@ -81,7 +87,9 @@ pub fn is_full<S: Store>(store: &S, max_inodes: u64) -> bool
 
 /// Whether a name is an entry of a directory.
 pub fn is_there<S: Store>(store: &S, dir: u64, name: Name<'_>) -> bool
-    ensures { result ≡ is_some (entry_of (S.tree store.now) dir (Entry name.entry.bytes.now)) }
+    ensures there { result ≡ is_some (entry_of (S.tree store.now) dir (Entry name.entry.bytes.now)) }
+    ensures free { result ≡ false → target_of (S.tree store.now) (spot_at dir name.entry.bytes.now) ≡ None }
+    ensures well { IsWellFormed (S.tree store.now) }
 {
     entry(store, dir, name).is_some()
 }

@@ -16,12 +16,16 @@ pub fn carry<S: Store>(alloc: Global, store: &mut S, plan: Plan<'_>) -> Result<R
     ensures err { OnErr result (S.tree store.new ≡ S.tree store.old) }
 {
     match plan {
-        Plan::Add(dir, name, new, _number) => {
+        Plan::Add { dir, name, new, .. } => {
             let number = store.add(alloc, dir, name, new)?;
             Ok(Reply::Done(number))
         }
-        Plan::Drop(dir, name, _number) => {
+        Plan::Drop { dir, name, .. } => {
             store.drop_entry(dir, name);
+            Ok(Reply::Unit)
+        }
+        Plan::Move { from, to, .. } => {
+            store.move_entry(alloc, from, to)?;
             Ok(Reply::Unit)
         }
     }

@@ -5,13 +5,17 @@ mod asking;
 mod carrying;
 mod changes;
 mod finder;
+mod keys;
+mod makes;
 mod paths;
 mod reads;
+mod renames;
 mod steps;
+mod takes;
 
 pub use carrying::carry;
 pub use changes::plan;
-pub use reads::seek;
+pub use reads::{ask, seek};
 pub use steps::Plan;
 
 #[cfg(test)]

@@ -1,5 +1,5 @@
-ghost use Rattle.std.specs.Prelude.{◌≡◌, Ok, Err, IfOk, IfErr};
-ghost use Rattle.dc_names.specs.Paths.{path_in};
+ghost use Rattle.std.specs.Prelude.{◌≡◌, None, Ok, Err, IfOk, IfErr, OnOk};
+ghost use Rattle.dc_names.specs.Paths.{path_in, fault_of};
 ghost use Rattle.dc_plain.specs.Places.{walk};
 ghost use Rattle.dc_plain.specs.Refusals.{ended, path_or_fault, place_on};
 ghost use Rattle.dc_plain.specs.Resolution.{settled_walk};
@@ -24,6 +24,7 @@ pub struct Where<'a> {
 pub fn path_of(text: &[u8]) -> Result<PathText<'_>, u64>
     ensures ok { IfOk result (λ path. path_or_fault text.now ≡ Ok (path_in path.bytes.now)) }
     ensures err { IfErr result (λ number. path_or_fault text.now ≡ Err number) }
+    ensures sound { OnOk result (fault_of text.now ≡ None) }
 {
     match parse(text) {
         Ok(path) => Ok(path),

@@ -1,13 +1,16 @@
-ghost use Rattle.std.specs.Prelude.{◌≡◌, ℕ};
+ghost use Rattle.std.specs.Prelude.{◌≡◌, ℕ, IfOk};
+ghost use Rattle.dc_plain.specs.Operations.{look, stat, readlink, list_names};
 ghost use Rattle.dc_plain.specs.Requests.{answer_of, request_of};
-ghost use Rattle.dc_plain.specs.Runs.{reply_of};
 ghost use Rattle.dc_plain.specs.Refusals.{walk_on};
-ghost use Rattle.dc_ops.specs.Asked.{IsSought};
+ghost use Rattle.dc_ops.specs.Asked.{IsSought, IsToldAtLength};
+ghost use Rattle.dc_ops.specs.Plans.{Declines};
+ghost use Rattle.dc_ops.specs.Reads.{answered};
 
 use crate::paths::{path_of, walk_path};
-use dc_names::Kind;
+use dc_names::{Kind, NoMemory};
 use dc_plain::{Call, Follow, Reply};
 use dc_store::Store;
+use std::alloc::Global;
 
 /// Where a text leads, or the number of its refusal.
 fn walk_text<S: Store>(
@@ -18,22 +21,86 @@ fn walk_text<S: Store>(
 ) -> Result<(u64, Kind), u64>
     ensures { result ≡ walk_on (S.tree store.now) base text.now follow }
 {
-    match path_of(text) {
-        Ok(path) => walk_path(store, base, path, follow),
-        Err(number) => Err(number),
+    walk_path(store, base, path_of(text)?, follow)
+}
+
+/// Answers `Look` (POSIX.1-2017 XBD 4.13) or `Stat`. It takes no memory.
+pub fn seek<S: Store>(store: &S, call: &Call<'_>) -> Reply
+    requires { IsSought call.now }
+    ensures { (limit : ℕ) → Declines limit (S.tree store.now) (request_of call.now) (answer_of result) }
+{
+    match *call {
+        Call::Look { base, path, follow } => look(store, base, path, follow),
+        Call::Stat { base, path } => stat(store, base, path),
+        Call::Readlink { .. }
+        | Call::List { .. }
+        | Call::Mkdir { .. }
+        | Call::Create { .. }
+        | Call::Link { .. }
+        | Call::Symlink { .. }
+        | Call::Unlink { .. }
+        | Call::Rmdir { .. }
+        | Call::Rename { .. } => unreachable!(),
     }
 }
 
-/// Answers a look-up, by POSIX.1-2017 XBD 4.13. It takes no memory.
-pub fn seek<S: Store>(store: &S, call: &Call<'_>) -> Reply
-    requires { IsSought call.now }
-    ensures { (limit : ℕ) → answer_of result ≡ reply_of limit (S.tree store.now) (request_of call.now) }
+fn look<S: Store>(store: &S, base: u64, path: &[u8], follow: Follow) -> Reply
+    ensures { answer_of result ≡ answered (look (S.tree store.now) base path.now follow) }
+{
+    match walk_text(store, base, path, follow) {
+        Ok((number, kind)) => Reply::Found(number, kind),
+        Err(number) => Reply::Refused(number),
+    }
+}
+
+fn stat<S: Store>(store: &S, base: u64, path: &[u8]) -> Reply
+    ensures { answer_of result ≡ answered (stat (S.tree store.now) base path.now) }
+{
+    match walk_text(store, base, path, Follow::Yes) {
+        Ok((number, kind)) => Reply::Stat(number, kind, store.count(number)),
+        Err(number) => Reply::Refused(number),
+    }
+}
+
+/// Answers `Readlink` or `List`. `NoMemory` where memory for the text or the names was refused.
+pub fn ask<S: Store>(alloc: Global, store: &S, call: &Call<'_>) -> Result<Reply, NoMemory>
+    requires { IsToldAtLength call.now }
+    ensures { IfOk result (λ reply. (limit : ℕ) →
+        Declines limit (S.tree store.now) (request_of call.now) (answer_of reply)) }
 {
     match *call {
-        Call::Look { base, path, follow } => match walk_text(store, base, path, follow) {
-            Ok((number, kind)) => Reply::Found(number, kind),
-            Err(number) => Reply::Refused(number),
-        },
-        Call::Mkdir { .. } => unreachable!(),
+        Call::Readlink { base, path } => Ok(read_link(alloc, store, base, path)?),
+        Call::List { base, path } => Ok(list(alloc, store, base, path)?),
+        Call::Look { .. }
+        | Call::Stat { .. }
+        | Call::Mkdir { .. }
+        | Call::Create { .. }
+        | Call::Link { .. }
+        | Call::Symlink { .. }
+        | Call::Unlink { .. }
+        | Call::Rmdir { .. }
+        | Call::Rename { .. } => unreachable!(),
+    }
+}
+
+fn read_link<S: Store>(alloc: Global, store: &S, base: u64, path: &[u8]) -> Result<Reply, NoMemory>
+    ensures { IfOk result (λ reply. answer_of reply ≡ answered (readlink (S.tree store.now) base path.now)) }
+{
+    let number = match walk_text(store, base, path, Follow::No) {
+        Ok((number, _)) => number,
+        Err(number) => return Ok(Reply::Refused(number)),
+    };
+    match store.text(number) {
+        Some(text) => Ok(Reply::Text(Vec::from_slice(alloc, text)?)),
+        None => Ok(Reply::Refused(22)),
+    }
+}
+
+fn list<S: Store>(alloc: Global, store: &S, base: u64, path: &[u8]) -> Result<Reply, NoMemory>
+    ensures { IfOk result (λ reply. answer_of reply ≡ answered (list_names (S.tree store.now) base path.now)) }
+{
+    match walk_text(store, base, path, Follow::Dir) {
+        Ok((number, _)) => Ok(Reply::Names(store.list(alloc, number)?)),
+        Err(number) => Ok(Reply::Refused(number)),
     }
 }

@@ -7,14 +7,15 @@ use Rattle.std.specs.List.{AllByRecursion, list_all}
 use Rattle.dc_names.specs.Paths.{Part, Path, path_in, fault_of, path_of, part_of, fault_number}
 use Rattle.dc_names.specs.declared.kind.Kind.TheVariants.{Dir, File, Link}
 use Rattle.dc_names.proofs.Valid.{valid_parts}
+use Rattle.dc_plain.specs.declared.call.Follow.{Follow}
 use Rattle.dc_plain.specs.declared.call.Follow.TheVariants as follow
 use Rattle.dc_plain.specs.Facts.{Place}
 use Rattle.dc_plain.specs.Facts.Label.{Parent}
-use Rattle.dc_plain.specs.Resolution.{Outcome, root, is_directory, resolve}
+use Rattle.dc_plain.specs.Resolution.{Outcome, root, is_directory, resolve, settled_walk}
 use Rattle.dc_plain.specs.Resolution.Outcome.{Found, Refused}
-use Rattle.dc_plain.specs.Places.{Where, start, with_start, last_part, front_of, placed_by, link_limit}
+use Rattle.dc_plain.specs.Places.{Where, start, with_start, walk, last_part, front_of, placed_by, link_limit}
 use Rattle.dc_plain.specs.Places.Last.{Name, Root}
-use Rattle.dc_plain.specs.Refusals.{spot_on, place_on, path_or_fault, where_of}
+use Rattle.dc_plain.specs.Refusals.{spot_on, place_on, path_or_fault, where_of, walk_on, ended}
 use Rattle.dc_plain.specs.Trees.{Tree, Inode, inode_of, place_at, kind_of, entry_of, told_of, is_live_directory, is_directory_inode, holder_of}
 use Rattle.dc_plain.specs.Trees.Inode.{Directory, Regular, Symbolic}
 use Rattle.dc_plain.proofs.Live.{Stands_at, Ends, resolve_stands, root_stands, and_last}
@@ -77,6 +78,21 @@ place_live t base path at is_root e =
 
 pub spot_live : (t : Tree) (base : ℕ) (text : List ℕ) (at : Where) → inode_of t 1 ≡ Some Directory → spot_on t base text ≡ Ok at → IsTrue (is_live_directory t at.directory)
 spot_live t base text at is_root e = after (path_or_fault text) _ at e (λ path good is. place_live t base path at is_root is)
+
+-- where a text leads, something lives
+found_by : (o : Option Outcome) (q : Place) → ended (settled_walk o) ≡ Ok q → o ≡ Some (Found q)
+found_by None q e = absurd cc
+found_by (Some (Found p)) q e = cc
+found_by (Some (Refused number)) q e = absurd cc
+
+pub walk_stands : (t : Tree) → inode_of t 1 ≡ Some Directory → (base : ℕ) (text : List ℕ) (how : Follow) (q : Place) → walk_on t base text how ≡ Ok q → place_at t q.0 ≡ Some q
+walk_stands t is_root base text how q e = after (path_or_fault text) _ q e (λ path good is. by_start path (start (told_of t) base path) refl (found_by (walk (told_of t) base path how) q is))
+  where
+    by_start : (path : Path) (o : Option (Option Place)) → start (told_of t) base path ≡ o
+        → with_start o (λ place. resolve (told_of t) how link_limit place path.parts path.slash) ≡ Some (Found q) → place_at t q.0 ≡ Some q
+    by_start path None is e' = cc
+    by_start path (Some None) is e' = absurd cc
+    by_start path (Some (Some p)) is e' = (resolve_stands t is_root how link_limit p path.parts path.slash q (start_stands t is_root base path p is) e').0
 
 -- a part of a path is dot, dot-dot or a name
 abbrev Is_part : Part → Type 0

@@ -17,3 +17,13 @@ pub struct Key<'a> {
     pub number: u64,
     pub label: Label<'a>,
 }
+
+impl Default for Key<'_> {
+    /// A key that nothing has, since no inode has the number 0.
+    fn default() -> Self {
+        Key {
+            number: 0,
+            label: Label::DotDot,
+        }
+    }
+}

@@ -1,0 +1,74 @@
+-- What goes with its last name, and what a count says by its kind.
+use Rattle.std.proofs.Common.{◌≡◌, ◌≢◌, ℕ, ◌≤◌, ◌==◌, List, Bool, true, false, Option, Some, None, Ok, refl, ap, sym, ◌∙◌, arith, length, option_map, subst, cond, if◌then◌else◌, [], ◌∷◌, ◌+◌}
+use Rattle.std.specs.Bool.{then_some}
+use Rattle.dc_names.specs.declared.kind.Kind.TheVariants.{Dir, File, Link}
+use Rattle.dc_plain.specs.Facts.{Place}
+use Rattle.dc_plain.specs.Resolution.{is_directory}
+use Rattle.dc_plain.specs.TouchedKeys.{keys_gone, keys_at}
+use Rattle.std.specs.Ordering.{eq_by_cmp}
+use Rattle.std.specs.FinMap.Entries.{find as lookup}
+use Rattle.dc_plain.proofs.Holders.{same_test}
+use Rattle.dc_plain.specs.Trees.{Tree, Spot, spot_cmp, how_many, target_of, Inode, inode_of, place_at, kind_of, names_of, names_in}
+use Rattle.dc_plain.specs.Trees.Inode.{Directory, Regular, Symbolic}
+use Rattle.dc_plain.specs.IsWellFormed.{IsWellFormed}
+use Rattle.dc_plain.specs.Operations.{count_at, stat}
+use Rattle.dc_plain.specs.declared.call.Follow.TheVariants as follow
+use Rattle.dc_plain.specs.Refusals.{walk_on, ◌>>=◌}
+use Rattle.dc_plain.specs.Requests.Answer.{Counted}
+use Rattle.dc_ops.specs.Reads.{answered}
+use Rattle.dc_store.specs.Counts.{count_of}
+use Rattle.dc_ops.specs.Keys.{keys_gone_with}
+
+-- by the inode of a place
+by_inode : (P : Place → Option Inode → Type 0) (n : ℕ) (o : Option Inode) (place : Place) → option_map (λ inode. (n, kind_of inode)) o ≡ Some place → ((i : Inode) → P (n, kind_of i) (Some i)) → P place o
+by_inode P n None place e so = absurd cc
+by_inode P n (Some i) place e so = let same : (n, kind_of i) ≡ place = cc in subst (λ p. P p (Some i)) same (so i)
+
+-- its own key is that of its kind
+own_key : (n : ℕ) (i : Inode) → keys_gone_with (Some (n, kind_of i)) ≡ keys_at n (Some i)
+own_key n Directory = refl
+own_key n Regular = refl
+own_key n (Symbolic text) = refl
+
+pub goes_keys : (t : Tree) (place : Place) → place_at t place.0 ≡ Some place → (b : Bool) → (names_of t place.0 == 1) ≡ b → keys_gone_with (then_some b place) ≡ keys_gone t place.0
+goes_keys t place lives true one = by_inode (λ p o. keys_gone_with (Some p) ≡ keys_at p.0 o) place.0 (inode_of t place.0) place lives (own_key place.0) ∙ rw one refl
+goes_keys t place lives false more = rw more refl
+
+-- a directory that has a name has one alone
+is_root : (t : Tree) (n : ℕ) → IsWellFormed t → 1 ≤ names_of t n → n ≢ 1
+is_root t n well named same = let one : 1 ≤ names_of t 1 = subst (λ k. 1 ≤ names_of t k) same named in let none = well.no_entry_leads_to_root in absurd (omega arith)
+
+directory_lives : (t : Tree) (place : Place) → place_at t place.0 ≡ Some place → is_directory place ≡ true → inode_of t place.0 ≡ Some Directory
+directory_lives t place lives is = by_inode (λ p o. is_directory p ≡ true → o ≡ Some Directory) place.0 (inode_of t place.0) place lives by_kind is
+  where
+    by_kind : (i : Inode) → is_directory (place.0, kind_of i) ≡ true → Some i ≡ Some Directory
+    by_kind Directory e = refl
+    by_kind Regular e = absurd cc
+    by_kind (Symbolic text) e = absurd cc
+
+pub single : (t : Tree) (place : Place) → IsWellFormed t → place_at t place.0 ≡ Some place → 1 ≤ names_of t place.0 → is_directory place ≡ true → (names_of t place.0 == 1) ≡ true
+single t place well lives named is =
+    let alive = well.inodes place.0 Directory (directory_lives t place lives is) in rw (alive.reached.0 (is_root t place.0 well named)) refl
+
+-- a count is of entries or of names, by the kind
+pub names_counted : (t : Tree) (place : Place) → place_at t place.0 ≡ Some place → is_directory place ≡ false → count_of t place.0 ≡ names_of t place.0
+names_counted t place lives is = rw (lives, is) refl
+
+pub entries_counted : (t : Tree) (place : Place) → place_at t place.0 ≡ Some place → is_directory place ≡ true → count_of t place.0 ≡ length (names_in t place.0)
+entries_counted t place lives is = rw (lives, is) refl
+
+-- what an entry leads to has a name
+pub named_by : (spot : Spot) (n : ℕ) (es : List (Spot × ℕ)) → lookup spot_cmp spot es ≡ Some n → 1 ≤ how_many (λ e. e.1 == n) es
+named_by spot n [] e = absurd cc
+named_by spot n (x ∷ xs) e =
+    elim (eq_by_cmp spot_cmp spot x.0) as (λ b. cond b (Some x.1) (lookup spot_cmp spot xs) ≡ Some n → 1 ≤ (if x.1 == n then 1 else 0) + how_many (λ e. e.1 == n) xs) [
+      | true ↦ λ is. let same : x.1 ≡ n = cc in let met : (x.1 == n) ≡ true = rw same (same_test n) in rw met (omega arith)
+      | false ↦ λ is. let rest = named_by spot n xs is in omega arith
+    ] e
+
+-- what a stat answers of a place that lives
+pub stat_told : (t : Tree) (base : ℕ) (text : List ℕ) (place : Place) (count : ℕ) → walk_on t base text follow.Yes ≡ Ok place → place_at t place.0 ≡ Some place → count ≡ count_of t place.0
+    → Counted place.0 place.1 count ≡ answered (stat t base text)
+stat_told t base text place count found lives is =
+    let told : count_of t place.0 ≡ count_at t place = rw lives refl in
+    ap (Counted place.0 place.1) (is ∙ told) ∙ sym (ap (λ r. answered (r >>= λ place. Ok (Counted place.0 place.1 (count_at t place)))) found)

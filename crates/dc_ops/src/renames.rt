@@ -1,0 +1,128 @@
+ghost use Rattle.std.specs.Prelude.{◌≡◌, ◌++◌, true, false, length, Option, Some, IfOk, IfErr, IfSome, Ok, Err, OnOk, IsTrue, ℕ, List};
+ghost use Rattle.dc_names.specs.Bytes.{is_name};
+ghost use Rattle.dc_plain.specs.Facts.Label.{Entry};
+ghost use Rattle.dc_plain.specs.Operations.{rename, is_beneath, replaceable, same_inode};
+ghost use Rattle.dc_plain.specs.TouchedKeys.{at_name, keys_renamed};
+ghost use Rattle.dc_plain.specs.Trees.{entry_of, is_live_directory, place_at, target_of};
+ghost use Rattle.dc_store.specs.Spots.{spot_at};
+ghost use Rattle.dc_ops.specs.Keys.{keys_of};
+ghost use Rattle.dc_ops.specs.Plans.{effect_if, CanCarry};
+ghost use Rattle.dc_ops.specs.Renames.{move_to};
+
+use crate::Plan;
+use crate::asking::{is_directory, name_or_each, present, refuse};
+use crate::finder::entry;
+use crate::paths::{path_of, place_path};
+use crate::takes::{goes, is_empty};
+use dc_names::{Kind, Name};
+use dc_store::Store;
+
+/// The plan of a rename, or none where both names lead to one inode.
+pub fn plan_rename<'a, S: Store>(
+    store: &S,
+    base: u64,
+    old: &'a [u8],
+    new: &'a [u8],
+) -> Result<Option<Plan<'a>>, u64>
+    ensures planned { IfOk result (λ plan.
+        rename (S.tree store.now) base old.now new.now ≡ Ok (effect_if plan (S.tree store.now))) }
+    ensures can { IfOk result (λ plan. IfSome plan (λ plan. CanCarry plan (S.tree store.now))) }
+    ensures keys { IfOk result (λ plan. IfSome plan (λ plan. keys_of plan ≡ at_name (S.tree store.now) base old.now
+        (λ from a. at_name (S.tree store.now) base new.now (λ to b. keys_renamed (S.tree store.now) from a to b)))) }
+    ensures refused { IfErr result (λ number.
+        rename (S.tree store.now) base old.now new.now ≡ Err number) }
+{
+    let old_path = path_of(old)?;
+    let new_path = path_of(new)?;
+    let from = place_path(store, base, old_path)?;
+    let to = place_path(store, base, new_path)?;
+    let old_name = name_or_each(16, 22, 22, from.last)?;
+    let new_name = name_or_each(16, 22, 22, to.last)?;
+    let moved = present(store, from.dir, old_name)?;
+    refuse(!is_directory(moved) && (from.slash || to.slash), 20)?;
+    plan_move(store, (from.dir, old_name), (to.dir, new_name), moved)
+}
+
+/// The same once both names are known, and what stands at the old one.
+fn plan_move<'a, S: Store>(
+    store: &S,
+    from: (u64, Name<'a>),
+    to: (u64, Name<'a>),
+    moved: (u64, Kind),
+) -> Result<Option<Plan<'a>>, u64>
+    requires source { target_of (S.tree store.now) (spot_at from.0 from.1.bytes.now) ≡ Some moved.0 }
+    requires lives { place_at (S.tree store.now) moved.0 ≡ Some moved }
+    requires held { IsTrue (is_live_directory (S.tree store.now) to.0) }
+    ensures planned { IfOk result (λ plan.
+        move_to (S.tree store.now) from.entry.0 from.entry.1.bytes.now to.entry.0 to.entry.1.bytes.now moved
+        ≡ Ok (effect_if plan (S.tree store.now))) }
+    ensures can { IfOk result (λ plan. IfSome plan (λ plan. CanCarry plan (S.tree store.now))) }
+    ensures keys { IfOk result (λ plan. IfSome plan (λ plan. keys_of plan
+        ≡ keys_renamed (S.tree store.now) from.entry.0 from.entry.1.bytes.now to.entry.0 to.entry.1.bytes.now)) }
+    ensures refused { IfErr result (λ number.
+        move_to (S.tree store.now) from.entry.0 from.entry.1.bytes.now to.entry.0 to.entry.1.bytes.now moved
+        ≡ Err number) }
+{
+    let there = entry(store, to.0, to.1);
+    if is_one(moved, there) {
+        return Ok(None);
+    }
+    refuse(is_directory(moved) && is_beneath(store, to.0, moved.0), 22)?;
+    make_way(store, moved, there)?;
+    Ok(Some(Plan::Move {
+        from,
+        to,
+        number: moved.0,
+        turns: is_directory(moved) && from.0 != to.0,
+        freed: there.and_then(|place| goes(store, place)),
+    }))
+}
+
+/// Whether both names lead to one inode.
+fn is_one(moved: (u64, Kind), there: Option<(u64, Kind)>) -> bool
+    ensures { result ≡ same_inode moved there }
+{
+    match there {
+        Some(place) => moved.0 == place.0,
+        None => false,
+    }
+}
+
+/// Refuses where what stands at the new name may not be replaced.
+fn make_way<S: Store>(store: &S, moved: (u64, Kind), there: Option<(u64, Kind)>) -> Result<(), u64>
+    requires lives { IfSome there (λ place. place_at (S.tree store.now) place.0 ≡ Some place) }
+    ensures ok { OnOk result (replaceable (S.tree store.now) moved there ≡ Ok true) }
+    ensures err { IfErr result (λ number. replaceable (S.tree store.now) moved there ≡ Err number) }
+{
+    let Some(place) = there else {
+        return Ok(());
+    };
+    if !is_directory(moved) {
+        return refuse(is_directory(place), 21);
+    }
+    refuse(!is_directory(place), 20)?;
+    refuse(!is_empty(store, place), 39)
+}
+
+/// Whether going up from a directory one meets an inode.
+fn is_beneath<S: Store>(store: &S, dir: u64, number: u64) -> bool
+    requires { IsTrue (is_live_directory (S.tree store.now) dir) }
+    ensures { result ≡ is_beneath (length (S.tree store.now).inodes) (S.tree store.now) dir number }
+{
+    let mut at = dir;
+    let mut left = store.live();
+    'up: while left > 0 {
+        if at == number {
+            return true;
+        }
+        if at == 1 {
+            return false;
+        }
+        let Some(up) = store.parent(at) else {
+            return false;
+        };
+        at = up;
+        left -= 1;
+    }
+    true
+}
