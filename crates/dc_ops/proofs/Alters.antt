@@ -1,12 +1,12 @@
 -- What is carried out makes another tree.
-use Rattle.std.proofs.Common.{◌≡◌, ◌≢◌, ℕ, ◌+◌, ◌==◌, List, Bool, true, false, not, cond, Option, Some, None, Result, Ok, Err, refl, ap, sym, ◌∙◌, arith, if◌then◌else◌}
+use Rattle.std.proofs.Common.{◌≡◌, ◌≢◌, ℕ, ◌+◌, ◌==◌, List, Bool, true, false, not, cond, Option, Some, None, Result, Ok, Err, refl, ap, sym, ◌∙◌, arith, IfSome, subst, if◌then◌else◌}
 use Rattle.std.specs.Cmp.{tied_itself}
 use Rattle.std.specs.Ordering.{is_eq}
 use Rattle.std.specs.FinMap.Entries.{put, find-put}
 use Rattle.std.specs.FinMap.Entries.{find as lookup}
 use Rattle.dc_plain.specs.Trees.{Tree, Spot, entry_of, spot_cmp, target_of, how_many, names_of, without_spot, without_number}
 use Rattle.dc_plain.specs.Requests.{Request, Answer}
-use Rattle.dc_plain.specs.Requests.Answer.{Refused}
+use Rattle.dc_plain.specs.Requests.Answer.{Nothing, Refused}
 use Rattle.dc_plain.specs.Facts.Label.{Entry}
 use Rattle.dc_plain.specs.Operations.{change_of, settled, operation, left_alone}
 use Rattle.dc_plain.specs.TouchedKeys.{listed, unless_refused}
@@ -25,7 +25,7 @@ use Rattle.dc_store.specs.declared.store.New as rust_new
 use Rattle.dc_store.specs.declared.store.New.TheVariants as news
 use Rattle.dc_ops.specs.declared.steps.Plan as rust_plan
 use Rattle.dc_ops.specs.declared.steps.Plan.TheVariants as plans
-use Rattle.dc_ops.specs.Plans.{effect, CanCarry, Plans, Declines}
+use Rattle.dc_ops.specs.Plans.{effect, effect_if, CanCarry, Plans, Declines}
 
 -- a new entry makes one entry more
 put_differs : (spot : Spot) (n : ℕ) (t : Tree) → target_of t spot ≡ None → put spot_cmp spot n t.entries ≢ t.entries
@@ -76,7 +76,7 @@ effect_differs (plans.Drop d name number freed) t can = dropped_differs t d name
 effect_differs (plans.Move from to number turns freed) t can = moved_differs t from.0 from.1.bytes.now to.0 to.1.bytes.now number can.1.other
 
 -- a change that comes to a plan
-pub plans_so : (limit : ℕ) (t : Tree) (request : Request) (plan : rust_plan.Plan) → change_of limit t request ≡ Ok (effect plan t) → CanCarry plan t
+plans_so : (limit : ℕ) (t : Tree) (request : Request) (plan : rust_plan.Plan) → change_of limit t request ≡ Ok (effect plan t) → CanCarry plan t
     → keys_of plan ≡ listed t request → Plans limit t request plan
 plans_so limit t request plan is can keys =
     let whole : operation limit t request ≡ effect plan t = ap (settled t) is in
@@ -88,7 +88,7 @@ plans_so limit t request plan is can keys =
     }
 
 -- a call that leaves the tree as it is
-pub declines_so : (limit : ℕ) (t : Tree) (request : Request) (answer : Answer) → operation limit t request ≡ (answer, t) → Declines limit t request answer
+declines_so : (limit : ℕ) (t : Tree) (request : Request) (answer : Answer) → operation limit t request ≡ (answer, t) → Declines limit t request answer
 declines_so limit t request answer is = record { operation = is; alters = alters_not limit t request (ap (λ (p : Answer × Tree). p.1) is) }
 
 -- a read does
@@ -98,3 +98,15 @@ told t (Err number) = refl
 
 pub reads_so : (limit : ℕ) (t : Tree) (request : Request) (r : Result Answer ℕ) (answer : Answer) → change_of limit t request ≡ left_alone t r → answer ≡ answered r → Declines limit t request answer
 reads_so limit t request r answer is e = declines_so limit t request answer (ap (settled t) is ∙ told t r ∙ ap (λ a. (a, t)) (sym e))
+
+-- a change that may come to nothing
+pub plans_if : (limit : ℕ) (t : Tree) (request : Request) (found : Option rust_plan.Plan) (plan : rust_plan.Plan) → found ≡ Some plan → change_of limit t request ≡ Ok (effect_if found t)
+    → IfSome found (λ plan. CanCarry plan t) → IfSome found (λ plan. keys_of plan ≡ listed t request) → Plans limit t request plan
+plans_if limit t request None plan is change can keys = absurd cc
+plans_if limit t request (Some other) plan is change can keys = let same : other ≡ plan = cc in subst (Plans limit t request) same (plans_so limit t request other change can keys)
+
+pub idles_if : (limit : ℕ) (t : Tree) (request : Request) (found : Option rust_plan.Plan) → found ≡ None → change_of limit t request ≡ Ok (effect_if found t) → Declines limit t request Nothing
+idles_if limit t request found is change = declines_so limit t request Nothing (ap (settled t) (change ∙ ap (λ plan. Ok (effect_if plan t)) is))
+
+pub refuses_so : (limit : ℕ) (t : Tree) (request : Request) (number : ℕ) → change_of limit t request ≡ Err number → Declines limit t request (Refused number)
+refuses_so limit t request number is = declines_so limit t request (Refused number) (ap (settled t) is)

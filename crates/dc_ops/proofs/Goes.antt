@@ -1,5 +1,5 @@
 -- What goes with its last name, and what a count says by its kind.
-use Rattle.std.proofs.Common.{◌≡◌, ◌≢◌, ℕ, ◌≤◌, ◌==◌, List, Bool, true, false, Option, Some, None, Ok, refl, ap, sym, ◌∙◌, arith, length, option_map, subst, cond, if◌then◌else◌, [], ◌∷◌, ◌+◌}
+use Rattle.std.proofs.Common.{◌≡◌, ◌≢◌, ℕ, ◌≤◌, ◌==◌, List, Bool, true, false, Option, Some, None, Ok, is_some, option_and_then, refl, ap, sym, ◌∙◌, arith, length, option_map, subst, cond, if◌then◌else◌, [], ◌∷◌, ◌+◌}
 use Rattle.std.specs.Bool.{then_some}
 use Rattle.dc_names.specs.declared.kind.Kind.TheVariants.{Dir, File, Link}
 use Rattle.dc_plain.specs.Facts.{Place}
@@ -20,7 +20,7 @@ use Rattle.dc_store.specs.Counts.{count_of}
 use Rattle.dc_ops.specs.Keys.{keys_gone_with}
 
 -- by the inode of a place
-by_inode : (P : Place → Option Inode → Type 0) (n : ℕ) (o : Option Inode) (place : Place) → option_map (λ inode. (n, kind_of inode)) o ≡ Some place → ((i : Inode) → P (n, kind_of i) (Some i)) → P place o
+pub by_inode : (P : Place → Option Inode → Type 0) (n : ℕ) (o : Option Inode) (place : Place) → option_map (λ inode. (n, kind_of inode)) o ≡ Some place → ((i : Inode) → P (n, kind_of i) (Some i)) → P place o
 by_inode P n None place e so = absurd cc
 by_inode P n (Some i) place e so = let same : (n, kind_of i) ≡ place = cc in subst (λ p. P p (Some i)) same (so i)
 
@@ -72,3 +72,11 @@ pub stat_told : (t : Tree) (base : ℕ) (text : List ℕ) (place : Place) (count
 stat_told t base text place count found lives is =
     let told : count_of t place.0 ≡ count_at t place = rw lives refl in
     ap (Counted place.0 place.1) (is ∙ told) ∙ sym (ap (λ r. answered (r >>= λ place. Ok (Counted place.0 place.1 (count_at t place)))) found)
+
+-- a name that leads to what doesn't live leads nowhere
+pub unheld : (t : Tree) (spot : Spot) (n : ℕ) → target_of t spot ≡ Some n → None ≡ option_map kind_of (inode_of t n) → is_some (option_and_then (place_at t) (target_of t spot)) ≡ false
+unheld t spot n leads dead = ap (λ o. is_some (option_and_then (place_at t) o)) leads ∙ by_node (inode_of t n) dead
+  where
+    by_node : (o : Option Inode) → None ≡ option_map kind_of o → is_some {T = Place} (option_map (λ inode. (n, kind_of inode)) o) ≡ false
+    by_node None e = refl
+    by_node (Some i) e = absurd cc

@@ -1,3 +1,5 @@
 pub mod Rooms
 pub mod Goes
+pub mod Parents
+pub mod Renamed
 pub mod Alters

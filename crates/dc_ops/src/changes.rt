@@ -48,7 +48,7 @@ fn found<'a, S: Store>(store: &S, call: &Call<'a>, max_inodes: u64) -> Result<Op
         Call::Link { base, old, new } => plan_link(store, base, old, new)?,
         Call::Unlink { base, path } => plan_unlink(store, base, path)?,
         Call::Rmdir { base, path } => plan_rmdir(store, base, path)?,
-        Call::Rename { base, old, new } => return plan_rename(store, base, old, new),
+        Call::Rename { base, old, new } => return Ok(plan_rename(store, base, old, new)?),
         Call::Look { .. } | Call::Readlink { .. } | Call::Stat { .. } | Call::List { .. } => {
             unreachable!()
         }

@@ -1,11 +1,11 @@
-ghost use Rattle.std.specs.Prelude.{◌≡◌, ◌++◌, true, false, length, Option, Some, IfOk, IfErr, IfSome, Ok, Err, OnOk, IsTrue, ℕ, List};
-ghost use Rattle.dc_names.specs.Bytes.{is_name};
-ghost use Rattle.dc_plain.specs.Facts.Label.{Entry};
+ghost use Rattle.std.specs.Prelude.{◌≡◌, ◌≤◌, ◌==◌, ◌&&◌, not, true, length, option_map, Some, IfOk, IfErr, IfSome, Ok, Err, OnOk, IsTrue};
+ghost use Rattle.dc_plain.specs.IsWellFormed.{IsWellFormed};
 ghost use Rattle.dc_plain.specs.Operations.{rename, is_beneath, replaceable, same_inode};
-ghost use Rattle.dc_plain.specs.TouchedKeys.{at_name, keys_renamed};
-ghost use Rattle.dc_plain.specs.Trees.{entry_of, is_live_directory, place_at, target_of};
+ghost use Rattle.dc_plain.specs.Resolution.{is_directory};
+ghost use Rattle.dc_plain.specs.TouchedKeys.{at_name, keys_gone, keys_renamed, with_target};
+ghost use Rattle.dc_plain.specs.Trees.{is_live_directory, names_of, place_at, target_of};
 ghost use Rattle.dc_store.specs.Spots.{spot_at};
-ghost use Rattle.dc_ops.specs.Keys.{keys_of};
+ghost use Rattle.dc_ops.specs.Keys.{keys_gone_with, keys_of};
 ghost use Rattle.dc_ops.specs.Plans.{effect_if, CanCarry};
 ghost use Rattle.dc_ops.specs.Renames.{move_to};
 
@@ -67,14 +67,14 @@ fn plan_move<'a, S: Store>(
     if is_one(moved, there) {
         return Ok(None);
     }
-    refuse(is_directory(moved) && is_beneath(store, to.0, moved.0), 22)?;
+    refuse(is_inside(store, to.0, moved), 22)?;
     make_way(store, moved, there)?;
     Ok(Some(Plan::Move {
         from,
         to,
         number: moved.0,
-        turns: is_directory(moved) && from.0 != to.0,
-        freed: there.and_then(|place| goes(store, place)),
+        turns: turns(moved, from.0, to.0),
+        freed: freed(store, there),
     }))
 }
 
@@ -102,6 +102,36 @@ fn make_way<S: Store>(store: &S, moved: (u64, Kind), there: Option<(u64, Kind)>)
     }
     refuse(!is_directory(place), 20)?;
     refuse(!is_empty(store, place), 39)
+}
+
+/// Whether a directory that moves gets another parent.
+fn turns(moved: (u64, Kind), from: u64, to: u64) -> bool
+    ensures { result ≡ (is_directory moved && not (from == to)) }
+{
+    is_directory(moved) && from != to
+}
+
+/// What goes with its last name, where something stands there.
+fn freed<S: Store>(store: &S, there: Option<(u64, Kind)>) -> Option<(u64, Kind)>
+    requires lives { IfSome there (λ place. place_at (S.tree store.now) place.0 ≡ Some place) }
+    requires named { IfSome there (λ place. 1 ≤ names_of (S.tree store.now) place.0) }
+    requires well { IsWellFormed (S.tree store.now) }
+    ensures { keys_gone_with result
+        ≡ with_target (option_map (λ place. place.0) there) (keys_gone (S.tree store.now)) }
+{
+    match there {
+        Some(place) => goes(store, place),
+        None => None,
+    }
+}
+
+/// Whether a place is a directory that is this one or above it.
+fn is_inside<S: Store>(store: &S, dir: u64, place: (u64, Kind)) -> bool
+    requires { IsTrue (is_live_directory (S.tree store.now) dir) }
+    ensures { result ≡ (is_directory place
+        && is_beneath (length (S.tree store.now).inodes) (S.tree store.now) dir place.0) }
+{
+    is_directory(place) && is_beneath(store, dir, place.0)
 }
 
 /// Whether going up from a directory one meets an inode.
