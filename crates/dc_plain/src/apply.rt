@@ -11,8 +11,10 @@ use std::alloc::Global;
 impl PlainTree {
     /// Answers a call, and makes its change. After `NoMemory` nothing is changed.
     pub fn apply(&mut self, alloc: Global, call: &Call) -> Result<Reply, NoMemory>
-        ensures reply { IfOk result (λ reply. answer_of reply ≡ reply_of self.old.limit self.old.tree (request_of call.now)) }
-        ensures tree { OnOk result (self.new.tree ≡ tree_after self.old.limit self.old.tree (request_of call.now)) }
+        ensures reply { IfOk result (λ reply.
+            answer_of reply ≡ reply_of self.old.limit self.old.tree (request_of call.now)) }
+        ensures tree { OnOk result
+            (self.new.tree ≡ tree_after self.old.limit self.old.tree (request_of call.now)) }
         ensures limit { self.new.limit ≡ self.old.limit }
         ensures err { OnErr result (self.new ≡ self.old) }
     {
@@ -26,7 +28,8 @@ impl PlainTree {
 
     /// Whether a call would change the tree.
     pub fn alters(&self, alloc: Global, call: &Call) -> Result<bool, NoMemory>
-        ensures { IfOk result (λ alters. IsTrue alters ↔ Alters self.now.limit self.now.tree (request_of call.now)) }
+        ensures { IfOk result (λ alters.
+            IsTrue alters ↔ Alters self.now.limit self.now.tree (request_of call.now)) }
     {
         match self.plan(alloc, call) {
             Ok(Plan::Answer(_)) | Err(Stop::Refused(_)) => Ok(false),

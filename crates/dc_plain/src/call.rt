@@ -11,8 +11,8 @@ pub enum Follow {
     Dir,
 }
 
-/// A call on a tree. `base` is the number of the directory that a relative path starts from, and paths
-/// come as the bytes that the caller gave.
+/// A call on a tree. `base` is the number of the directory that a relative path starts from, and
+/// paths come as the bytes that the caller gave.
 #[derive(Clone, Copy)]
 pub enum Call<'a> {
     /// Where a path leads (POSIX.1-2017 XBD 4.13).

@@ -29,7 +29,8 @@ impl PlainTree {
     pub(crate) fn carry(&mut self, alloc: Global, change: Change) -> Result<Reply, NoMemory>
         requires made { IsMade self.old.limit self.old.tree (changed self.old.tree change) }
         requires spots { HasSpots self.old.tree change }
-        ensures reply { IfOk result (λ reply. answer_of reply ≡ (changed self.old.tree change.entry).0) }
+        ensures reply { IfOk result (λ reply.
+            answer_of reply ≡ (changed self.old.tree change.entry).0) }
         ensures tree { OnOk result (self.new.tree ≡ (changed self.old.tree change.entry).1) }
         ensures err { OnErr result (self.new ≡ self.old) }
         ensures limit { self.new.limit ≡ self.old.limit }
@@ -58,10 +59,12 @@ impl PlainTree {
 
     /// Adds an inode under the next number, with its name.
     fn add(&mut self, alloc: Global, spot: Spot, new: New) -> Result<u64, NoMemory>
-        requires made { IsMade self.old.limit self.old.tree (changed self.old.tree (Change.Make spot new)) }
+        requires made { IsMade self.old.limit self.old.tree
+            (changed self.old.tree (Change.Make spot new)) }
         requires free { HasSpots self.old.tree (Change.Make spot new) }
         ensures number { IfOk result (λ number. number ≡ self.old.tree.next) }
-        ensures ok { OnOk result (self.new.tree ≡ (changed self.old.tree (Change.Make spot.entry new.entry)).1) }
+        ensures ok { OnOk result
+            (self.new.tree ≡ (changed self.old.tree (Change.Make spot.entry new.entry)).1) }
         ensures err { OnErr result (self.new ≡ self.old) }
         ensures limit { self.new.limit ≡ self.old.limit }
     {
@@ -77,9 +80,11 @@ impl PlainTree {
 
     /// Adds a name of what lives.
     fn add_name(&mut self, alloc: Global, spot: Spot, number: u64) -> Result<(), NoMemory>
-        requires made { IsMade self.old.limit self.old.tree (changed self.old.tree (Change.Link spot number)) }
+        requires made { IsMade self.old.limit self.old.tree
+            (changed self.old.tree (Change.Link spot number)) }
         requires free { HasSpots self.old.tree (Change.Link spot number) }
-        ensures ok { OnOk result (self.new.tree ≡ (changed self.old.tree (Change.Link spot.entry number)).1) }
+        ensures ok { OnOk result
+            (self.new.tree ≡ (changed self.old.tree (Change.Link spot.entry number)).1) }
         ensures err { OnErr result (self.new ≡ self.old) }
         ensures limit { self.new.limit ≡ self.old.limit }
     {
@@ -90,14 +95,15 @@ impl PlainTree {
 
     /// Drops a name, and with the last one the inode.
     fn drop_name(&mut self, spot: Spot, number: u64)
-        requires { IsMade self.old.limit self.old.tree (changed self.old.tree (Change.Drop spot number)) }
+        requires { IsMade self.old.limit self.old.tree
+            (changed self.old.tree (Change.Drop spot number)) }
         ensures tree { self.new.tree ≡ (changed self.old.tree (Change.Drop spot.entry number)).1 }
         ensures limit { self.new.limit ≡ self.old.limit }
     {
         take_name(&mut self.entries, &mut self.inodes, spot, number);
     }
 
-    /// Moves an inode from one name to another. The room for it is made first, and then nothing can fail.
+    /// Moves an inode from one name to another. The room for it is made first; nothing fails then.
     fn relocate(
         &mut self,
         alloc: Global,
@@ -106,9 +112,11 @@ impl PlainTree {
         to: Spot,
         there: Option<Place>,
     ) -> Result<(), NoMemory>
-        requires made { IsMade self.old.limit self.old.tree (changed self.old.tree (Change.Move moved from to there)) }
+        requires made { IsMade self.old.limit self.old.tree
+            (changed self.old.tree (Change.Move moved from to there)) }
         requires leads { HasSpots self.old.tree (Change.Move moved from to there) }
-        ensures ok { OnOk result (self.new.tree ≡ (changed self.old.tree (Change.Move moved from.entry to.entry there)).1) }
+        ensures ok { OnOk result
+            (self.new.tree ≡ (changed self.old.tree (Change.Move moved from.entry to.entry there)).1) }
         ensures err { OnErr result (self.new ≡ self.old) }
         ensures limit { self.new.limit ≡ self.old.limit }
     {
@@ -123,7 +131,8 @@ impl PlainTree {
 /// Takes a name away, and with the last one the inode.
 fn take_name(entries: &mut Vec<Entry>, inodes: &mut Vec<Inode>, spot: Spot, number: u64)
     ensures rows { (next : ℕ) → tree_in entries.new.items inodes.new.items next
-        ≡ without_entry (tree_in entries.old.items inodes.old.items next) spot.entry.directory spot.entry.name.bytes.now number }
+        ≡ without_entry (tree_in entries.old.items inodes.old.items next)
+        spot.entry.directory spot.entry.name.bytes.now number }
     ensures bound { vec_len entries.new ≤ vec_len entries.old }
     ensures capacity { vec_capacity entries.new ≡ vec_capacity entries.old }
 {
@@ -142,7 +151,8 @@ fn make_way(
     there: Option<Place>,
 )
     ensures rows { (next : ℕ) → tree_in entries.new.items inodes.new.items next
-        ≡ without_moved (tree_in entries.old.items inodes.old.items next) (spot_shown from.entry) (spot_shown to.entry) there }
+        ≡ without_moved (tree_in entries.old.items inodes.old.items next)
+        (spot_shown from.entry) (spot_shown to.entry) there }
     ensures bound { vec_len entries.new ≤ vec_len entries.old }
     ensures capacity { vec_capacity entries.new ≡ vec_capacity entries.old }
 {

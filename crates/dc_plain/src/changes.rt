@@ -25,8 +25,8 @@ impl PlainTree {
         may_end_in_slash: bool,
         new: New<'c>,
     ) -> Result<Change<'c>, Stop>
-        ensures found { Finds result (changed self.now.tree)
-            (make self.now.limit self.now.tree base path.now may_end_in_slash (new_shown new.entry)) }
+        ensures found { Finds result (changed self.now.tree) (make self.now.limit self.now.tree
+            base path.now may_end_in_slash (new_shown new.entry)) }
         ensures spots { IfOk result (HasSpots self.now.tree) }
     {
         let at = self.spot(alloc, base, path)?;
@@ -61,7 +61,8 @@ impl PlainTree {
         old: &'c [u8],
         new: &'c [u8],
     ) -> Result<Change<'c>, Stop>
-        ensures found { Finds result (changed self.now.tree) (link self.now.tree base old.now new.now) }
+        ensures found { Finds result (changed self.now.tree)
+            (link self.now.tree base old.now new.now) }
         ensures spots { IfOk result (HasSpots self.now.tree) }
     {
         let old = checked(old)?;

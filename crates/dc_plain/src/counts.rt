@@ -24,7 +24,8 @@ pub(crate) fn leading_to(entries: &[Entry], number: u64) -> usize
 
 /// How many entries stand in a directory.
 fn standing_in(entries: &[Entry], directory: u64) -> usize
-    ensures { result ≡ length (filter (λ e. e.0.directory == directory) (map entry_shown entries.now)) }
+    ensures { result
+        ≡ length (filter (λ e. e.0.directory == directory) (map entry_shown entries.now)) }
 {
     entries
         .iter()
@@ -35,7 +36,8 @@ fn standing_in(entries: &[Entry], directory: u64) -> usize
 /// The names in a directory, by their bytes.
 fn names_in(alloc: Global, entries: &[Entry], directory: u64) -> Result<Vec<Vec<u8>>, NoMemory>
     ensures { IfOk result (λ names. map (λ name. name.items) names.items
-        ≡ map (λ e. e.0.name) (filter (λ e. e.0.directory == directory) (map entry_shown entries.now))) }
+        ≡ map (λ e. e.0.name)
+        (filter (λ e. e.0.directory == directory) (map entry_shown entries.now))) }
 {
     let mut names = Vec::new(alloc);
     for entry in entries {
@@ -74,7 +76,8 @@ impl PlainTree {
 
     /// The names in a directory, by their bytes.
     pub(crate) fn names_in(&self, alloc: Global, directory: u64) -> Result<Vec<Vec<u8>>, NoMemory>
-        ensures { IfOk result (λ names. map (λ name. name.items) names.items ≡ names_within self.now.tree directory) }
+        ensures { IfOk result (λ names.
+            map (λ name. name.items) names.items ≡ names_within self.now.tree directory) }
     {
         names_in(alloc, &self.entries, directory)
     }

@@ -11,7 +11,8 @@ pub enum Label<'a> {
     Text,
 }
 
-/// What a row of the cache tells of: an entry, a dot-dot or a link's text, of the inode of a number.
+/// What a row of the cache tells of: an entry, a dot-dot or a link's text, of the inode of a
+/// number.
 #[derive(Clone, Copy)]
 pub struct Key<'a> {
     pub number: u64,

@@ -45,7 +45,8 @@ impl<'a> Last<'a> {
 
     /// The name, or else the refusal for the root, dot or dot-dot.
     pub fn name_or_each(self, root: u64, dot: u64, dot_dot: u64) -> Result<Name<'a>, Stop>
-        ensures { Finds result (λ name. name.bytes.now) (name_or_each root dot dot_dot (last_shown self.entry)) }
+        ensures { Finds result (λ name. name.bytes.now)
+            (name_or_each root dot dot_dot (last_shown self.entry)) }
     {
         match self {
             Last::Part(Part::Normal(name)) => Ok(name),
@@ -59,7 +60,8 @@ impl<'a> Last<'a> {
 impl<'a> At<'a> {
     /// A name in that directory.
     pub fn spot(self, name: Name<'a>) -> Spot<'a>
-        ensures { spot_shown result ≡ record { directory = self.entry.directory; name = name.entry.bytes.now } }
+        ensures { spot_shown result
+            ≡ record { directory = self.entry.directory; name = name.entry.bytes.now } }
     {
         Spot {
             directory: self.directory,
@@ -108,7 +110,8 @@ impl PlainTree {
 
     /// Where all parts of a path but the last lead.
     fn front<'a>(&'a self, alloc: Global, base: u64, path: PathText<'a>) -> Result<Place, Stop>
-        ensures { Finds result (λ place. place) (ended (settled_walk (front_of (told_of self.now.tree) base (path_in path.entry.bytes.now)))) }
+        ensures { Finds result (λ place. place) (ended (settled_walk
+            (front_of (told_of self.now.tree) base (path_in path.entry.bytes.now)))) }
     {
         let mut front = parts_in(alloc, path)?;
         let _last = front.pop();
@@ -125,7 +128,8 @@ impl PlainTree {
         base: u64,
         path: PathText<'p>,
     ) -> Result<At<'p>, Stop>
-        ensures { Finds result at_shown (place_on self.now.tree base (path_in path.entry.bytes.now)) }
+        ensures { Finds result at_shown
+            (place_on self.now.tree base (path_in path.entry.bytes.now)) }
     {
         let mut all = parts_in(alloc, path)?;
         let Some(last) = all.pop() else {

@@ -53,7 +53,8 @@ pub(crate) enum Plan<'a> {
 impl PlainTree {
     /// What a call answers or changes.
     pub(crate) fn plan<'c>(&self, alloc: Global, call: &Call<'c>) -> Result<Plan<'c>, Stop>
-        ensures found { Finds result (planned self.now.tree) (change_of self.now.limit self.now.tree (request_of call.now)) }
+        ensures found { Finds result (planned self.now.tree)
+            (change_of self.now.limit self.now.tree (request_of call.now)) }
         ensures spots { IfOk result (HasSpotsIfChange self.now.tree) }
     {
         match *call {

@@ -21,7 +21,8 @@ impl PlainTree {
         old: &'c [u8],
         new: &'c [u8],
     ) -> Result<Plan<'c>, Stop>
-        ensures found { Finds result (planned self.now.tree) (rename self.now.tree base old.now new.now) }
+        ensures found { Finds result (planned self.now.tree)
+            (rename self.now.tree base old.now new.now) }
         ensures spots { IfOk result (HasSpotsIfChange self.now.tree) }
     {
         let old = checked(old)?;
@@ -52,7 +53,8 @@ impl PlainTree {
     /// Whether going up from a directory one meets an inode, or doesn't come to the root.
     #[tactic(auto, using(crate::proofs::Climbs::climbs))]
     fn is_beneath(&self, directory: u64, number: u64) -> bool
-        ensures { result ≡ is_beneath (length self.now.tree.inodes) self.now.tree directory number }
+        ensures { result
+            ≡ is_beneath (length self.now.tree.inodes) self.now.tree directory number }
     {
         let mut at = directory;
         let mut left = self.inodes.len();

@@ -60,7 +60,8 @@ fn on_to(there: Option<Place>) -> Reached
 
 /// From a place, one part on.
 fn at_part(tree: &PlainTree, place: Place, part: Part) -> Reached
-    ensures { Some (met_shown result) ≡ at_part (told_of tree.now.tree) place (part_shown part.entry) }
+    ensures { Some (met_shown result)
+        ≡ at_part (told_of tree.now.tree) place (part_shown part.entry) }
 {
     if !is_directory(place) {
         return Reached::Stops(20);
@@ -169,8 +170,8 @@ pub(crate) fn resolve<'a>(
     slash: bool,
     follow: Follow,
 ) -> Result<Walked, NoMemory>
-    ensures { IfOk result (λ walked. settled_walk (resolve (told_of tree.now.tree) follow 8 start (map part_shown parts.entry.items) slash)
-        ≡ walked_shown walked) }
+    ensures { IfOk result (λ walked. settled_walk (resolve (told_of tree.now.tree) follow 8 start
+        (map part_shown parts.entry.items) slash) ≡ walked_shown walked) }
 {
     let mut rest = Vec::new(alloc);
     push_parts(&mut rest, parts)?;
