@@ -1,5 +1,5 @@
 -- The unpinned rows by last use, and the pins of the others.
-use Rattle.std.specs.Prelude.{◌≡◌, ℕ, ◌-◌, ◌==◌, if◌then◌else◌, ◌/◌, ◌<◌, ◌≤◌, ◌^◌, Bool, true, not, ◌||◌, List, ◌∷◌, length, slice_get, filter, is_some, nat_eq, Option, None, IfSome, refl}
+use Rattle.std.specs.Prelude.{◌≡◌, ℕ, ◌+◌, ◌-◌, ◌==◌, if◌then◌else◌, ◌/◌, ◌<◌, ◌≤◌, ◌^◌, Bool, true, not, ◌||◌, List, ◌∷◌, length, slice_get, filter, is_some, nat_eq, Option, None, IfSome, refl}
 use Rattle.std.specs.List.{list_any, IsDistinct}
 use Rattle.std.specs.Option.{unwrap_or}
 use Rattle.std.specs.Ordering.{nat_cmp}
@@ -40,9 +40,19 @@ pins_of s row = unwrap_or (map.get s.pins row) 0
 abbrev pub is_used : Listing → ℕ → Bool
 is_used s row = is_in s.listed row || is_some (map.get s.pins row)
 
+-- a row that is neither listed nor pinned put first in the list, and a listed one
+abbrev pub added : Listing → ℕ → Listing
+added s row = listing s.rows (row ∷ s.listed) s.pins
+
+abbrev pub touched : Listing → ℕ → Listing
+touched s row = listing s.rows (row ∷ without row s.listed) s.pins
+
 -- with so many pins, and so out of the list
 abbrev pub with_pins : Listing → ℕ → ℕ → Listing
 with_pins s row pins = listing s.rows (without row s.listed) (map.insert s.pins row pins)
+
+abbrev pub pinned_once : Listing → ℕ → Listing
+pinned_once s row = with_pins s row (pins_of s row + 1)
 
 -- out of use
 abbrev pub dropped : Listing → ℕ → Listing

@@ -59,7 +59,8 @@ impl Bucket {
 
     /// The last of the rows that are listed.
     pub(crate) fn last_listed(&self, listed: &LruCache<u64, ()>) -> Option<u64>
-        ensures { result ≡ last_of (filter (λ row. is_some (lookup (nat_eq row) listed.now.entries)) self.now) }
+        ensures { result
+            ≡ last_of (filter (λ row. is_some (lookup (nat_eq row) listed.now.entries)) self.now) }
     {
         if listed.contains(&self.last) {
             Some(self.last)
@@ -87,7 +88,7 @@ pub(crate) fn promote(buckets: &mut [Bucket], row: u64)
 
 /// The buckets of so many rows.
 pub(crate) fn buckets_of(alloc: Global, rows: u64) -> Result<Vec<Bucket>, AllocError>
-    ensures { IfOk result (λ buckets. buckets.items ≡ map four_rows (range_with_len 0 (div_ceil rows 4))) }
+    ensures { IfOk result (λ b. b.items ≡ map four_rows (range_with_len 0 (div_ceil rows 4))) }
 {
     (0..rows.div_ceil(4)).map(Bucket::of).collect(alloc)
 }

@@ -1,7 +1,7 @@
-ghost use Rattle.std.specs.Prelude.{◌≡◌, ◌↔◌, ◌<◌, ◌≤◌, ◌+◌, ◌-◌, ◌^◌, ◌∷◌, [], Err, IfOk, IfErr, IfSome, OnOk, OnErr, filter, IsTrue, IsOk, not};
+ghost use Rattle.std.specs.Prelude.{◌≡◌, ◌↔◌, ◌<◌, ◌≤◌, ◌+◌, ◌-◌, ◌^◌, ◌∷◌, [], Err, IfOk, OnOk, OnErr, filter, IsTrue, not};
 ghost use Rattle.std.specs.FinMap as map;
 ghost use Rattle.dc_shrink.specs.declared.shrinker.PinFault.TheVariants as fault;
-ghost use Rattle.dc_shrink.specs.Listings.{listing, with_pins, unpinned_once, dropped, is_in, is_used, pins_of, without, last_of, in_bucket, IsListing};
+ghost use Rattle.dc_shrink.specs.Listings.{listing, added, touched, with_pins, pinned_once, unpinned_once, dropped, is_in, is_used, pins_of, last_of, in_bucket, IsListing};
 
 use crate::bucket::{Bucket, buckets_of, promote};
 use dc_names::NoMemory;
@@ -43,9 +43,12 @@ impl Model for Shrinker {
 
     ghost coded = { listing_code };
 
-    ghost view = { λ s. listing s.listed.cap (keys_of s.listed.entries) (map.from_entries s.pins.entries) };
+    ghost view = { λ s.
+        listing s.listed.cap (keys_of s.listed.entries) (map.from_entries s.pins.entries) };
 
-    ghost invariant = { λ s. IsKept (listing s.listed.cap (keys_of s.listed.entries) (map.from_entries s.pins.entries)) s.buckets.items };
+    ghost invariant = { λ s.
+        IsKept (listing s.listed.cap (keys_of s.listed.entries) (map.from_entries s.pins.entries))
+        s.buckets.items };
 }
 
 impl Shrinker {
@@ -67,7 +70,7 @@ impl Shrinker {
     pub fn add(&mut self, row: u64) -> Result<(), NoMemory>
         requires within { row < self.old.rows }
         requires unused { IsTrue (not (is_used self.old row)) }
-        ensures first { OnOk result (self.new ≡ listing self.old.rows (row ∷ self.old.listed) self.old.pins) }
+        ensures first { OnOk result (self.new ≡ added self.old row) }
         ensures err { OnErr result (self.new ≡ self.old) }
     {
         match self.listed.put(row, ()) {
@@ -81,7 +84,7 @@ impl Shrinker {
     /// Makes a listed row the most recently used.
     pub fn touch(&mut self, row: u64)
         requires { IsTrue (is_in self.old.listed row) }
-        ensures { self.new ≡ listing self.old.rows (row ∷ without row self.old.listed) self.old.pins }
+        ensures { self.new ≡ touched self.old row }
     {
         self.listed.promote(&row);
         promote(&mut self.buckets, row);
@@ -90,7 +93,7 @@ impl Shrinker {
     /// Gives a row that is listed or pinned one more pin. A pinned row isn't in the list.
     pub fn pin(&mut self, row: u64) -> Result<(), PinFault>
         requires { IsTrue (is_used self.old row) }
-        ensures pinned { OnOk result (self.new ≡ with_pins self.old row (pins_of self.old row + 1)) }
+        ensures pinned { OnOk result (self.new ≡ pinned_once self.old row) }
         ensures most { (result ≡ Err fault.Most) ↔ (pins_of self.old row ≡ 2 ^ 62) }
         ensures no_memory { result ≡ Err fault.NoMemory → pins_of self.old row ≡ 0 }
         ensures err { OnErr result (self.new ≡ self.old) }
@@ -105,13 +108,14 @@ impl Shrinker {
         }
     }
 
-    /// Takes a pin from a pinned row. Without a pin left the row is listed, as the most recently used.
+    /// Takes a pin from a pinned row. With none left the row is listed, as the most recently used.
     ///
     /// `NoMemory` where it can't be listed: the pin is gone, and the row is no longer in use.
     pub fn unpin(&mut self, row: u64) -> Result<(), NoMemory>
         requires { 0 < pins_of self.old row }
         ensures unpinned { OnOk result (self.new ≡ unpinned_once self.old row) }
-        ensures dropped { OnErr result ((pins_of self.old row ≡ 1) × (self.new ≡ dropped self.old row)) }
+        ensures last { OnErr result (pins_of self.old row ≡ 1) }
+        ensures dropped { OnErr result (self.new ≡ dropped self.old row) }
     {
         let pins = self.pins(row);
         if pins > 1 {

@@ -1,19 +1,89 @@
-use crate::Shrinker;
+ghost use Rattle.std.specs.Prelude.{◌≡◌, ◌<◌, [], IsTrue, IfOk, OnOk, not};
+ghost use Rattle.std.specs.FinMap as map;
+ghost use Rattle.dc_shrink.specs.Listings.{listing, added, pinned_once, is_used, pins_of};
+
+use crate::{PinFault, Shrinker};
+use dc_names::NoMemory;
+use std::alloc::Global;
 use std::test::*;
+
+// The calls that take memory are made once more where it was refused, if nothing changed by that. So
+// the test passes whichever allocation `rt try --test --fail-alloc N` refuses.
+
+fn new_again(alloc: Global, rows: u64) -> Result<Shrinker, NoMemory>
+    requires { 0 < rows }
+    ensures { IfOk result (λ s. s ≡ listing rows [] map.empty) }
+{
+    match Shrinker::new(alloc, rows) {
+        Ok(made) => Ok(made),
+        Err(NoMemory) => Shrinker::new(alloc, rows),
+    }
+}
+
+fn add_again(rows: &mut Shrinker, row: u64) -> Result<(), NoMemory>
+    requires within { row < rows.old.rows }
+    requires unused { IsTrue (not (is_used rows.old row)) }
+    ensures { OnOk result (rows.new ≡ added rows.old row) }
+{
+    let victims = (rows.victim(), rows.victim_of(row / 4));
+    match rows.add(row) {
+        Ok(()) => Ok(()),
+        Err(NoMemory) => {
+            if victims != (rows.victim(), rows.victim_of(row / 4)) {
+                return Err(NoMemory);
+            }
+            rows.add(row)
+        }
+    }
+}
+
+fn pin_again(rows: &mut Shrinker, row: u64) -> Result<(), PinFault>
+    requires { IsTrue (is_used rows.old row) }
+    ensures { OnOk result (rows.new ≡ pinned_once rows.old row) }
+{
+    let victim = rows.victim();
+    match rows.pin(row) {
+        Err(PinFault::NoMemory) => {
+            if rows.pins(row) != 0 || rows.victim() != victim {
+                return Err(PinFault::NoMemory);
+            }
+            rows.pin(row)
+        }
+        Ok(()) => Ok(()),
+        Err(PinFault::Most) => Err(PinFault::Most),
+    }
+}
+
+/// Takes the row's only pin. Where it could not be listed it is out of use, and is added.
+fn unpin_again(rows: &mut Shrinker, row: u64) -> Result<(), NoMemory>
+    requires within { row < rows.old.rows }
+    requires pinned { 0 < pins_of rows.old row }
+{
+    let victim = rows.victim();
+    match rows.unpin(row) {
+        Ok(()) => Ok(()),
+        Err(NoMemory) => {
+            if rows.pins(row) != 0 || rows.victim() != victim {
+                return Err(NoMemory);
+            }
+            rows.add(row)
+        }
+    }
+}
 
 #[test]
 fn least_recently_used_goes_first(rt: HostRuntime) -> Result<(), Fail> {
-    let mut rows = Shrinker::new(rt.alloc(), 4)?;
+    let mut rows = new_again(rt.alloc(), 4)?;
     assert_eq!(rt; rows.victim(), None);
-    rows.add(0)?;
-    rows.add(1)?;
-    rows.add(2)?;
+    add_again(&mut rows, 0)?;
+    add_again(&mut rows, 1)?;
+    add_again(&mut rows, 2)?;
     rows.touch(0);
     assert_eq!(rt; rows.victim(), Some(1));
-    rows.pin(1)?;
+    pin_again(&mut rows, 1)?;
     assert_eq!(rt; rows.pins(1), 1);
     assert_eq!(rt; rows.victim(), Some(2));
-    rows.unpin(1)?;
+    unpin_again(&mut rows, 1)?;
     assert_eq!(rt; rows.pins(1), 0);
     assert_eq!(rt; rows.victim_of(0), Some(2));
     assert_eq!(rt; rows.victim_of(1), None);

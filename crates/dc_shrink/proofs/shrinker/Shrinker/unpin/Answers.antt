@@ -12,6 +12,9 @@ returns-clause-unpinned c = let one : pins_of c.args.self.now c.args.row ≡ 1 =
     let left = c.remove.ensures ∙ dropped_pinned c.args.self.now c.pins-pins.ensures.valid c.args.row c.requires in
     rw one (rw left at c.add.ensures.first)
 
+pub returns-clause-last : goal.returns-clause-last
+returns-clause-last c = let one : pins_of c.args.self.now c.args.row ≡ 1 = omega arith in
+    on_err_weaker c.add.result (λ e. one) c.add.ensures.err
+
 pub returns-clause-dropped : goal.returns-clause-dropped
-returns-clause-dropped c = let one : pins_of c.args.self.now c.args.row ≡ 1 = omega arith in
-    on_err_weaker c.add.result (λ e. (one, e ∙ c.remove.ensures)) c.add.ensures.err
+returns-clause-dropped c = on_err_weaker c.add.result (λ e. e ∙ c.remove.ensures) c.add.ensures.err
