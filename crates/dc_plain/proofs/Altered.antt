@@ -1,5 +1,5 @@
 -- Where the names of a change lead after it, and that the tree is another one.
-use Rattle.std.proofs.Common.{◌≡◌, ◌≢◌, ℕ, ◌==◌, ◌+◌, List, Bool, true, false, Option, Some, None, Ok, not, cond, refl, ap, sym, ◌∙◌, arith, subst}
+use Rattle.std.proofs.Common.{◌≡◌, ◌≢◌, ℕ, ◌+◌, true, false, Option, Some, None, Ok, not, cond, refl, ap, sym, ◌∙◌, arith, subst}
 use Rattle.std.specs.Ordering.{eq_by_cmp}
 use Rattle.std.specs.FinMap.Entries.{find-put}
 use Rattle.dc_plain.specs.declared.plan.Change as rust_change

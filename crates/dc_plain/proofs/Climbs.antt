@@ -1,5 +1,5 @@
 -- A climb from a directory towards the root, with so many steps left.
-use Rattle.std.proofs.Common.{◌≡◌, ◌≢◌, ◌<◌, ◌-◌, ℕ, zero, suc, ◌==◌, true, false, Some, None, refl, ap, arith}
+use Rattle.std.proofs.Common.{◌≡◌, ◌≢◌, ◌<◌, ◌-◌, ℕ, zero, suc, ◌==◌, true, false, Some, None, refl, arith}
 use Rattle.dc_plain.specs.Trees.{Tree, holder_of}
 use Rattle.dc_plain.specs.Operations.{is_beneath}
 use Rattle.dc_plain.proofs.Holders.{same_test, other_test}

@@ -1,6 +1,6 @@
 -- The test of two trees tells whether they are one, and so which calls alter a tree.
-use Rattle.std.proofs.Common.{◌≡◌, ◌≢◌, ℕ, List, [], ◌∷◌, ◌==◌, ◌&&◌, not, Bool, true, false, refl, ap, sym, ◌∙◌, IsTrue, ◌↔◌, arith}
-use Rattle.std.specs.Cmp.Lexicographic.{pointwise, same_text}
+use Rattle.std.proofs.Common.{◌≡◌, ◌≢◌, ℕ, List, [], ◌∷◌, ◌==◌, ◌&&◌, not, Bool, true, false, refl, ap, ◌∙◌, IsTrue, ◌↔◌, arith}
+use Rattle.std.specs.Cmp.Lexicographic.{pointwise}
 use Rattle.std.proofs.lemmas.Bool.Decides.{nat_tests}
 use Rattle.dc_plain.specs.Facts.{same_bytes}
 use Rattle.dc_plain.specs.Trees.{Tree, Spot, Inode}

@@ -1,9 +1,8 @@
 -- Worked rows of one thread, computed by the definitions.
-use Rattle.std.proofs.Common.{◌≡◌, ℕ, List, [], ◌∷◌, ◌++◌, refl, codes, replicate}
+use Rattle.std.proofs.Common.{◌≡◌, [], ◌∷◌, ◌++◌, refl, codes, replicate}
 use Rattle.dc_names.specs.declared.kind.Kind.TheVariants.{Dir, File, Link}
 use Rattle.dc_plain.specs.declared.call.Follow.TheVariants as follow
 use Rattle.dc_plain.specs.Trees.{empty_tree}
-use Rattle.dc_plain.specs.Requests.{Request, Answer}
 use Rattle.dc_plain.specs.Requests.Request.{Look, Readlink, Stat, List_names, Mkdir, Create, Hard_link, Symlink, Unlink, Rmdir, Rename}
 use Rattle.dc_plain.specs.Requests.Answer.{Found, Done, Nothing, Bytes, Names, Counted, Refused}
 use Rattle.dc_plain.specs.Resolution.{resolve}

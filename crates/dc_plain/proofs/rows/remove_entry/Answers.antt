@@ -1,4 +1,4 @@
-use Rattle.std.proofs.Common.{Bool, not, map, ap, ◌∙◌, rules}
+use Rattle.std.proofs.Common.{not, map, ap, ◌∙◌, rules}
 use Rattle.std.proofs.lemmas.Fn.{filter_same}
 use Rattle.std.specs.Ordering.{eq_by_cmp}
 use Rattle.dc_plain.specs.Plain.{entry_shown}
