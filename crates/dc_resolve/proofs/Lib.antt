@@ -1,4 +1,5 @@
 pub mod Stacks
-pub mod Rests
-pub mod Meets
+pub mod Takes
 pub mod Lasts
+pub mod Going
+pub mod Following

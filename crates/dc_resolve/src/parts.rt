@@ -1,15 +1,13 @@
-ghost use Rattle.std.specs.Prelude.{◌≡◌, ◌+◌, ◌<◌, ◌≤◌, ◌≢◌, not, length, [], ◌∷◌, ◌++◌, Some, None, IfOk, OnOk, OnErr, IfSome, IfNone, OnSome, IsTrue, true};
+ghost use Rattle.std.specs.Prelude.{◌≡◌, ◌+◌, ◌<◌, ◌≤◌, ◌≢◌, not, length, [], ◌++◌, None, IfOk, OnOk, OnErr, IfSome, IfNone, OnSome, IsTrue, true};
 ghost use Rattle.arrayvec.specs.ArrayVec.{array_vec_len};
-ghost use Rattle.dc_names.specs.Bytes.{has_parts, is_empty, IsRest};
-ghost use Rattle.dc_names.specs.Paths.{Part as SpecPart, parts_of, fault_of};
-ghost use Rattle.dc_plain.specs.Resolution.{at_part};
+ghost use Rattle.dc_names.specs.Bytes.{has_parts, is_empty};
+ghost use Rattle.dc_names.specs.Paths.{parts_of, fault_of};
 ghost use Rattle.dc_resolve.specs.Cuts.{last_bytes, parts_kept};
-ghost use Rattle.dc_resolve.specs.Lefts.{parts_in, parts_left};
-ghost use Rattle.dc_resolve.specs.Steps.{met_shown};
+ghost use Rattle.dc_resolve.specs.Lefts.{parts_in, parts_held, parts_left};
+ghost use Rattle.dc_resolve.specs.Steps.{IsTaken};
 
-use crate::cut::Cut;
-use crate::left::Left;
-use crate::part::has_part;
+use crate::left::{Cut, Left};
+use crate::part::{has_part, tail};
 use crate::step::{Place, Reached, ask};
 use crate::{Bytes, Finder, Stop};
 use arrayvec::ArrayVec;
@@ -53,18 +51,16 @@ impl<'p, T: Bytes + Drop> Left<'p, T> {
         ensures room { array_vec_len self.new.texts ≤ array_vec_len self.old.texts + 1 }
     {
         let left = PathText::new(text.bytes()).bytes().len();
-        self.put_rest(text, left);
+        self.push(Cut::of(text, left));
     }
 
-    /// Puts the last bytes of a text before what is left.
-    fn put_rest(&mut self, text: T, left: usize)
+    /// Puts what is held of a text before what is left.
+    fn push(&mut self, held: Option<Cut<T>>)
         requires room { array_vec_len self.old.texts < 8 }
-        requires fits { left ≤ length (T.bytes text) }
-        requires valid { IsTrue (has_parts (last_bytes left (T.bytes text))) }
-        ensures parts { parts_left self.new ≡ parts_of (last_bytes left (T.bytes text)) ++ parts_left self.old }
+        ensures parts { parts_left self.new ≡ parts_held held ++ parts_left self.old }
         ensures room { array_vec_len self.new.texts ≤ array_vec_len self.old.texts + 1 }
     {
-        if let Some(cut) = Cut::of(text, left) {
+        if let Some(cut) = held {
             self.texts.push(Some(cut));
         }
     }
@@ -80,18 +76,18 @@ impl<'p, T: Bytes + Drop> Left<'p, T> {
     }
 }
 
-/// Asks at the first part of some bytes, and answers with what is left of them too.
-fn ask_first<'b, F: Finder>(
+/// Asks at the first part of some bytes, and answers how many of them are left too.
+fn ask_first<F: Finder>(
     finder: &mut F,
     place: Place,
-    bytes: &'b [u8],
-) -> Result<(Reached, &'b [u8]), Stop>
+    bytes: &[u8],
+) -> Result<(Reached, usize), Stop>
     requires valid { IsTrue (has_parts bytes.now) }
     requires begun { parts_of bytes.now ≢ [] }
-    ensures met { IfOk result (λ met. (part : SpecPart) × (parts_of bytes.entry.now ≡ part ∷ parts_of met.1.now)
-        × (at_part (F.said finder.new) place part ≡ Some (met_shown met.0))) }
-    ensures rest { IfOk result (λ met. IsRest met.1.now bytes.entry.now) }
-    ensures valid { IfOk result (λ met. IsTrue (has_parts met.1.now)) }
+    ensures taken { IfOk result (λ met. IsTaken (F.said finder.new) place
+        (parts_of bytes.entry.now) (parts_of (last_bytes met.1 bytes.entry.now)) met.0) }
+    ensures fits { IfOk result (λ met. met.1 ≤ length bytes.entry.now) }
+    ensures valid { IfOk result (λ met. IsTrue (has_parts (last_bytes met.1 bytes.entry.now))) }
     ensures same { OnOk result (F.has_stopped finder.new ≡ F.has_stopped finder.old) }
     ensures becomes { F.becomes finder.old finder.new }
     ensures stopped { OnErr result (F.has_stopped finder.new ≡ true) }
@@ -99,7 +95,7 @@ fn ask_first<'b, F: Finder>(
     let Some((part, rest)) = first_part(bytes) else {
         unreachable!();
     };
-    Ok((ask(finder, place, part)?, rest))
+    Ok((ask(finder, place, part)?, rest.len()))
 }
 
 /// Asks at the first part that is left.
@@ -109,20 +105,19 @@ pub fn ask_next<F: Finder>(
     left: &mut Left<'_, F::Text>,
 ) -> Result<Reached, Stop>
     requires { parts_left left.old ≢ [] }
-    ensures met { IfOk result (λ reached. (part : SpecPart) × (parts_left left.old ≡ part ∷ parts_left left.new)
-        × (at_part (F.said finder.new) place part ≡ Some (met_shown reached))) }
+    ensures taken { IfOk result (IsTaken (F.said finder.new) place
+        (parts_left left.old) (parts_left left.new)) }
     ensures room { OnOk result (array_vec_len left.new.texts ≤ array_vec_len left.old.texts) }
     ensures same { OnOk result (F.has_stopped finder.new ≡ F.has_stopped finder.old) }
     ensures becomes { F.becomes finder.old finder.new }
     ensures stopped { OnErr result (F.has_stopped finder.new ≡ true) }
 {
     let Some(cut) = left.pop() else {
-        let (reached, rest) = ask_first(finder, place, left.path)?;
-        left.path = rest;
+        let (reached, after) = ask_first(finder, place, left.path)?;
+        left.path = tail(left.path, after);
         return Ok(reached);
     };
-    let (reached, rest) = ask_first(finder, place, cut.rest())?;
-    let after = rest.len();
-    left.put_rest(cut.into_text(), after);
+    let (reached, after) = ask_first(finder, place, cut.rest())?;
+    left.push(cut.cut_to(after));
     Ok(reached)
 }

@@ -1,11 +1,15 @@
-ghost use Rattle.std.specs.Prelude.{◌≡◌, ◌&&◌, not, Bool, Some, IfOk, OnOk, OnErr, true};
+ghost use Rattle.std.specs.Prelude.{◌≡◌, ◌&&◌, ℕ, not, Bool, Option, Some, IfOk, OnOk, OnErr, true, if◌then◌else◌};
 ghost use Rattle.dc_names.specs.Names.{part_shown};
-ghost use Rattle.dc_plain.specs.Resolution.{at_part, ending, is_directory, keeps_link, met_by, wants_directory};
-ghost use Rattle.dc_resolve.specs.Steps.{met_shown, end_shown, number_of};
+ghost use Rattle.dc_names.specs.declared.kind.Kind.TheVariants.{Link};
+ghost use Rattle.dc_plain.specs.Facts.{Teller, Place as SpecPlace};
+ghost use Rattle.dc_plain.specs.Resolution.{Outcome, at_part, ending, is_directory, keeps_link, met_by, wants_directory, with_met};
+ghost use Rattle.dc_plain.specs.Resolution.Outcome.{Found};
+ghost use Rattle.dc_resolve.specs.Steps.{met_shown, end_shown, number_of, goes_on, Leads, IfMeets, IsSaidMet, IsSaidFlow};
 
 use crate::{Finder, Stop};
 use dc_names::{Kind, Part};
 use dc_plain::Follow;
+use std::ops::ControlFlow;
 
 /// An inode's number with its kind.
 pub type Place = (u64, Kind);
@@ -56,7 +60,8 @@ pub enum Reached {
 }
 
 fn on_to(there: Option<Place>) -> Reached
-    ensures { Some (met_shown result) ≡ met_by (Some there) }
+    ensures met { Some (met_shown result) ≡ met_by (Some there) }
+    ensures link { IfMeets result (λ link. there ≡ Some (link.0, Link)) }
 {
     match there {
         None => Reached::Stops(Refusal::Missing),
@@ -73,8 +78,8 @@ fn is_directory(place: Place) -> bool
 
 /// From a place, one part on.
 pub fn ask<F: Finder>(finder: &mut F, place: Place, part: Part<'_>) -> Result<Reached, Stop>
-    ensures met { IfOk result (λ reached.
-        at_part (F.said finder.new) place (part_shown part.entry) ≡ Some (met_shown reached)) }
+    ensures leads { IfOk result (Leads (F.said finder.new) place (part_shown part.entry)) }
+    ensures link { IfOk result (IsSaidMet (F.said finder.new)) }
     ensures same { OnOk result (F.has_stopped finder.new ≡ F.has_stopped finder.old) }
     ensures becomes { F.becomes finder.old finder.new }
     ensures stopped { OnErr result (F.has_stopped finder.new ≡ true) }
@@ -105,4 +110,19 @@ pub fn is_kept(follow: Follow, is_last: bool, slash: bool) -> bool
     ensures { result ≡ (is_last && not slash && keeps_link follow) }
 {
     is_last && !slash && follow == Follow::No
+}
+
+/// Where a walk goes from a place by what its next part leads to. A link is kept, or stops the walk.
+pub fn after(place: Place, reached: Reached, keeps: bool) -> ControlFlow<Step, Place>
+    ensures goes { (go : SpecPlace → Option Outcome) → (at_link : SpecPlace → ℕ → Option Outcome) →
+        with_met (Some (met_shown reached)) go (λ link.
+        if keeps then Some (Found link) else at_link place link.0) ≡ goes_on result go at_link }
+    ensures link { (said : Teller) → IsSaidMet said reached → IsSaidFlow said result }
+{
+    match reached {
+        Reached::Goes(next) => ControlFlow::Continue(next),
+        Reached::Stops(refusal) => ControlFlow::Break(Step::Ended(End::Refused(refusal))),
+        Reached::Meets(link) if keeps => ControlFlow::Break(Step::Ended(End::Found(link))),
+        Reached::Meets(link) => ControlFlow::Break(Step::AtLink(place, link.0)),
+    }
 }

@@ -1,22 +1,26 @@
-ghost use Rattle.std.specs.Prelude.{◌≡◌, ◌≤◌, ◌||◌, ◌&&◌, ℕ, List, Bool, Option, Some, IfOk, OnOk, OnErr, IsTrue, true, if◌then◌else◌};
+ghost use Rattle.std.specs.Prelude.{◌≡◌, ◌≢◌, ◌≤◌, ◌<◌, ◌+◌, ◌||◌, ◌&&◌, [], length, Some, IfOk, OnOk, OnErr, IsTrue, true, if◌then◌else◌};
+ghost use Rattle.std.specs.declared.ops.ControlFlow.TheVariants.{Break};
 ghost use Rattle.arrayvec.specs.ArrayVec.{array_vec_len};
-ghost use Rattle.dc_names.specs.Paths.{Part as SpecPart, begins_with_slash, has_end_slash, parts_of, path_in};
-ghost use Rattle.dc_plain.specs.Facts.{Place as SpecPlace, Teller};
+ghost use Rattle.dc_names.specs.Paths.{begins_with_slash, has_end_slash, parts_of, path_in};
+ghost use Rattle.dc_plain.specs.Facts.{Teller};
 ghost use Rattle.dc_plain.specs.Places.{link_limit, start, walk, with_start};
-ghost use Rattle.dc_plain.specs.Resolution.{Outcome, over_parts, resolve, root};
+ghost use Rattle.dc_plain.specs.Resolution.{resolve, root};
 ghost use Rattle.dc_plain.specs.Tellers.{Extends};
+ghost use Rattle.dc_resolve.specs.Asked.{IsSaidLink};
 ghost use Rattle.dc_resolve.specs.Cuts.{parts_kept};
 ghost use Rattle.dc_resolve.specs.Ends.{IfEnded, IfRefused, is_refusal, stopped_after};
 ghost use Rattle.dc_resolve.specs.Fits.{EightFit};
 ghost use Rattle.dc_resolve.specs.Lefts.{parts_left};
-ghost use Rattle.dc_resolve.specs.Steps.{end_shown, outcome_of, IsSaidStep};
+ghost use Rattle.dc_resolve.specs.Steps.{end_shown, IsSaidFlow, IsSaidStep};
+ghost use Rattle.dc_resolve.specs.Walks.{GoesOn, IsReplaced};
 
 use crate::left::Left;
 use crate::parts::ask_next;
-use crate::step::{End, Place, ROOT, Reached, Refusal, Step, ending, is_kept};
+use crate::step::{End, Place, ROOT, Refusal, Step, after, ending, is_kept};
 use crate::{Bytes, Finder, Stop};
 use dc_names::{Kind, Part, PathText};
 use dc_plain::Follow;
+use std::ops::ControlFlow;
 
 /// Where a path leads.
 #[derive(Clone, Copy, Debug, PartialEq, Eq)]
@@ -29,6 +33,29 @@ pub enum Walked {
     Stopped,
 }
 
+/// One part on from a place, over the parts that are left.
+fn go_on<F: Finder>(
+    finder: &mut F,
+    place: Place,
+    left: &mut Left<'_, F::Text>,
+    slash: bool,
+    follow: Follow,
+) -> Result<ControlFlow<Step, Place>, Stop>
+    requires { parts_left left.old ≢ [] }
+    ensures goes { IfOk result (λ flow. GoesOn (F.said finder.new) follow slash
+        place (parts_left left.old) flow (parts_left left.new)) }
+    ensures link { IfOk result (IsSaidFlow (F.said finder.new)) }
+    ensures room { OnOk result (array_vec_len left.new.texts ≤ array_vec_len left.old.texts) }
+    ensures fewer { OnOk result (length (parts_left left.new) < length (parts_left left.old)) }
+    ensures same { OnOk result (F.has_stopped finder.new ≡ F.has_stopped finder.old) }
+    ensures becomes { F.becomes finder.old finder.new }
+    ensures stopped { OnErr result (F.has_stopped finder.new ≡ true) }
+{
+    let reached = ask_next(finder, place, left)?;
+    let keeps = is_kept(follow, left.is_done(), slash);
+    Ok(after(place, reached, keeps))
+}
+
 /// Goes over the parts that are left, up to their end or a link that must be followed.
 fn walk_parts<F: Finder>(
     finder: &mut F,
@@ -37,11 +64,9 @@ fn walk_parts<F: Finder>(
     slash: bool,
     follow: Follow,
 ) -> Result<Step, Stop>
-    ensures ends { IfOk result (λ step. (teller : Teller) → Extends (F.said finder.new) teller →
-        (follow_link : SpecPlace → ℕ → List SpecPart → Bool → Option Outcome) →
-        over_parts teller follow follow_link start (parts_left left.old) slash
-        ≡ outcome_of step follow_link (parts_left left.new) slash) }
-    ensures link { IfOk result (λ step. IsSaidStep (F.said finder.new) step) }
+    ensures goes { IfOk result (λ step. GoesOn (F.said finder.new) follow slash
+        start (parts_left left.old) (Break step) (parts_left left.new)) }
+    ensures link { IfOk result (IsSaidStep (F.said finder.new)) }
     ensures room { OnOk result (array_vec_len left.new.texts ≤ array_vec_len left.old.texts) }
     ensures same { OnOk result (F.has_stopped finder.new ≡ F.has_stopped finder.old) }
     ensures becomes { F.becomes finder.old finder.new }
@@ -49,15 +74,9 @@ fn walk_parts<F: Finder>(
 {
     let mut place = start;
     'parts: while !left.is_done() {
-        match ask_next(finder, place, left)? {
-            Reached::Goes(next) => place = next,
-            Reached::Stops(refusal) => return Ok(Step::Ended(End::Refused(refusal))),
-            Reached::Meets(link) => {
-                if is_kept(follow, left.is_done(), slash) {
-                    return Ok(Step::Ended(End::Found(link)));
-                }
-                return Ok(Step::AtLink(place, link.0));
-            }
+        match go_on(finder, place, left, slash, follow)? {
+            ControlFlow::Continue(next) => place = next,
+            ControlFlow::Break(step) => return Ok(step),
         }
     }
     Ok(Step::Ended(ending(follow, place, slash)))
@@ -77,13 +96,65 @@ fn base_of(text: PathText<'_>, at: Place) -> Place
     if text.is_absolute() { ROOT } else { at }
 }
 
-/// How many links one resolution follows.
-const MOST_LINKS: usize = 8;
+/// Puts the text of a link in a directory before what is left. It answers where all of it begins, and
+/// whether a slash ends it.
+fn put_text<F: Finder>(
+    finder: &mut F,
+    at: Place,
+    link: u64,
+    left: &mut Left<'_, F::Text>,
+    slash: bool,
+) -> Result<(Place, bool), Stop>
+    requires link { IsSaidLink (F.said finder.old) link }
+    requires room { array_vec_len left.old.texts < 8 }
+    ensures put { IfOk result (λ on. IsReplaced (F.said finder.new) at link
+        (parts_left left.old) slash on (parts_left left.new)) }
+    ensures room { OnOk result (array_vec_len left.new.texts ≤ array_vec_len left.old.texts + 1) }
+    ensures same { OnOk result (F.has_stopped finder.new ≡ F.has_stopped finder.old) }
+    ensures becomes { F.becomes finder.old finder.new }
+    ensures stopped { OnErr result (F.has_stopped finder.new ≡ true) }
+{
+    let text = finder.link_text(link)?;
+    let path = PathText::new(text.bytes());
+    let on = (base_of(path, at), slash_after(slash, left.is_done(), path));
+    left.put(text);
+    Ok(on)
+}
 
-/// Where the parts of a path lead from a place, or all but the last. Links are followed.
+/// Where the parts that are left lead from a place. A link may lead to itself: each that is followed
+/// leaves one less to follow.
 fn resolve<F: Finder>(
     finder: &mut F,
     start: Place,
+    left: &mut Left<'_, F::Text>,
+    slash: bool,
+    follow: Follow,
+    links: usize,
+) -> Result<End, Stop>
+    requires room { array_vec_len left.old.texts + links ≤ 8 }
+    ensures ends { IfOk result (λ end. (teller : Teller) → Extends (F.said finder.new) teller →
+        resolve teller follow links start (parts_left left.old) slash ≡ Some (end_shown end)) }
+    ensures same { OnOk result (F.has_stopped finder.new ≡ F.has_stopped finder.old) }
+    ensures becomes { F.becomes finder.old finder.new }
+    ensures stopped { OnErr result (F.has_stopped finder.new ≡ true) }
+{
+    match walk_parts(finder, start, left, slash, follow)? {
+        Step::Ended(end) => Ok(end),
+        Step::AtLink(_, _) if links == 0 => Ok(End::Refused(Refusal::ManyLinks)),
+        Step::AtLink(at, link) => {
+            let (base, slash) = put_text(finder, at, link, left, slash)?;
+            resolve(finder, base, left, slash, follow, links - 1)
+        }
+    }
+}
+
+/// How many links one resolution follows.
+const MOST_LINKS: usize = 8;
+
+/// Where the parts of a path lead from a place, or all but the last.
+fn resolve_path<F: Finder>(
+    finder: &mut F,
+    place: Place,
     path: PathText<'_>,
     whole: bool,
     slash: bool,
@@ -91,32 +162,14 @@ fn resolve<F: Finder>(
 ) -> Result<End, Stop>
     requires fits { EightFit F.Text.row F.Text.Bytes }
     ensures ends { IfOk result (λ end. (teller : Teller) → Extends (F.said finder.new) teller →
-        resolve teller follow link_limit start (parts_kept whole (parts_of path.entry.bytes.now)) slash
+        resolve teller follow link_limit place (parts_kept whole (parts_of path.entry.bytes.now)) slash
         ≡ Some (end_shown end)) }
     ensures same { OnOk result (F.has_stopped finder.new ≡ F.has_stopped finder.old) }
     ensures becomes { F.becomes finder.old finder.new }
     ensures stopped { OnErr result (F.has_stopped finder.new ≡ true) }
 {
     let mut left: Left<'_, F::Text> = Left::new(path, whole);
-    let mut place = start;
-    let mut slash = slash;
-    let mut links = MOST_LINKS;
-    'links: loop {
-        match walk_parts(finder, place, &mut left, slash, follow)? {
-            Step::Ended(end) => return Ok(end),
-            Step::AtLink(at, link) => {
-                if links == 0 {
-                    return Ok(End::Refused(Refusal::ManyLinks));
-                }
-                let text = finder.link_text(link)?;
-                let path = PathText::new(text.bytes());
-                links -= 1;
-                slash = slash_after(slash, left.is_done(), path);
-                place = base_of(path, at);
-                left.put(text);
-            }
-        }
-    }
+    resolve(finder, place, &mut left, slash, follow, MOST_LINKS)
 }
 
 /// Where a path begins, if its starting directory is live.
@@ -136,7 +189,7 @@ fn start<F: Finder>(finder: &mut F, base: u64, path: PathText<'_>) -> Result<Opt
     }
 }
 
-/// Where the parts of a path lead, or all but the last.
+/// Where the parts of a path lead from a starting directory, or all but the last.
 pub fn lead<F: Finder>(
     finder: &mut F,
     base: u64,
@@ -155,7 +208,7 @@ pub fn lead<F: Finder>(
     ensures stopped { OnErr result (F.has_stopped finder.new ≡ true) }
 {
     match start(finder, base, path)? {
-        Some(place) => resolve(finder, place, path, whole, slash, follow),
+        Some(place) => resolve_path(finder, place, path, whole, slash, follow),
         None => Ok(End::Refused(Refusal::Missing)),
     }
 }
