@@ -17,10 +17,6 @@ neither : (a b : Bool) → (a || b) ≡ false → (a ≡ false) × (b ≡ false)
 neither true b e = absurd cc
 neither false b e = (refl, e)
 
-or_left : (a b : Bool) → a ≡ true → IsTrue (a || b)
-or_left true b e = refl
-or_left false b e = cc
-
 counted_none : {X : Type 0} (p : X → Bool) (xs : List X) → find p xs ≡ None → how_many p xs ≡ 0
 counted_none p [] e = refl
 counted_none p (x ∷ xs) e =

