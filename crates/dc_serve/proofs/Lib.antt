@@ -1,6 +1,5 @@
 pub mod BytesLemmas
 pub mod LinesLemmas
-pub mod Looks
 pub mod PhasesServed
 pub mod Readings
 pub mod Served

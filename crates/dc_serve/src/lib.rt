@@ -22,4 +22,6 @@ pub use running::run;
 pub use sizes::Options;
 
 #[cfg(test)]
+mod rows;
+#[cfg(test)]
 mod tests;

@@ -10,7 +10,7 @@ ghost use Rattle.dc_serve.specs.Bytes.{IsServiceFault};
 
 use crate::{Gate, ServeFault};
 use dc_lang::{Command, Line, Verb, call, write_reply};
-use dc_ops::{carry, plan, seek};
+use dc_ops::{ask, carry, plan, seek};
 use dc_plain::{Call, Reply, Stamped};
 use dc_store::Store;
 use std::alloc::Global;
@@ -81,8 +81,15 @@ impl<S: Store + Drop> Server<S> {
         ensures err { IfErr result IsServiceFault }
     {
         match call {
-            Call::Look { .. } => Ok(seek(&self.store, call)),
-            Call::Mkdir { .. } => self.change(alloc, call),
+            Call::Look { .. } | Call::Stat { .. } => Ok(seek(&self.store, call)),
+            Call::Readlink { .. } | Call::List { .. } => Ok(ask(alloc, &self.store, call)?),
+            Call::Mkdir { .. }
+            | Call::Create { .. }
+            | Call::Link { .. }
+            | Call::Symlink { .. }
+            | Call::Unlink { .. }
+            | Call::Rmdir { .. }
+            | Call::Rename { .. } => self.change(alloc, call),
         }
     }
 
