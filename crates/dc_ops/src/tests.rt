@@ -1,50 +1,206 @@
-use crate::{carry, plan, seek};
+ghost use Rattle.std.specs.Prelude.{IfOk};
+ghost use Rattle.dc_ops.specs.Plans.{CanCarry};
+
+use crate::{Plan, ask, carry, plan, seek};
 use dc_names::{Kind, NoMemory};
-use dc_plain::{Call, Follow, Reply};
+use dc_plain::{Call, Follow, Key, Label, Reply};
 use dc_store::{MapStore, Store};
 use std::alloc::Global;
+use std::test::Fail;
 
-/// What the tests compare of a reply: a letter for its variant, and its number.
-fn told(reply: &Reply) -> (u8, u64) {
-    match reply {
-        Reply::Found(number, Kind::Dir) => (b'd', *number),
-        Reply::Found(number, _) => (b'f', *number),
-        Reply::Done(number) => (b'm', *number),
-        Reply::Refused(number) => (b'n', *number),
-        Reply::Unit | Reply::Text(_) | Reply::Names(_) | Reply::Stat(_, _, _) => (b'o', 0),
+/// The plan of a change on a store of at most 16 inodes. A read has none.
+fn planned<'a, S: Store>(store: &S, call: &Call<'a>) -> Result<Plan<'a>, Reply>
+    ensures { IfOk result (λ plan. CanCarry plan (S.tree store.now)) }
+{
+    match call {
+        Call::Look { .. } | Call::Stat { .. } | Call::Readlink { .. } | Call::List { .. } => {
+            Err(Reply::Unit)
+        }
+        Call::Mkdir { .. }
+        | Call::Create { .. }
+        | Call::Link { .. }
+        | Call::Symlink { .. }
+        | Call::Unlink { .. }
+        | Call::Rmdir { .. }
+        | Call::Rename { .. } => plan(store, call, 16),
     }
 }
 
-fn made<S: Store>(alloc: Global, store: &mut S, path: &[u8]) -> Result<(u8, u64), NoMemory> {
-    match plan(store, &Call::Mkdir { base: 1, path }, 3) {
-        Ok(planned) => Ok(told(&carry(alloc, store, planned)?)),
-        Err(reply) => Ok(told(&reply)),
+/// What a call answers, and makes of the store.
+fn answered<S: Store>(alloc: Global, store: &mut S, call: &Call) -> Result<Reply, NoMemory> {
+    match call {
+        Call::Look { .. } | Call::Stat { .. } => return Ok(seek(store, call)),
+        Call::Readlink { .. } | Call::List { .. } => return ask(alloc, store, call),
+        Call::Mkdir { .. }
+        | Call::Create { .. }
+        | Call::Link { .. }
+        | Call::Symlink { .. }
+        | Call::Unlink { .. }
+        | Call::Rmdir { .. }
+        | Call::Rename { .. } => {}
+    }
+    match planned(store, call) {
+        Ok(plan) => carry(alloc, store, plan),
+        Err(reply) => Ok(reply),
     }
 }
 
-fn found<S: Store>(store: &S, path: &[u8]) -> (u8, u64) {
-    let follow = Follow::Yes;
-    told(&seek(
-        store,
-        &Call::Look {
-            base: 1,
-            path,
-            follow,
-        },
-    ))
+fn look(path: &[u8]) -> Call<'_> {
+    Call::Look {
+        base: 1,
+        path,
+        follow: Follow::Yes,
+    }
+}
+
+fn mkdir(path: &[u8]) -> Call<'_> {
+    Call::Mkdir { base: 1, path }
+}
+
+fn create(path: &[u8]) -> Call<'_> {
+    Call::Create { base: 1, path }
+}
+
+fn link<'a>(old: &'a [u8], new: &'a [u8]) -> Call<'a> {
+    Call::Link { base: 1, old, new }
+}
+
+fn symlink<'a>(text: &'a [u8], path: &'a [u8]) -> Call<'a> {
+    Call::Symlink {
+        base: 1,
+        text,
+        path,
+    }
+}
+
+fn unlink(path: &[u8]) -> Call<'_> {
+    Call::Unlink { base: 1, path }
+}
+
+fn rmdir(path: &[u8]) -> Call<'_> {
+    Call::Rmdir { base: 1, path }
+}
+
+fn rename<'a>(old: &'a [u8], new: &'a [u8]) -> Call<'a> {
+    Call::Rename { base: 1, old, new }
 }
 
 #[test]
-fn makes_and_finds(rt: HostRuntime) -> Result<(), NoMemory> {
+fn changes_and_look_ups(rt: HostRuntime) -> Result<(), Fail> {
     let mut store = MapStore::new(rt.alloc())?;
-    assert_eq!(rt; made(rt.alloc(), &mut store, b"/")?, (b'n', 17));
-    assert_eq!(rt; made(rt.alloc(), &mut store, b"/a")?, (b'm', 2));
-    assert_eq!(rt; made(rt.alloc(), &mut store, b"/a")?, (b'n', 17));
-    assert_eq!(rt; made(rt.alloc(), &mut store, b"/b/c")?, (b'n', 2));
-    assert_eq!(rt; made(rt.alloc(), &mut store, b"/a/b/")?, (b'm', 3));
-    assert_eq!(rt; made(rt.alloc(), &mut store, b"/c")?, (b'n', 28));
-    assert_eq!(rt; found(&store, b"//a///"), (b'd', 2));
-    assert_eq!(rt; found(&store, b"/a/b/.."), (b'd', 2));
-    assert_eq!(rt; found(&store, b"/c"), (b'n', 2));
+    for (call, reply) in [
+        (mkdir(b"/"), Reply::Refused(17)),
+        (mkdir(b"/a"), Reply::Done(2)),
+        (mkdir(b"/b/c"), Reply::Refused(2)),
+        (mkdir(b"/a/b/"), Reply::Done(3)),
+        (create(b"/f"), Reply::Done(4)),
+        (link(b"/f", b"/a/g"), Reply::Done(4)),
+        (symlink(b"a/b", b"/l"), Reply::Done(5)),
+        (symlink(b"", b"/m"), Reply::Refused(2)),
+        (look(b"/l/.."), Reply::Found(2, Kind::Dir)),
+        (
+            Call::Stat {
+                base: 1,
+                path: b"/f",
+            },
+            Reply::Stat(4, Kind::File, 2),
+        ),
+        (rename(b"/f", b"/a/g"), Reply::Unit),
+        (rename(b"/a", b"/a/b/c"), Reply::Refused(22)),
+        (rename(b"/a/b", b"/c"), Reply::Unit),
+        (unlink(b"/f"), Reply::Unit),
+        (rmdir(b"/a"), Reply::Refused(39)),
+        (unlink(b"/a/g"), Reply::Unit),
+        (rmdir(b"/a"), Reply::Unit),
+        (look(b"/c/.."), Reply::Found(1, Kind::Dir)),
+    ] {
+        assert_eq!(rt; answered(rt.alloc(), &mut store, &call)?, reply);
+    }
+    Ok(())
+}
+
+#[test]
+fn texts_and_names(rt: HostRuntime) -> Result<(), Fail> {
+    let mut store = MapStore::new(rt.alloc())?;
+    for call in [symlink(b"./d", b"/s"), mkdir(b"/d"), create(b"/a")] {
+        answered(rt.alloc(), &mut store, &call)?;
+    }
+    let text = Call::Readlink {
+        base: 1,
+        path: b"/s",
+    };
+    let Reply::Text(bytes) = answered(rt.alloc(), &mut store, &text)? else {
+        panic!(rt; "no text");
+    };
+    assert!(rt; bytes.as_slice() == b"./d".as_slice());
+    let names = Call::List {
+        base: 1,
+        path: b"/",
+    };
+    let Reply::Names(names) = answered(rt.alloc(), &mut store, &names)? else {
+        panic!(rt; "no names");
+    };
+    assert_eq!(rt; names.len(), 3);
+    assert!(rt; names[0].as_slice() == b"a".as_slice() && names[2].as_slice() == b"s".as_slice());
+    Ok(())
+}
+
+/// The number of a key, and a letter for its label: the first of a name, `.` for dot-dot, `=` for a text.
+fn shown(key: &Key) -> (u64, u8) {
+    match key.label {
+        Label::Name(name) => (key.number, name.bytes()[0]),
+        Label::DotDot => (key.number, b'.'),
+        Label::Text => (key.number, b'='),
+    }
+}
+
+#[test]
+fn keys_of_plans(rt: HostRuntime) -> Result<(), Fail> {
+    let mut store = MapStore::new(rt.alloc())?;
+    let cases: [(Call, &[(u64, u8)]); 9] = [
+        (mkdir(b"/a"), &[(1, b'a'), (2, b'.')]),
+        (mkdir(b"/b"), &[(1, b'b'), (3, b'.')]),
+        (create(b"/a/f"), &[(2, b'f')]),
+        (link(b"/a/f", b"/b/g"), &[(3, b'g')]),
+        (symlink(b"f", b"/a/l"), &[(2, b'l'), (5, b'=')]),
+        (unlink(b"/a/f"), &[(2, b'f')]),
+        (rename(b"/b/g", b"/a/l"), &[(3, b'g'), (2, b'l'), (5, b'=')]),
+        (rename(b"/b", b"/a/c"), &[(1, b'b'), (2, b'c'), (3, b'.')]),
+        (rmdir(b"/a/c"), &[(2, b'c'), (3, b'.')]),
+    ];
+    for (call, keys) in cases {
+        let Ok(planned) = planned(&store, &call) else {
+            panic!(rt; "no plan");
+        };
+        let touched = planned.keys();
+        assert!(rt; touched.iter().map(shown).eq(keys.iter().copied()));
+        carry(rt.alloc(), &mut store, planned)?;
+    }
+    Ok(())
+}
+
+/// A path of a slash and the digits of a number.
+fn numbered(alloc: Global, number: u32) -> Result<Vec<u8>, NoMemory> {
+    Ok(format!(in alloc; "/{number}")?.into_bytes())
+}
+
+#[test]
+fn names_of_a_file_are_bounded(rt: HostRuntime) -> Result<(), Fail> {
+    let mut store = MapStore::new(rt.alloc())?;
+    assert_eq!(rt;
+        answered(rt.alloc(), &mut store, &create(b"/0"))?,
+        Reply::Done(2)
+    );
+    for number in 1..65_000 {
+        let path = numbered(rt.alloc(), number)?;
+        assert_eq!(rt;
+            answered(rt.alloc(), &mut store, &link(b"/0", &path))?,
+            Reply::Done(2)
+        );
+    }
+    assert_eq!(rt;
+        answered(rt.alloc(), &mut store, &link(b"/0", b"/f"))?,
+        Reply::Refused(31)
+    );
     Ok(())
 }
