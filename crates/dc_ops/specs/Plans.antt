@@ -45,6 +45,12 @@ CanCarry (plans.Add dir name new number) t = CanAddAt t dir name.bytes.now new n
 CanCarry (plans.Drop dir name number freed) t = CanDropAt t dir name.bytes.now number
 CanCarry (plans.Move from to number turns freed) t = CanMoveAt t from.0 from.1.bytes.now to.0 to.1.bytes.now number
 
+-- an entry that goes takes no memory
+abbrev pub IsDrop : rust_plan.Plan → Type 0
+IsDrop (plans.Add dir name new number) = ⊥
+IsDrop (plans.Drop dir name number freed) = Unit {0}
+IsDrop (plans.Move from to number turns freed) = ⊥
+
 -- the plan of a change: its effect is the operation, the tree is another afterwards, and its keys are those touched
 pub record Plans (limit : ℕ) (t : Tree) (request : Request) (plan : rust_plan.Plan) : Type 0 where
   pub operation : operation limit t request ≡ effect plan t
