@@ -115,8 +115,8 @@ impl PlainTree {
         requires made { IsMade self.old.limit self.old.tree
             (changed self.old.tree (Change.Move moved from to there)) }
         requires leads { HasSpots self.old.tree (Change.Move moved from to there) }
-        ensures ok { OnOk result
-            (self.new.tree ≡ (changed self.old.tree (Change.Move moved from.entry to.entry there)).1) }
+        ensures ok { OnOk result (self.new.tree
+            ≡ (changed self.old.tree (Change.Move moved from.entry to.entry there)).1) }
         ensures err { OnErr result (self.new ≡ self.old) }
         ensures limit { self.new.limit ≡ self.old.limit }
     {
