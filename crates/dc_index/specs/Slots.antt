@@ -1,5 +1,5 @@
 -- The rows of the cache, each with the key that it has.
-use Rattle.std.specs.Prelude.{◌≡◌, ℕ, ◌*◌, ◌<◌, ◌≤◌, ◌/◌, ◌%◌, Bool, true, false, ◌==◌, ◌&&◌, List, [], ◌∷◌, length, slice_index_or}
+use Rattle.std.specs.Prelude.{◌≡◌, ◌↔◌, ℕ, ◌*◌, ◌<◌, ◌≤◌, ◌/◌, ◌%◌, Bool, true, false, ◌==◌, ◌&&◌, List, [], ◌∷◌, length, slice_index_or, Option, Some}
 use Rattle.dc_names.specs.Hash.{hash_of}
 use Rattle.dc_plain.specs.Facts.{Key, Label, same_label}
 use Rattle.dc_plain.specs.Facts.Label.{Entry, Parent, Text}
@@ -45,6 +45,10 @@ label_bytes Text = []
 
 abbrev pub bucket_of : List Slot → Key → ℕ
 bucket_of slots key = hash_of key.number (label_bytes key.label) % (length slots / 4)
+
+-- the row that has a key, or none where no row has it
+abbrev pub IsRowOf : List Slot → Key → Option ℕ → Type 0
+IsRowOf slots key found = (row : ℕ) → (found ≡ Some row) ↔ (slot_of slots row ≡ Holds key)
 
 -- four rows a bucket; a key stands in its bucket, in one row at most
 pub record IsIndex (slots : List Slot) : Type 0 where

@@ -1,6 +1,6 @@
-ghost use Rattle.std.specs.Prelude.{◌≡◌, ◌<◌, ◌≤◌, ◌*◌, ◌/◌, ◌↔◌, ◌≢◌, ℕ, Some, None, OnOk, OnErr, IfOk, IfSome, length, replicate, slice_set, position, option_map, map};
+ghost use Rattle.std.specs.Prelude.{◌≡◌, ◌<◌, ◌≤◌, ◌*◌, ◌/◌, ◌↔◌, ◌≢◌, ℕ, Some, None, OnOk, OnErr, IfOk, IfSome, length, replicate, slice_set, map};
 ghost use Rattle.dc_plain.specs.KeysShown.{key_shown, label_shown};
-ghost use Rattle.dc_index.specs.Slots.{slot_of, cleared, is_slot_of, bucket_of, label_bytes, IsIndex};
+ghost use Rattle.dc_index.specs.Slots.{slot_of, cleared, bucket_of, label_bytes, IsIndex, IsRowOf};
 ghost use Rattle.dc_index.specs.Slots.Slot.{Free as IsFree, Retired as IsRetired, Holds};
 ghost use Rattle.dc_index.specs.OwnKeys.{slot_shown};
 ghost use Rattle.dc_index.specs.Choices.{first_free, slots_in, choice, AgreeIn, MayTake};
@@ -12,7 +12,7 @@ use dc_shrink::Shrinker;
 use std::alloc::{AllocError, Global};
 use std::marker::Model;
 
-/// For each row the key that it has, if any. A bucket has four rows, in one of which its keys stand.
+/// For each row the key that it has, if any. A bucket has four rows, and its keys stand in these.
 #[derive(Drop)]
 pub struct Index {
     slots: Vec<Slot>,
@@ -72,7 +72,7 @@ impl Index {
 
     /// The row that has a key.
     pub fn row_of(&self, key: &Key<'_>) -> Option<u64>
-        ensures row { (row : ℕ) → (result ≡ Some row) ↔ (slot_of self.now row ≡ Holds (key_shown key.now)) }
+        ensures row { IsRowOf self.now (key_shown key.now) result }
         ensures valid { IsIndex self.now }
     {
         let bucket = self.bucket_of(key);

@@ -107,7 +107,8 @@ pub(crate) fn place_of_free(slots: &[Slot]) -> Option<usize>
 
 /// Where the slot with a key stands.
 pub(crate) fn place_of_key(slots: &[Slot], key: &Key<'_>) -> Option<usize>
-    ensures { result ≡ position (λ slot. is_slot_of (key_shown key.now) (slot_shown slot)) slots.now }
+    ensures { result
+        ≡ position (λ slot. is_slot_of (key_shown key.now) (slot_shown slot)) slots.now }
 {
     slots.iter().position(|slot| slot.holds(key))
 }
