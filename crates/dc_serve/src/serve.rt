@@ -46,7 +46,8 @@ pub fn serve<S: Store + Drop, G: Gate, W: Write>(
 ) -> Result<(), ServeFault>
     ensures ok { OnOk result (Appends (W.contents writer.old) (W.contents writer.new)
         (replies_in server.old (in_order (phases (map said_by lines.now))))) }
-    ensures err { IfErr result (ServesFront server.old (phases (map said_by lines.now)) (W.contents writer.old) (W.contents writer.new)) }
+    ensures err { IfErr result (ServesFront server.old (phases (map said_by lines.now))
+        (W.contents writer.old) (W.contents writer.new)) }
 {
     let phases = phases(alloc, lines)?;
     serve_phases(server, alloc, &phases, gate, writer)

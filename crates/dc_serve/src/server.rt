@@ -4,7 +4,7 @@ ghost use Rattle.dc_plain.specs.Runs.{reply_of};
 ghost use Rattle.dc_plain.specs.Trees.{empty_tree};
 ghost use Rattle.dc_ops.specs.Asked.{IsChange};
 ghost use Rattle.dc_lang.specs.Commands.{order_of, said_by};
-ghost use Rattle.dc_serve.specs.Phases.{of_session, by_session, orders_in};
+ghost use Rattle.dc_serve.specs.Phases.{by_session, orders_for, orders_in};
 ghost use Rattle.dc_serve.specs.Serving.{State, opening, called, bases_after, reply_in, after, replies_in, after_all};
 ghost use Rattle.dc_serve.specs.Bytes.{IsServiceFault};
 
@@ -21,7 +21,8 @@ const MOST_POINTS: u64 = 1 << 62;
 
 const SESSIONS: u64 = 16;
 
-/// A store, how many inodes may live in it, how many calls have altered it, and where each session starts.
+/// A store, how many inodes may live in it, how many calls have altered it, and where each session
+/// starts.
 #[derive(Drop)]
 pub struct Server<S: Store + Drop> {
     store: S,
@@ -58,7 +59,8 @@ impl<S: Store + Drop> Server<S> {
     /// Carries a change out, and counts it where it alters the tree.
     fn change(&mut self, alloc: Global, call: &Call) -> Result<Reply, ServeFault>
         requires { IsChange call.now }
-        ensures reply { IfOk result (λ reply. answer_of reply ≡ reply_of self.old.limit self.old.tree (request_of call.now)) }
+        ensures reply { IfOk result (λ reply.
+            answer_of reply ≡ reply_of self.old.limit self.old.tree (request_of call.now)) }
         ensures new { OnOk result (self.new ≡ called self.old (request_of call.now)) }
         ensures err { IfErr result IsServiceFault }
     {
@@ -76,7 +78,8 @@ impl<S: Store + Drop> Server<S> {
 
     /// Answers a call.
     fn answer(&mut self, alloc: Global, call: &Call) -> Result<Reply, ServeFault>
-        ensures reply { IfOk result (λ reply. answer_of reply ≡ reply_of self.old.limit self.old.tree (request_of call.now)) }
+        ensures reply { IfOk result (λ reply.
+            answer_of reply ≡ reply_of self.old.limit self.old.tree (request_of call.now)) }
         ensures new { OnOk result (self.new ≡ called self.old (request_of call.now)) }
         ensures err { IfErr result IsServiceFault }
     {
@@ -96,7 +99,8 @@ impl<S: Store + Drop> Server<S> {
     /// Lets a session start where its `cd` led.
     fn go(&mut self, command: &Command, reply: &Reply)
         requires { command.now.session < 16 }
-        ensures { self.new ≡ record self.old { bases = bases_after command.now.verb command.now.session (answer_of reply.now) self.old.bases } }
+        ensures { self.new ≡ record self.old {
+            bases = bases_after command.now.verb command.now.session (answer_of reply.now) self.old.bases } }
     {
         if let (Verb::Cd, Reply::Found(number, _)) = (command.verb, reply) {
             self.bases[command.session as usize] = *number;
@@ -128,8 +132,10 @@ impl<S: Store + Drop> Server<S> {
         text: &mut Vec<u8>,
     ) -> Result<(), ServeFault>
         requires { session < 16 }
-        ensures text { OnOk result (text.new.items ≡ text.old.items ++ replies_in self.old (of_session session (orders_in (said_by line.now ∷ [])))) }
-        ensures new { OnOk result (self.new ≡ after_all self.old (of_session session (orders_in (said_by line.now ∷ [])))) }
+        ensures text { OnOk result (text.new.items
+            ≡ text.old.items ++ replies_in self.old (orders_for session (said_by line.now ∷ []))) }
+        ensures new { OnOk result (self.new
+            ≡ after_all self.old (orders_for session (said_by line.now ∷ []))) }
         ensures err { IfErr result IsServiceFault }
     {
         let Line::Command(command) = line else {
@@ -144,7 +150,8 @@ impl<S: Store + Drop> Server<S> {
         Ok(())
     }
 
-    /// Answers the commands of a session in a phase, after the text. The phase begins with the line `first`.
+    /// Answers the commands of a session in a phase, after the text. The phase begins with the line
+    /// `first`.
     fn serve_session<G: Gate>(
         &mut self,
         alloc: Global,
@@ -155,8 +162,10 @@ impl<S: Store + Drop> Server<S> {
         text: &mut Vec<u8>,
     ) -> Result<(), ServeFault>
         requires { session < 16 }
-        ensures text { OnOk result (text.new.items ≡ text.old.items ++ replies_in self.old (of_session session (orders_in (map said_by phase.now)))) }
-        ensures new { OnOk result (self.new ≡ after_all self.old (of_session session (orders_in (map said_by phase.now)))) }
+        ensures text { OnOk result (text.new.items
+            ≡ text.old.items ++ replies_in self.old (orders_for session (map said_by phase.now))) }
+        ensures new { OnOk result (self.new
+            ≡ after_all self.old (orders_for session (map said_by phase.now))) }
         ensures err { IfErr result IsServiceFault }
     {
         for (at, line) in phase.iter().enumerate() {
@@ -174,8 +183,10 @@ impl<S: Store + Drop> Server<S> {
         phase: &[Line],
         gate: &G,
     ) -> Result<Vec<u8>, ServeFault>
-        ensures text { IfOk result (λ text. text.items ≡ replies_in self.old (by_session (orders_in (map said_by phase.now)))) }
-        ensures new { OnOk result (self.new ≡ after_all self.old (by_session (orders_in (map said_by phase.now)))) }
+        ensures text { IfOk result (λ text.
+            text.items ≡ replies_in self.old (by_session (orders_in (map said_by phase.now)))) }
+        ensures new { OnOk result (self.new
+            ≡ after_all self.old (by_session (orders_in (map said_by phase.now)))) }
         ensures err { IfErr result IsServiceFault }
     {
         let mut text = Vec::new(alloc);
