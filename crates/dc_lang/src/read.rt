@@ -21,7 +21,8 @@ fn escaped(letter: u8) -> Option<u8>
 /// The first byte that a text stands for, and the text behind its spelling.
 fn first_byte(text: &[u8]) -> Option<(u8, &[u8])>
     requires { 0 < length text.now }
-    ensures some { IfSome result (λ first. bytes_in text.now ≡ with_first (Some first.0) (bytes_in first.1.now)) }
+    ensures some { IfSome result (λ first.
+        bytes_in text.now ≡ with_first (Some first.0) (bytes_in first.1.now)) }
     ensures shorter { IfSome result (λ first. length first.1.now < length text.now) }
     ensures none { IfNone result (bytes_in text.now ≡ None) }
 {
@@ -61,7 +62,8 @@ fn word_in(alloc: Global, text: &[u8]) -> Result<Vec<u8>, LineFault>
 }
 
 fn words_in(alloc: Global, texts: &[&[u8]]) -> Result<Vec<Vec<u8>>, LineFault>
-    ensures { Reads (λ words. map (λ word. word.items) words.items) result (words_in (map (λ text. text.now) texts.now)) }
+    ensures { Reads (λ words. map (λ word. word.items) words.items) result
+        (words_in (map (λ text. text.now) texts.now)) }
 {
     let mut words = Vec::new(alloc);
     for text in texts {

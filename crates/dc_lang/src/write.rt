@@ -46,7 +46,8 @@ fn push_word(out: &mut Vec<u8>, word: &[u8]) -> Result<(), AllocError>
 
 fn push_names(out: &mut Vec<u8>, names: &[Vec<u8>]) -> Result<(), AllocError>
     ensures { OnOk result (out.new.items
-        ≡ out.old.items ++ behind_spaces (answer_words (Names (map (λ name. name.items) names.now)))) }
+        ≡ out.old.items
+        ++ behind_spaces (answer_words (Names (map (λ name. name.items) names.now)))) }
 {
     out.extend_from_slice(b" names")?;
     for name in names {
@@ -56,7 +57,8 @@ fn push_names(out: &mut Vec<u8>, names: &[Vec<u8>]) -> Result<(), AllocError>
 }
 
 fn push_text(out: &mut Vec<u8>, text: &[u8]) -> Result<(), AllocError>
-    ensures { OnOk result (out.new.items ≡ out.old.items ++ behind_spaces (answer_words (Bytes text.now))) }
+    ensures { OnOk result (out.new.items
+        ≡ out.old.items ++ behind_spaces (answer_words (Bytes text.now))) }
 {
     out.extend_from_slice(b" text")?;
     push_word(out, text)
@@ -64,7 +66,8 @@ fn push_text(out: &mut Vec<u8>, text: &[u8]) -> Result<(), AllocError>
 
 /// Adds the words of a reply, each behind a space.
 fn push_answer(alloc: Global, out: &mut Vec<u8>, reply: &Reply) -> Result<(), AllocError>
-    ensures { OnOk result (out.new.items ≡ out.old.items ++ behind_spaces (answer_words (answer_of reply.now))) }
+    ensures { OnOk result (out.new.items
+        ≡ out.old.items ++ behind_spaces (answer_words (answer_of reply.now))) }
 {
     let text = match reply {
         Reply::Text(text) => return push_text(out, text),
@@ -83,7 +86,8 @@ fn push_answer(alloc: Global, out: &mut Vec<u8>, reply: &Reply) -> Result<(), Al
 
 /// The line of a reply, with its newline.
 pub fn write_reply(alloc: Global, session: u64, stamped: &Stamped) -> Result<Vec<u8>, NoMemory>
-    ensures { IfOk result (λ text. text.items ≡ reply_text session (answer_of stamped.now.reply) stamped.now.at) }
+    ensures { IfOk result (λ text.
+        text.items ≡ reply_text session (answer_of stamped.now.reply) stamped.now.at) }
 {
     let mut out = format!(in alloc; "{session}")?.into_bytes();
     push_answer(alloc, &mut out, &stamped.reply)?;

@@ -48,7 +48,8 @@ pub fn name_or_each(
     at_dot_dot: u64,
     last: Last<'_>,
 ) -> Result<Name<'_>, u64>
-    ensures shown { name_shown result ≡ name_or_each at_root at_dot at_dot_dot (last_shown last.entry) }
+    ensures shown { name_shown result
+        ≡ name_or_each at_root at_dot at_dot_dot (last_shown last.entry) }
     ensures named { IfOk result (λ name. last_shown last.entry ≡ Named name.bytes.now) }
 {
     match last {
@@ -61,7 +62,8 @@ pub fn name_or_each(
 
 /// Where a name in a directory leads, or else ENOENT.
 pub fn present<S: Store>(store: &S, dir: u64, name: Name<'_>) -> Result<(u64, Kind), u64>
-    ensures found { result ≡ present 2 (entry_of (S.tree store.now) dir (Entry name.entry.bytes.now)) }
+    ensures found { result
+        ≡ present 2 (entry_of (S.tree store.now) dir (Entry name.entry.bytes.now)) }
     ensures target { IfOk result (λ place.
         target_of (S.tree store.now) (spot_at dir name.entry.bytes.now) ≡ Some place.0) }
     ensures lives { IfOk result (λ place. place_at (S.tree store.now) place.0 ≡ Some place) }
@@ -87,8 +89,10 @@ pub fn is_full<S: Store>(store: &S, max_inodes: u64) -> bool
 
 /// Whether a name is an entry of a directory.
 pub fn is_there<S: Store>(store: &S, dir: u64, name: Name<'_>) -> bool
-    ensures there { result ≡ is_some (entry_of (S.tree store.now) dir (Entry name.entry.bytes.now)) }
-    ensures free { result ≡ false → target_of (S.tree store.now) (spot_at dir name.entry.bytes.now) ≡ None }
+    ensures there { result
+        ≡ is_some (entry_of (S.tree store.now) dir (Entry name.entry.bytes.now)) }
+    ensures free { result ≡ false →
+        target_of (S.tree store.now) (spot_at dir name.entry.bytes.now) ≡ None }
     ensures well { IsWellFormed (S.tree store.now) }
 {
     entry(store, dir, name).is_some()

@@ -8,11 +8,12 @@ use dc_plain::Reply;
 use dc_store::Store;
 use std::alloc::Global;
 
-/// Carries a plan out on the store that it was made for. After `NoMemory` the store is unchanged; an entry
-/// that goes takes no memory.
+/// Carries a plan out on the store that it was made for. After `NoMemory` the store is unchanged; an
+/// entry that goes takes no memory.
 pub fn carry<S: Store>(alloc: Global, store: &mut S, plan: Plan<'_>) -> Result<Reply, NoMemory>
     requires { CanCarry plan (S.tree store.old) }
-    ensures reply { IfOk result (λ reply. answer_of reply ≡ (effect plan.entry (S.tree store.old)).0) }
+    ensures reply { IfOk result (λ reply.
+        answer_of reply ≡ (effect plan.entry (S.tree store.old)).0) }
     ensures tree { OnOk result (S.tree store.new ≡ (effect plan.entry (S.tree store.old)).1) }
     ensures err { OnErr result (S.tree store.new ≡ S.tree store.old) }
     ensures drops { IsDrop plan.entry → IsOk result }

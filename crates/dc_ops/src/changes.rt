@@ -34,7 +34,8 @@ pub fn plan<'a, S: Store>(store: &S, call: &Call<'a>, max_inodes: u64) -> Result
 fn found<'a, S: Store>(store: &S, call: &Call<'a>, max_inodes: u64) -> Result<Option<Plan<'a>>, u64>
     requires { IsChange call.now }
     ensures planned { IfOk result (λ plan.
-        change_of max_inodes (S.tree store.now) (request_of call.now) ≡ Ok (effect_if plan (S.tree store.now))) }
+        change_of max_inodes (S.tree store.now) (request_of call.now)
+        ≡ Ok (effect_if plan (S.tree store.now))) }
     ensures can { IfOk result (λ plan. IfSome plan (λ plan. CanCarry plan (S.tree store.now))) }
     ensures keys { IfOk result (λ plan. IfSome plan (λ plan.
         keys_of plan ≡ listed (S.tree store.now) (request_of call.now))) }

@@ -12,8 +12,8 @@ use dc_plain::{Key, Label};
 use dc_store::New;
 
 impl<'a> Plan<'a> {
-    /// The keys whose facts it alters, four at most: its names, the dot-dot of a directory that comes,
-    /// goes or gets another parent, and the text of a link that comes or goes.
+    /// The keys whose facts it alters, four at most: its names, the dot-dot of a directory that
+    /// comes, goes or gets another parent, and the text of a link that comes or goes.
     pub fn keys(&self) -> ArrayVec<Key<'a>, 4>
         ensures { map key_shown result.items ≡ keys_of self.now }
     {

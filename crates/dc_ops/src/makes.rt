@@ -27,7 +27,8 @@ pub fn plan_make<'a, S: Store>(
     requires makes { MakesInode new }
     requires path { HasPath new }
     ensures planned { IfOk result (λ plan.
-        made_for max_inodes (S.tree store.now) base path.now new.entry ≡ Ok (effect plan (S.tree store.now))) }
+        made_for max_inodes (S.tree store.now) base path.now new.entry
+        ≡ Ok (effect plan (S.tree store.now))) }
     ensures can { IfOk result (λ plan. CanCarry plan (S.tree store.now)) }
     ensures keys { IfOk result (λ plan. keys_of plan ≡ at_name (S.tree store.now) base path.now
         (λ d name. entry_key d name ∷ keys_made (S.tree store.now).next new.entry)) }
@@ -63,7 +64,8 @@ pub fn plan_symlink<'a, S: Store>(
     max_inodes: u64,
 ) -> Result<Plan<'a>, u64>
     ensures planned { IfOk result (λ plan.
-        symlink max_inodes (S.tree store.now) base text.now path.now ≡ Ok (effect plan (S.tree store.now))) }
+        symlink max_inodes (S.tree store.now) base text.now path.now
+        ≡ Ok (effect plan (S.tree store.now))) }
     ensures can { IfOk result (λ plan. CanCarry plan (S.tree store.now)) }
     ensures keys { IfOk result (λ plan. keys_of plan ≡ at_name (S.tree store.now) base path.now
         (λ d name. entry_key d name ∷ text_key (S.tree store.now).next ∷ [])) }

@@ -27,7 +27,8 @@ fn walk_text<S: Store>(
 /// Answers `Look` (POSIX.1-2017 XBD 4.13) or `Stat`. It takes no memory.
 pub fn seek<S: Store>(store: &S, call: &Call<'_>) -> Reply
     requires { IsSought call.now }
-    ensures { (limit : ℕ) → Declines limit (S.tree store.now) (request_of call.now) (answer_of result) }
+    ensures { (limit : ℕ) →
+        Declines limit (S.tree store.now) (request_of call.now) (answer_of result) }
 {
     match *call {
         Call::Look { base, path, follow } => look(store, base, path, follow),
@@ -84,7 +85,8 @@ pub fn ask<S: Store>(alloc: Global, store: &S, call: &Call<'_>) -> Result<Reply,
 }
 
 fn read_link<S: Store>(alloc: Global, store: &S, base: u64, path: &[u8]) -> Result<Reply, NoMemory>
-    ensures { IfOk result (λ reply. answer_of reply ≡ answered (readlink (S.tree store.now) base path.now)) }
+    ensures { IfOk result (λ reply.
+        answer_of reply ≡ answered (readlink (S.tree store.now) base path.now)) }
 {
     let number = match walk_text(store, base, path, Follow::No) {
         Ok((number, _)) => number,
@@ -97,7 +99,8 @@ fn read_link<S: Store>(alloc: Global, store: &S, base: u64, path: &[u8]) -> Resu
 }
 
 fn list<S: Store>(alloc: Global, store: &S, base: u64, path: &[u8]) -> Result<Reply, NoMemory>
-    ensures { IfOk result (λ reply. answer_of reply ≡ answered (list_names (S.tree store.now) base path.now)) }
+    ensures { IfOk result (λ reply.
+        answer_of reply ≡ answered (list_names (S.tree store.now) base path.now)) }
 {
     match walk_text(store, base, path, Follow::Dir) {
         Ok((number, _)) => Ok(Reply::Names(store.list(alloc, number)?)),

@@ -1,13 +1,13 @@
 ghost use Rattle.std.specs.Prelude.{◌≡◌, ◌≤◌, ◌==◌, ◌&&◌, not, true, length, option_map, Some, IfOk, IfErr, IfSome, Ok, Err, OnOk, IsTrue};
 ghost use Rattle.dc_plain.specs.IsWellFormed.{IsWellFormed};
 ghost use Rattle.dc_plain.specs.Operations.{rename, is_beneath, replaceable, same_inode};
+ghost use Rattle.dc_plain.specs.Requests.Request.{Rename};
 ghost use Rattle.dc_plain.specs.Resolution.{is_directory};
-ghost use Rattle.dc_plain.specs.TouchedKeys.{at_name, keys_gone, keys_renamed, with_target};
+ghost use Rattle.dc_plain.specs.TouchedKeys.{keys_gone, listed, with_target};
 ghost use Rattle.dc_plain.specs.Trees.{is_live_directory, names_of, place_at, target_of};
-ghost use Rattle.dc_store.specs.Spots.{spot_at};
 ghost use Rattle.dc_ops.specs.Keys.{keys_gone_with, keys_of};
 ghost use Rattle.dc_ops.specs.Plans.{effect_if, CanCarry};
-ghost use Rattle.dc_ops.specs.Renames.{move_to};
+ghost use Rattle.dc_ops.specs.Renames.{keys_of_move, move_to, spot_named};
 
 use crate::Plan;
 use crate::asking::{is_directory, name_or_each, present, refuse};
@@ -27,8 +27,8 @@ pub fn plan_rename<'a, S: Store>(
     ensures planned { IfOk result (λ plan.
         rename (S.tree store.now) base old.now new.now ≡ Ok (effect_if plan (S.tree store.now))) }
     ensures can { IfOk result (λ plan. IfSome plan (λ plan. CanCarry plan (S.tree store.now))) }
-    ensures keys { IfOk result (λ plan. IfSome plan (λ plan. keys_of plan ≡ at_name (S.tree store.now) base old.now
-        (λ from a. at_name (S.tree store.now) base new.now (λ to b. keys_renamed (S.tree store.now) from a to b)))) }
+    ensures keys { IfOk result (λ plan. IfSome plan (λ plan.
+        keys_of plan ≡ listed (S.tree store.now) (Rename base old.now new.now))) }
     ensures refused { IfErr result (λ number.
         rename (S.tree store.now) base old.now new.now ≡ Err number) }
 {
@@ -50,17 +50,17 @@ fn plan_move<'a, S: Store>(
     to: (u64, Name<'a>),
     moved: (u64, Kind),
 ) -> Result<Option<Plan<'a>>, u64>
-    requires source { target_of (S.tree store.now) (spot_at from.0 from.1.bytes.now) ≡ Some moved.0 }
+    requires source { target_of (S.tree store.now) (spot_named from) ≡ Some moved.0 }
     requires lives { place_at (S.tree store.now) moved.0 ≡ Some moved }
     requires held { IsTrue (is_live_directory (S.tree store.now) to.0) }
     ensures planned { IfOk result (λ plan.
-        move_to (S.tree store.now) from.entry.0 from.entry.1.bytes.now to.entry.0 to.entry.1.bytes.now moved
+        move_to (S.tree store.now) (spot_named from.entry) (spot_named to.entry) moved
         ≡ Ok (effect_if plan (S.tree store.now))) }
     ensures can { IfOk result (λ plan. IfSome plan (λ plan. CanCarry plan (S.tree store.now))) }
     ensures keys { IfOk result (λ plan. IfSome plan (λ plan. keys_of plan
-        ≡ keys_renamed (S.tree store.now) from.entry.0 from.entry.1.bytes.now to.entry.0 to.entry.1.bytes.now)) }
+        ≡ keys_of_move (S.tree store.now) (spot_named from.entry) (spot_named to.entry))) }
     ensures refused { IfErr result (λ number.
-        move_to (S.tree store.now) from.entry.0 from.entry.1.bytes.now to.entry.0 to.entry.1.bytes.now moved
+        move_to (S.tree store.now) (spot_named from.entry) (spot_named to.entry) moved
         ≡ Err number) }
 {
     let there = entry(store, to.0, to.1);

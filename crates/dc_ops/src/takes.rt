@@ -20,7 +20,8 @@ pub fn plan_unlink<'a, S: Store>(store: &S, base: u64, path: &'a [u8]) -> Result
     ensures can { IfOk result (λ plan. CanCarry plan (S.tree store.now)) }
     ensures keys { IfOk result (λ plan. keys_of plan ≡ at_name (S.tree store.now) base path.now
         (λ d name. entry_key d name ∷ keys_taken (S.tree store.now) d name)) }
-    ensures refused { IfErr result (λ number. unlink (S.tree store.now) base path.now ≡ Err number) }
+    ensures refused { IfErr result (λ number.
+        unlink (S.tree store.now) base path.now ≡ Err number) }
 {
     let at = place_text(store, base, path)?;
     let name = name_or(1, at.last)?;

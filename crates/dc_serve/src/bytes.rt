@@ -12,7 +12,8 @@ const MOST_READS: u32 = 1_048_578;
 
 /// All bytes of the input, by reads up to one that gives none.
 pub fn read_whole<R: Read>(alloc: Global, reader: &mut R) -> Result<Vec<u8>, ServeFault>
-    ensures ok { IfOk result (λ input. ReadWhole (R.remaining reader.old) (R.remaining reader.new) input.items) }
+    ensures ok { IfOk result (λ input.
+        ReadWhole (R.remaining reader.old) (R.remaining reader.new) input.items) }
     ensures fault { IfErr result IsReadFault }
 {
     let mut input = Vec::new(alloc);
@@ -37,7 +38,8 @@ pub fn read_whole<R: Read>(alloc: Global, reader: &mut R) -> Result<Vec<u8>, Ser
 /// Writes all the bytes, or a front of them.
 pub fn write_whole<W: Write>(writer: &mut W, bytes: &[u8]) -> Result<(), ServeFault>
     ensures ok { OnOk result (Appends (W.contents writer.old) (W.contents writer.new) bytes.now) }
-    ensures err { IfErr result (λ fault. WritesFront (W.contents writer.old) (W.contents writer.new) bytes.now fault) }
+    ensures err { IfErr result (λ fault.
+        WritesFront (W.contents writer.old) (W.contents writer.new) bytes.now fault) }
 {
     let mut done = 0;
     'writes: while done < bytes.len() {

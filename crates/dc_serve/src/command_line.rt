@@ -9,7 +9,8 @@ use std::alloc::Global;
 
 /// What clap finds among the words.
 fn matches_in<'a>(alloc: Global, words: &'a [String]) -> Result<ArgMatches<'a>, Error>
-    ensures ok { IfOk result (λ m. rows_of (found_of m) ≡ matches_of app (map string_bytes words.now)) }
+    ensures ok { IfOk result (λ m.
+        rows_of (found_of m) ≡ matches_of app (map string_bytes words.now)) }
     ensures err { FailsBy (fault_of app (map string_bytes words.now)) result }
 {
     let buckets = Arg::new(alloc, "buckets")
@@ -47,8 +48,9 @@ fn size(text: &str) -> Result<u64, OptionsFault>
     text.parse::<u64>().map_err(|_| OptionsFault::BadSize)
 }
 
-/// The sizes that the words after the program's name choose, where clap takes them. Whether they are within
-/// their limits isn't tested here. `BadSize` where the text of a size isn't what the number's `parse` reads.
+/// The sizes that the words after the program's name choose, where clap takes them. Whether they are
+/// within their limits isn't tested here. `BadSize` where the text of a size isn't what the number's
+/// `parse` reads.
 pub fn options(alloc: Global, words: &[String]) -> Result<Options, OptionsFault>
     ensures ok { IfOk result (Chooses (map string_bytes words.now)) }
     ensures err { IfErr result (Refuses (map string_bytes words.now)) }

@@ -23,7 +23,8 @@ fn read_numbered(alloc: Global, number: u64, line: &[u8]) -> Result<Line, ServeF
 
 /// What lines say.
 fn said_by_all(alloc: Global, lines: &[&[u8]]) -> Result<Vec<Line>, ServeFault>
-    ensures ok { IfOk result (λ said. AllSay (map (λ line. line.now) lines.now) (map said_by said.items)) }
+    ensures ok { IfOk result (λ said.
+        AllSay (map (λ line. line.now) lines.now) (map said_by said.items)) }
     ensures err { IfErr result (IsLinesFault (map (λ line. line.now) lines.now)) }
 {
     let mut said = Vec::new(alloc);

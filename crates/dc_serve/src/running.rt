@@ -19,9 +19,11 @@ fn answer_input<R: Read, W: Write, G: Gate>(
     inodes: u64,
     gate: &G,
 ) -> Result<(), ServeFault>
-    ensures ok { OnOk result (Answers inodes (streams (R.remaining reader.old) (R.remaining reader.new)
+    ensures ok { OnOk result (Answers inodes (streams
+        (R.remaining reader.old) (R.remaining reader.new)
         (W.contents writer.old) (W.contents writer.new))) }
-    ensures err { IfErr result (EndsBy inodes (streams (R.remaining reader.old) (R.remaining reader.new)
+    ensures err { IfErr result (EndsBy inodes (streams
+        (R.remaining reader.old) (R.remaining reader.new)
         (W.contents writer.old) (W.contents writer.new))) }
     ensures sized { IsErrOf result ServeFault.BadSize → ⊥ }
 {
@@ -35,10 +37,11 @@ fn answer_input<R: Read, W: Write, G: Gate>(
     }
 }
 
-/// Answers the commands of the input. The sizes are tested first; then the whole input is read, at most
-/// 1,048,576 bytes by at most 1,048,578 reads, and every line of it before any is run. Replies are written
-/// phase by phase, with one flush after the last. `Read` where a read fails or the input is longer, `Write`
-/// where a write fails or takes nothing, or the flush fails; `NoMemory` only where memory was refused.
+/// Answers the commands of the input. The sizes are tested first; then the whole input is read, at
+/// most 1,048,576 bytes by at most 1,048,578 reads, and every line of it before any is run. Replies
+/// are written phase by phase, with one flush after the last. `Read` where a read fails or the input
+/// is longer, `Write` where a write fails or takes nothing, or the flush fails; `NoMemory` only where
+/// memory was refused.
 pub fn run<T, R: Read, W: Write, G: Gate>(
     _rt: &T,
     alloc: Global,
@@ -48,13 +51,16 @@ pub fn run<T, R: Read, W: Write, G: Gate>(
     gate: &G,
 ) -> Result<(), ServeFault>
     // What is written is the replies to the lines that were read, and nothing else.
-    ensures ok { OnOk result (Answers options.inodes (streams (R.remaining reader.old) (R.remaining reader.new)
+    ensures ok { OnOk result (Answers options.inodes (streams
+        (R.remaining reader.old) (R.remaining reader.new)
         (W.contents writer.old) (W.contents writer.new))) }
 
     // What each fault says of the input, and which front of the replies was written.
-    ensures err { IfErr result (EndsBy options.inodes (streams (R.remaining reader.old) (R.remaining reader.new)
+    ensures err { IfErr result (EndsBy options.inodes (streams
+        (R.remaining reader.old) (R.remaining reader.new)
         (W.contents writer.old) (W.contents writer.new))) }
-    ensures size { IsErrOf result ServeFault.BadSize ↔ (are_right options.buckets options.inodes ≡ false) }
+    ensures size { IsErrOf result ServeFault.BadSize
+        ↔ (are_right options.buckets options.inodes ≡ false) }
 {
     if !options.are_right() {
         return Err(ServeFault::BadSize);

@@ -23,8 +23,10 @@ fn serve_phases<S: Store + Drop, G: Gate, W: Write>(
     writer: &mut W,
 ) -> Result<(), ServeFault>
     ensures ok { OnOk result (Appends (W.contents writer.old) (W.contents writer.new)
-        (replies_in server.old (in_order (map (λ phase. orders_in (map said_by phase.now)) phases.now)))) }
-    ensures err { IfErr result (ServesFront server.old (map (λ phase. orders_in (map said_by phase.now)) phases.now)
+        (replies_in server.old (in_order
+        (map (λ phase. orders_in (map said_by phase.now)) phases.now)))) }
+    ensures err { IfErr result (ServesFront server.old
+        (map (λ phase. orders_in (map said_by phase.now)) phases.now)
         (W.contents writer.old) (W.contents writer.new)) }
 {
     let mut first = 1u64;

@@ -100,7 +100,8 @@ impl<S: Store + Drop> Server<S> {
     fn go(&mut self, command: &Command, reply: &Reply)
         requires { command.now.session < 16 }
         ensures { self.new ≡ record self.old {
-            bases = bases_after command.now.verb command.now.session (answer_of reply.now) self.old.bases } }
+          bases = bases_after command.now.verb command.now.session (answer_of reply.now) self.old.bases;
+        } }
     {
         if let (Verb::Cd, Reply::Found(number, _)) = (command.verb, reply) {
             self.bases[command.session as usize] = *number;
@@ -110,7 +111,8 @@ impl<S: Store + Drop> Server<S> {
     /// Answers a command with its line.
     fn obey(&mut self, alloc: Global, command: &Command) -> Result<Vec<u8>, ServeFault>
         requires { command.now.session < 16 }
-        ensures reply { IfOk result (λ text. text.items ≡ reply_in self.old (order_of command.now)) }
+        ensures reply { IfOk result (λ text.
+            text.items ≡ reply_in self.old (order_of command.now)) }
         ensures new { OnOk result (self.new ≡ after self.old (order_of command.now)) }
         ensures err { IfErr result IsServiceFault }
     {
