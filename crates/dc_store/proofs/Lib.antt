@@ -1,12 +1,12 @@
 pub mod Keys
+pub mod Spelled
 pub mod Maps
+pub mod Keyed
+pub mod Counted
 pub mod Nodes
-pub mod Entries
-pub mod Made
+pub mod Stores
 pub mod Linked
-pub mod HowMany
+pub mod Made
 pub mod Dropped
-pub mod HowManyHeld
-pub mod Listed
 pub mod MovedEntries
 pub mod Moves

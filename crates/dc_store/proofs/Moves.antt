@@ -1,20 +1,17 @@
--- The two maps with an entry at another place.
-use Rattle.std.proofs.Common.{◌≡◌, ◌≢◌, ℕ, ◌+◌, ◌<◌, ◌^◌, ◌==◌, ◌&&◌, not, List, Bool, true, false, cond, map, length, Option, Some, None, is_some, IfSome, IsSomeAnd, IsTrue, option_map, option_and_then, refl, ap, sym, ◌∙◌, subst, arith, if◌then◌else◌}
-use Rattle.std.specs.BTreeMap.{is_at, insert_entry}
-use Rattle.std.specs.Cmp.Lexicographic.{slice_cmp}
-use Rattle.std.specs.FinMap.Entries.{put, is_sorted, is_sorted-put, is_sorted-where_key}
-use Rattle.std.specs.Global.{Vec}
-use Rattle.std.specs.List.{AllByRecursion}
-use Rattle.std.specs.Map.{lookup, remove_entry}
+-- A store with an entry at another place.
+use Rattle.std.proofs.Common.{◌≡◌, ◌≢◌, ℕ, ◌+◌, ◌==◌, ◌&&◌, not, List, Bool, true, false, cond, map, length, Option, Some, None, is_some, IfSome, IsSomeAnd, IsTrue, option_map, option_and_then, refl, ap, sym, ◌∙◌, subst, arith, if◌then◌else◌}
+use Rattle.std.specs.FinMap.Entries.{find, put, is_sorted, is_sorted-where_key}
+use Rattle.std.specs.BTreeMap.{is_at}
+use Rattle.std.specs.Map.{remove_entry}
 use Rattle.std.specs.Ordering.{nat_cmp, eq_by_cmp}
 use Rattle.dc_names.specs.Bytes.{is_name}
 use Rattle.dc_plain.proofs.Found.{Leads}
 use Rattle.dc_plain.proofs.FoundMoves.{ready_alone, ready_after}
 use Rattle.dc_plain.proofs.Holders.{decided, decided_not, other_test, same_test}
 use Rattle.dc_plain.proofs.Made.{All-lookup, some_in, spots_total, to_test, from_test}
-use Rattle.dc_plain.proofs.Moved.{IsReady, moved-IsWellFormed, names_moved, holder_else, holder_moved}
+use Rattle.dc_plain.proofs.Moved.{IsReady, moved_to, moved-IsWellFormed, names_moved, holder_else, holder_moved}
 use Rattle.dc_plain.proofs.Puts.{All-weaker}
-use Rattle.dc_plain.proofs.Removed.{IsUnentered, left_of, one_less, not_root, holder_left, either_left}
+use Rattle.dc_plain.proofs.Removed.{either_left}
 use Rattle.dc_plain.proofs.SameFacts.{same_spot}
 use Rattle.dc_plain.proofs.Takes.{count-take}
 use Rattle.dc_plain.specs.Effects.{without_entry, without_there}
@@ -22,21 +19,17 @@ use Rattle.dc_plain.specs.Facts.Label.{Entry}
 use Rattle.dc_plain.specs.IsWellFormed.{IsWellFormed, Stands}
 use Rattle.dc_plain.specs.Resolution.{is_directory}
 use Rattle.dc_plain.specs.Operations.{is_beneath}
-use Rattle.dc_plain.specs.Trees.{Tree, Inode, Spot, spot_cmp, how_many, inode_of, target_of, entry_of, place_at, kind_of, names_of, holder_of, is_directory_inode, without_spot, without_number}
+use Rattle.dc_plain.specs.Trees.{Tree, Inode, Spot, spot_cmp, how_many, inode_of, target_of, entry_of, place_at, kind_of, names_of, holder_of, is_directory_inode, without_spot}
 use Rattle.dc_plain.specs.Trees.Inode.{Directory, Regular, Symbolic}
 use Rattle.dc_store.specs.Dropped.{is_full_directory}
-use Rattle.dc_store.specs.Keys.{key_of, IsKey}
-use Rattle.dc_store.specs.Maps.{entry_shown, inode_shown, node_at, nodes_after, parent_in, tree_in, with_parent, IsSound}
+use Rattle.dc_store.specs.Maps.{inode_shown, node_at, nodes_after, parent_in, with_parent}
 use Rattle.dc_store.specs.Moved.{CanStandAt, CanMove, tree_moved}
 use Rattle.dc_store.specs.Spots.{spot_at}
 use Rattle.dc_store.specs.declared.node.Node as rust_node
 use Rattle.dc_store.specs.declared.node.Node.TheVariants as kinds
-use Rattle.dc_store.proofs.Dropped.{nodes_without, unentered}
-use Rattle.dc_store.proofs.Entries.{target_found, entries_put, keys_put, entries_without}
-use Rattle.dc_store.proofs.HowMany.{how_many-map}
-use Rattle.dc_store.proofs.Maps.{keys_remove}
+use Rattle.dc_store.proofs.Dropped.{unentered, dropped}
 use Rattle.dc_store.proofs.MovedEntries.{moved_alone, moved_over}
-use Rattle.dc_store.proofs.Nodes.{shown_as}
+use Rattle.dc_store.proofs.Stores.{Shows, lives_as}
 
 kind_is : (n : ℕ) (i : Inode) → is_directory (n, kind_of i) ≡ is_directory_inode (Some i)
 kind_is n Directory = refl
@@ -48,13 +41,62 @@ lives_there : (t : Tree) (spot : Spot) (n : ℕ) → IsWellFormed t → target_o
 lives_there t spot n well e =
     some_in (inode_of t n) (All-lookup spot_cmp (λ k. IsTrue (is_some (inode_of t k))) spot t.entries (All-weaker (Stands t) _ (λ x s. s.leads) t.entries well.entries) n e)
 
-module _ (t : Tree) (well : IsWellFormed t) (from : ℕ) (old : List ℕ) (to : ℕ) (new : List ℕ) (n : ℕ) (leads : target_of t (spot_at from old) ≡ Some n)
-    (named : IsTrue (is_name new)) (can : CanStandAt t to new n) where
-  a : Spot
-  a = spot_at from old
+-- a directory with another parent
+new_parent : (to up : ℕ) (o : Option rust_node.Node) → option_map (with_parent to) o ≡ Some (kinds.Dir up) → (up ≡ to) × (old : ℕ) × (o ≡ Some (kinds.Dir old))
+new_parent to up None e = absurd cc
+new_parent to up (Some (kinds.Dir old)) e = (cc, old, refl)
+new_parent to up (Some kinds.File) e = absurd cc
+new_parent to up (Some (kinds.Link text)) e = absurd cc
+
+-- what stands at a name isn't the root
+not_root : (t : Tree) (spot : Spot) (n : ℕ) → IsWellFormed t → target_of t spot ≡ Some n → n ≢ 1
+not_root t spot n well leads same =
+    let counted : how_many (λ (x : Spot × ℕ). x.1 == n) (without_spot spot t.entries) + cond (n == n) 1 0 ≡ names_of t n = count-take spot_cmp spots_total spot (λ (v : ℕ). v == n) n t.entries (to_test _ well.entries_in_order) leads in
+    let one : how_many (λ (x : Spot × ℕ). x.1 == n) (without_spot spot t.entries) + 1 ≡ names_of t n = sym (ap (λ b. how_many (λ (x : Spot × ℕ). x.1 == n) (without_spot spot t.entries) + cond b 1 0) (same_test n)) ∙ counted in
+    let none : names_of t n ≡ 0 = ap (names_of t) same ∙ well.no_entry_leads_to_root in
+    absurd (omega arith)
+
+module _ (from : ℕ) (old : List ℕ) (to : ℕ) (new : List ℕ) (n : ℕ) where
+  -- to a name that is free
+  move_alone : {entries : List (Spot × ℕ)} {nodes last : List (ℕ × rust_node.Node)} {next : ℕ} {t : Tree} → Shows entries nodes next t → IsReady t from old to new n → map inode_shown last ≡ map inode_shown nodes
+      → ((q : ℕ) → node_at last q ≡ (if q == n then option_map (with_parent to) (node_at nodes q) else node_at nodes q))
+      → Shows (put spot_cmp (spot_at to new) n (without_spot (spot_at from old) entries)) last next (moved_to t from old to new n)
+  move_alone {entries = entries} {nodes = nodes} {last = last} {next = next} {t = t} now ready shown set = record {
+    shows = (λ i. record { entries = put spot_cmp (spot_at to new) n (without_spot (spot_at from old) entries); inodes = shown i; next = next })
+        ∙ ap (λ (u : Tree). moved_to u from old to new n) now.shows;
+    well = moved-IsWellFormed t from old to new n ready;
+    parents = λ q up e.
+        elim (q == n) as (λ b. (q == n) ≡ b → (if b then option_map (with_parent to) (node_at nodes q) else node_at nodes q) ≡ Some (kinds.Dir up) → parent_in (moved_to t from old to new n) q ≡ Some up) [
+          | true ↦ λ is got.
+              let here : q ≡ n = decided q n is in
+              let (up_is, _, was) = new_parent to up (node_at nodes q) got in
+              let well = ready.well in
+              let apart = not_root t (spot_at from old) n well ready.source in
+              let lives = well.inodes q Directory (lives_as now q _ was) in
+              let one = ap (names_of t) (sym here) ∙ lives.reached.0 (λ root. apart (sym here ∙ root)) in
+              ap (parent_in (moved_to t from old to new n)) here ∙ ap (λ b. cond b (Some 1) (holder_of (moved_to t from old to new n) n)) (other_test n 1 apart)
+              ∙ holder_moved t from old to new n ready one ∙ ap (λ k. Some k) (sym up_is)
+          | false ↦ λ is got. ap (cond (q == 1) (Some 1)) (holder_else t from old to new n ready q (λ same. decided_not q n is (sym same))) ∙ now.parents q up got
+        ] refl (sym (set q) ∙ e);
+  }
+
+module _ (from : ℕ) (old : List ℕ) (to : ℕ) (new : List ℕ) {entries : List (Spot × ℕ)} {nodes : List (ℕ × rust_node.Node)} {next : ℕ} {t : Tree} (now : Shows entries nodes next t) (named : IsTrue (is_name new))
+    (n : ℕ) (leads : target_of t (spot_at from old) ≡ Some n) (can : CanStandAt t to new n) where
+  entries_are : entries ≡ t.entries
+  entries_are = ap (λ (u : Tree). u.entries) now.shows
+
+  in_order : IsTrue (is_sorted spot_cmp entries)
+  in_order = let well = now.well in subst (λ es. IsTrue (is_sorted spot_cmp es)) (sym entries_are) well.entries_in_order
+
+  spots_apart : eq_by_cmp spot_cmp (spot_at from old) (spot_at to new) ≡ false
+  spots_apart = by_test (eq_by_cmp spot_cmp (spot_at from old) (spot_at to new)) refl
+    where
+      by_test : (o : Bool) → eq_by_cmp spot_cmp (spot_at from old) (spot_at to new) ≡ o → o ≡ false
+      by_test false e = refl
+      by_test true e = absurd (can.other (ap (target_of t) (sym (same_spot (spot_at from old) (spot_at to new) e)) ∙ leads))
 
   inode : (i : Inode) × (inode_of t n ≡ Some i)
-  inode = lives_there t (spot_at from old) n well leads
+  inode = lives_there t (spot_at from old) n now.well leads
 
   source : Leads t from old (n, kind_of inode.0)
   source = record { target = leads; inode = inode.0; lives = inode.1; kind = kind_is n inode.0 }
@@ -62,199 +104,55 @@ module _ (t : Tree) (well : IsWellFormed t) (from : ℕ) (old : List ℕ) (to : 
   not_above : (is_directory (n, kind_of inode.0) && is_beneath (length t.inodes) t to n) ≡ false
   not_above = ap (λ b. b && is_beneath (length t.inodes) t to n) (kind_is n inode.0 ∙ ap is_directory_inode (sym inode.1)) ∙ can.apart
 
-  abbrev pub w : Tree
-  w = without_there t to new (entry_of t to (Entry new))
+  module _ {fewer last : List (ℕ × rust_node.Node)} (shown : map inode_shown last ≡ map inode_shown fewer)
+      (set : (q : ℕ) → node_at last q ≡ (if q == n then option_map (with_parent to) (node_at fewer q) else node_at fewer q)) where
+    over_nothing : target_of t (spot_at to new) ≡ None → fewer ≡ nodes → Shows (without_spot (spot_at from old) (put spot_cmp (spot_at to new) n entries)) last next (tree_moved t from old to new n)
+    over_nothing free cut =
+        let ready = ready_alone t from old to new (n, kind_of inode.0) now.well source can.directory named not_above (ap (option_and_then (place_at t)) free) in
+        let nowhere : without_there t to new (entry_of t to (Entry new)) ≡ t = ap (λ o. without_there t to new (option_and_then (place_at t) o)) free in
+        subst (λ es. Shows es last next (tree_moved t from old to new n)) (sym (moved_alone (spot_at from old) (spot_at to new) n entries in_order spots_apart))
+        (subst (λ u. Shows (put spot_cmp (spot_at to new) n (without_spot (spot_at from old) entries)) last next (moved_to u from old to new n)) (sym nowhere) (move_alone from old to new n (subst (λ ns. Shows entries ns next t) (sym cut) now) ready shown set))
 
-  pub spots_apart : eq_by_cmp spot_cmp (spot_at from old) (spot_at to new) ≡ false
-  spots_apart = by_test (eq_by_cmp spot_cmp (spot_at from old) (spot_at to new)) refl
-    where
-      by_test : (o : Bool) → eq_by_cmp spot_cmp (spot_at from old) (spot_at to new) ≡ o → o ≡ false
-      by_test false e = refl
-      by_test true e = absurd (can.other (ap (target_of t) (sym (same_spot (spot_at from old) (spot_at to new) e)) ∙ leads))
+    over_other : (m : ℕ) → target_of t (spot_at to new) ≡ Some m → fewer ≡ nodes_after (Some m) (without_spot (spot_at from old) (put spot_cmp (spot_at to new) n entries)) nodes
+        → ((q : ℕ) (node : rust_node.Node) → node_at fewer q ≡ Some node → node_at nodes q ≡ Some node)
+        → Shows (without_spot (spot_at from old) (put spot_cmp (spot_at to new) n entries)) last next (tree_moved t from old to new n)
+    over_other m there cut kept =
+        let gives_way = subst (λ o. IfSome o (λ k. IsTrue (not (is_full_directory t k)))) there can.gives_way in
+        let i = lives_there t (spot_at to new) m now.well there in
+        let ready = ready_after t from old to new (n, kind_of inode.0) now.well source can.directory named not_above (m, kind_of i.0) there (unentered t m now.well gives_way)
+        (λ same. can.other (there ∙ ap (λ k. Some k) (sym same))) in
+        let gone : without_there t to new (entry_of t to (Entry new)) ≡ without_entry t to new m =
+        ap (λ o. without_there t to new (option_and_then (place_at t) o)) there ∙ ap (λ o. without_there t to new (option_map (λ inode. (m, kind_of inode)) o)) i.1 in
+        let rest : without_spot (spot_at to new) entries ≡ (without_entry t to new m).entries =
+        ap (without_spot (spot_at to new)) entries_are ∙ sym (either_left (λ u. u.entries ≡ without_spot (spot_at to new) t.entries) t to new m refl refl) in
+        let moved = moved_over (spot_at from old) (spot_at to new) n entries in_order spots_apart (from_test _ (is_sorted-where_key spot_cmp _ entries (to_test _ in_order))) in
+        let counted : how_many (λ e. e.1 == m) (without_spot (spot_at from old) (put spot_cmp (spot_at to new) n entries)) ≡ how_many (λ e. e.1 == m) (without_spot (spot_at to new) entries) =
+        ap (how_many (λ e. e.1 == m)) (moved ∙ ap (λ es. put spot_cmp (spot_at to new) n (without_spot (spot_at from old) es)) rest)
+        ∙ names_moved (without_entry t to new m) from old to new n ready m ∙ ap (how_many (λ e. e.1 == m)) (sym rest) in
+        let left = dropped now to new m there gives_way fewer (cut ∙ ap (λ k. if k == 0 then remove_entry (is_at (nat_cmp m)) nodes else nodes) counted) kept in
+        subst (λ es. Shows es last next (tree_moved t from old to new n)) (sym moved)
+        (subst (λ u. Shows (put spot_cmp (spot_at to new) n (without_spot (spot_at from old) (without_spot (spot_at to new) entries))) last next (moved_to u from old to new n)) (sym gone)
+        (move_alone from old to new n left ready shown set))
 
-  -- what stands at the new name
-  pub data_at : (m : ℕ) → target_of t (spot_at to new) ≡ Some m → without_there t to new (entry_of t to (Entry new)) ≡ without_entry t to new m
-  data_at m e =
-      let i = lives_there t (spot_at to new) m well e in
-      ap (λ o. without_there t to new (option_and_then (place_at t) o)) e ∙ ap (λ o. without_there t to new (option_map (λ inode. (m, kind_of inode)) o)) i.1
+    over_any : (o : Option ℕ) → target_of t (spot_at to new) ≡ o → fewer ≡ nodes_after o (without_spot (spot_at from old) (put spot_cmp (spot_at to new) n entries)) nodes
+        → ((q : ℕ) (node : rust_node.Node) → node_at fewer q ≡ Some node → node_at nodes q ≡ Some node)
+        → Shows (without_spot (spot_at from old) (put spot_cmp (spot_at to new) n entries)) last next (tree_moved t from old to new n)
+    over_any None there cut kept = over_nothing there cut
+    over_any (Some m) there cut kept = over_other m there cut kept
 
-  pub none_at : target_of t (spot_at to new) ≡ None → without_there t to new (entry_of t to (Entry new)) ≡ t
-  none_at e = ap (λ o. without_there t to new (option_and_then (place_at t) o)) e
-
-  pub free_of : (m : ℕ) → target_of t (spot_at to new) ≡ Some m → IsUnentered t m
-  free_of m e = unentered t m well (subst (λ o. IfSome o (λ k. IsTrue (not (is_full_directory t k)))) e can.gives_way)
-
-  ready_by : (o : Option ℕ) → target_of t (spot_at to new) ≡ o → IsReady (without_there t to new (entry_of t to (Entry new))) from old to new n
-  ready_by None e = subst (λ u. IsReady u from old to new n) (sym (none_at e))
-      (ready_alone t from old to new (n, kind_of inode.0) well source can.directory named not_above (ap (option_and_then (place_at t)) e))
-  ready_by (Some m) e =
-      let i = lives_there t (spot_at to new) m well e in
-      subst (λ u. IsReady u from old to new n) (sym (data_at m e))
-      (ready_after t from old to new (n, kind_of inode.0) well source can.directory named not_above (m, kind_of i.0) e (free_of m e) (λ same. can.other (e ∙ ap (λ k. Some k) (sym same))))
-
-  pub ready : IsReady (without_there t to new (entry_of t to (Entry new))) from old to new n
-  ready = ready_by (target_of t (spot_at to new)) refl
-
--- a directory with another parent
-new_parent : (to up : ℕ) (o : Option rust_node.Node) → option_map (with_parent to) o ≡ Some (kinds.Dir up) → up ≡ to
-new_parent to up None e = cc
-new_parent to up (Some (kinds.Dir old)) e = cc
-new_parent to up (Some kinds.File) e = cc
-new_parent to up (Some (kinds.Link text)) e = cc
-
-module _ (entries : List (Vec ℕ × ℕ)) (nodes : List (ℕ × rust_node.Node)) (next : ℕ) (sound : IsSound entries nodes next) (from : ℕ) (old : List ℕ) (to : ℕ) (new : List ℕ) (n : ℕ)
-    (fits_from : from < 2 ^ 64) (fits_to : to < 2 ^ 64) (named : IsTrue (is_name new)) (k : List ℕ) (k_spelled : k ≡ key_of (spot_at from old))
-    (found : Some n ≡ lookup (is_at (λ (e : Vec ℕ). slice_cmp nat_cmp k e.items)) entries) (can : CanStandAt (tree_in entries nodes next) to new n)
-    (key : Vec ℕ) (spelled : key.items ≡ key_of (spot_at to new)) (replaced : Option ℕ) (was : replaced ≡ lookup (is_at (λ (e : Vec ℕ). slice_cmp nat_cmp key.items e.items)) entries)
-    (more : List (Vec ℕ × ℕ)) (entered : more ≡ insert_entry (λ (x y : Vec ℕ). slice_cmp nat_cmp x.items y.items) entries key n)
-    (less : List (Vec ℕ × ℕ)) (taken : less ≡ remove_entry (is_at (λ (e : Vec ℕ). slice_cmp nat_cmp k e.items)) more)
-    (fewer : List (ℕ × rust_node.Node)) (cut : fewer ≡ nodes_after replaced less nodes) (kept : (q : ℕ) (node : rust_node.Node) → node_at fewer q ≡ Some node → node_at nodes q ≡ Some node)
-    (last : List (ℕ × rust_node.Node)) (shown : map inode_shown last ≡ map inode_shown fewer)
-    (set : (q : ℕ) → node_at last q ≡ (if q == n then option_map (with_parent to) (node_at fewer q) else node_at fewer q)) where
-  abbrev pub t : Tree
-  t = tree_in entries nodes next
-
-  well : IsWellFormed t
-  well = sound.well
-
-  leads : target_of t (spot_at from old) ≡ Some n
-  leads = sym (found ∙ target_found entries sound.keys (spot_at from old) fits_from nodes next k k_spelled)
-
-  at_new : target_of t (spot_at to new) ≡ replaced
-  at_new = sym (was ∙ target_found entries sound.keys (spot_at to new) fits_to nodes next key.items spelled)
-
-  ready_now : IsReady (w t well from old to new n leads named can) from old to new n
-  ready_now = ready t well from old to new n leads named can
-
-  abbrev pub u : Tree
-  u = tree_moved t from old to new n
-
-  put_more : map entry_shown more ≡ put spot_cmp (spot_at to new) n t.entries
-  put_more = ap (map entry_shown) entered ∙ entries_put entries sound.keys (spot_at to new) fits_to key n spelled
-
-  sorted_more : IsTrue (is_sorted spot_cmp (map entry_shown more))
-  sorted_more = subst (λ es. IsTrue (is_sorted spot_cmp es)) (sym put_more) (from_test _ (is_sorted-put spot_cmp spots_total (spot_at to new) n t.entries (to_test _ well.entries_in_order)))
-
-  keys_more : AllByRecursion (λ e. IsKey e.0.items) more
-  keys_more = subst (λ m. AllByRecursion (λ e. IsKey e.0.items) m) (sym entered) (keys_put entries sound.keys (spot_at to new) fits_to key n spelled)
-
-  sorted_over : IsTrue (is_sorted spot_cmp (without_spot (spot_at to new) t.entries))
-  sorted_over = from_test _ (is_sorted-where_key spot_cmp _ t.entries (to_test _ well.entries_in_order))
-
-  entries_by : (o : Option ℕ) → target_of t (spot_at to new) ≡ o → without_spot (spot_at from old) (put spot_cmp (spot_at to new) n t.entries) ≡ u.entries
-  entries_by None e =
-      moved_alone (spot_at from old) (spot_at to new) n t.entries well.entries_in_order (spots_apart t well from old to new n leads named can)
-      ∙ ap (λ (v : Tree). put spot_cmp (spot_at to new) n (without_spot (spot_at from old) v.entries)) (sym (none_at t well from old to new n leads named can e))
-  entries_by (Some m) e =
-      moved_over (spot_at from old) (spot_at to new) n t.entries well.entries_in_order (spots_apart t well from old to new n leads named can) sorted_over
-      ∙ ap (λ es. put spot_cmp (spot_at to new) n (without_spot (spot_at from old) es)) (sym (either_left (λ v. v.entries ≡ without_spot (spot_at to new) t.entries) t to new m refl refl))
-      ∙ ap (λ (v : Tree). put spot_cmp (spot_at to new) n (without_spot (spot_at from old) v.entries)) (sym (data_at t well from old to new n leads named can m e))
-
-  entries_moved : map entry_shown less ≡ u.entries
-  entries_moved =
-      ap (map entry_shown) taken ∙ entries_without more keys_more (spot_at from old) fits_from k k_spelled sorted_more ∙ ap (without_spot (spot_at from old)) put_more ∙ entries_by replaced at_new
-
-  -- as many names are left of what was replaced
-  counts : (m : ℕ) → target_of t (spot_at to new) ≡ Some m → how_many (λ e. e.1 == m) less ≡ names_of (left_of t to new t.inodes) m
-  counts m e =
-      sym (how_many-map (λ x. x.1 == m) entry_shown less) ∙ ap (how_many (λ x. x.1 == m)) entries_moved
-      ∙ names_moved (w t well from old to new n leads named can) from old to new n ready_now m
-      ∙ ap (λ (v : Tree). names_of v m) (data_at t well from old to new n leads named can m e)
-      ∙ either_left (λ v. names_of v m ≡ names_of (left_of t to new t.inodes) m) t to new m refl refl
-
-  inodes_last : (m : ℕ) (b : Bool) → map inode_shown (if b then remove_entry (is_at (nat_cmp m)) nodes else nodes) ≡ (if b then left_of t to new (without_number m t.inodes) else left_of t to new t.inodes).inodes
-  inodes_last m true = nodes_without m nodes entries next well
-  inodes_last m false = refl
-
-  inodes_by : (o : Option ℕ) → target_of t (spot_at to new) ≡ o → map inode_shown (nodes_after o less nodes) ≡ u.inodes
-  inodes_by None e = ap (λ (v : Tree). v.inodes) (sym (none_at t well from old to new n leads named can e))
-  inodes_by (Some m) e =
-      inodes_last m (how_many (λ x. x.1 == m) less == 0)
-      ∙ ap (λ c. (if c == 0 then left_of t to new (without_number m t.inodes) else left_of t to new t.inodes).inodes) (counts m e)
-      ∙ ap (λ (v : Tree). v.inodes) (sym (data_at t well from old to new n leads named can m e))
-
-  inodes_moved : map inode_shown last ≡ u.inodes
-  inodes_moved = shown ∙ ap (map inode_shown) cut ∙ inodes_by replaced at_new
-
-  next_by : (o : Option ℕ) → target_of t (spot_at to new) ≡ o → next ≡ u.next
-  next_by None e = ap (λ (v : Tree). v.next) (sym (none_at t well from old to new n leads named can e))
-  next_by (Some m) e = either_left (λ v. next ≡ v.next) t to new m refl refl ∙ ap (λ (v : Tree). v.next) (sym (data_at t well from old to new n leads named can m e))
-
-  pub tree_is : tree_in less last next ≡ u
-  tree_is = λ i. record { entries = entries_moved i; inodes = inodes_moved i; next = next_by replaced at_new i }
-
-  has_name : n ≢ 1
-  has_name same =
-      let counted : how_many (λ (x : Spot × ℕ). x.1 == n) (without_spot (spot_at from old) t.entries) + cond (n == n) 1 0 ≡ names_of t n =
-      count-take spot_cmp spots_total (spot_at from old) (λ (v : ℕ). v == n) n t.entries (to_test _ well.entries_in_order) leads in
-      let one : how_many (λ (x : Spot × ℕ). x.1 == n) (without_spot (spot_at from old) t.entries) + 1 ≡ names_of t n = sym (ap (λ b. how_many (λ (x : Spot × ℕ). x.1 == n) (without_spot (spot_at from old) t.entries) + cond b 1 0) (same_test n)) ∙ counted in
-      let none : names_of t n ≡ 0 = ap (names_of t) same ∙ well.no_entry_leads_to_root in
-      absurd (omega arith)
-
-  single : (q : ℕ) → inode_of u q ≡ Some Directory → q ≢ 1 → names_of (w t well from old to new n leads named can) q ≡ 1
-  single q live other = let all = ready_now.well in let lives = all.inodes q Directory live in lives.reached.0 other
-
-  -- a directory that is left is another than what was replaced
-  other_directory : (m q up : ℕ) → target_of t (spot_at to new) ≡ Some m → inode_of u q ≡ Some Directory → node_at nodes q ≡ Some (kinds.Dir up) → m ≢ q
-  other_directory m q up e live before same =
-      let free = free_of t well from old to new n leads named can m e in
-      let lived = well.inodes q Directory (shown_as entries nodes next q (kinds.Dir up) before) in
-      let not_one : q ≢ 1 = λ one. not_root t to new m well e free t.inodes (same ∙ one) in
-      let was_one : names_of t m ≡ 1 = ap (names_of t) same ∙ lived.reached.0 not_one in
-      let is_one : names_of (w t well from old to new n leads named can) m ≡ 1 = ap (names_of (w t well from old to new n leads named can)) same ∙ single q live not_one in
-      let left = one_less t to new m well e free t.inodes in
-      let same_left : names_of (w t well from old to new n leads named can) m ≡ names_of (left_of t to new t.inodes) m =
-      ap (λ (v : Tree). names_of v m) (data_at t well from old to new n leads named can m e) ∙ either_left (λ v. names_of v m ≡ names_of (left_of t to new t.inodes) m) t to new m refl refl in
-      absurd (omega arith)
-
-  holder_by : (q up : ℕ) → inode_of u q ≡ Some Directory → node_at nodes q ≡ Some (kinds.Dir up) → (o : Option ℕ) → target_of t (spot_at to new) ≡ o → holder_of (w t well from old to new n leads named can) q ≡ holder_of t q
-  holder_by q up live before None e = ap (λ (v : Tree). holder_of v q) (none_at t well from old to new n leads named can e)
-  holder_by q up live before (Some m) e =
-      let free = free_of t well from old to new n leads named can m e in
-      let other = other_directory m q up e live before in
-      ap (λ (v : Tree). holder_of v q) (data_at t well from old to new n leads named can m e)
-      ∙ either_left (λ v. holder_of v q ≡ holder_of t q) t to new m (holder_left t to new m well e free (without_number m t.inodes) q other) (holder_left t to new m well e free t.inodes q other)
-
-  parents_moved : (q up : ℕ) → node_at last q ≡ Some (kinds.Dir up) → parent_in (tree_in less last next) q ≡ Some up
-  parents_moved q up e =
-      let live : inode_of u q ≡ Some Directory = ap (λ (v : Tree). inode_of v q) (sym tree_is) ∙ shown_as less last next q (kinds.Dir up) e in
-      ap (λ (v : Tree). parent_in v q) tree_is
-      ∙ elim (q == n) as (λ b. (q == n) ≡ b → (if b then option_map (with_parent to) (node_at fewer q) else node_at fewer q) ≡ Some (kinds.Dir up) → parent_in u q ≡ Some up) [
-        | true ↦ λ is got.
-            let here : q ≡ n = decided q n is in
-            let holds = holder_moved (w t well from old to new n leads named can) from old to new n ready_now (ap (names_of (w t well from old to new n leads named can)) (sym here) ∙ single q live (λ one. has_name (sym here ∙ one))) in
-            ap (parent_in u) here ∙ ap (λ b. cond b (Some 1) (holder_of u n)) (other_test n 1 has_name) ∙ holds ∙ ap (λ m. Some m) (sym (new_parent to up (node_at fewer q) got))
-        | false ↦ λ is got.
-            let before = kept q (kinds.Dir up) got in
-            ap (cond (q == 1) (Some 1)) (holder_else (w t well from old to new n leads named can) from old to new n ready_now q (λ same. decided_not q n is (sym same)) ∙ holder_by q up live before replaced at_new)
-            ∙ sound.parents q up before
-      ] refl (sym (set q) ∙ e)
-
-  pub sound_moved : IsSound less last next
-  sound_moved = record {
-    keys = subst (λ l. AllByRecursion (λ e. IsKey e.0.items) l) (sym taken) (keys_remove (λ (e : Vec ℕ). IsKey e.items) (is_at (λ (e : Vec ℕ). slice_cmp nat_cmp k e.items)) more keys_more);
-    well = subst IsWellFormed (sym tree_is) (moved-IsWellFormed (w t well from old to new n leads named can) from old to new n ready_now);
-    parents = parents_moved;
-  }
-
--- both maps after the move, on the tree that they stood for
-pub moved : (entries : List (Vec ℕ × ℕ)) (nodes : List (ℕ × rust_node.Node)) (next : ℕ) (sound : IsSound entries nodes next) (before : Tree) (view_is : tree_in entries nodes next ≡ before)
-    (from : ℕ) (old : List ℕ) (to : ℕ) (new : List ℕ) (fits_from : from < 2 ^ 64) (fits_to : to < 2 ^ 64) (named : IsTrue (is_name new)) (k : List ℕ) (k_spelled : k ≡ key_of (spot_at from old))
-    (can : CanMove before from old to new) (n : ℕ) (found : Some n ≡ lookup (is_at (λ (e : Vec ℕ). slice_cmp nat_cmp k e.items)) entries)
-    (key : Vec ℕ) (spelled : key.items ≡ key_of (spot_at to new)) (replaced : Option ℕ) (was : replaced ≡ lookup (is_at (λ (e : Vec ℕ). slice_cmp nat_cmp key.items e.items)) entries)
-    (more : List (Vec ℕ × ℕ)) (entered : more ≡ insert_entry (λ (x y : Vec ℕ). slice_cmp nat_cmp x.items y.items) entries key n)
-    (less : List (Vec ℕ × ℕ)) (taken : less ≡ remove_entry (is_at (λ (e : Vec ℕ). slice_cmp nat_cmp k e.items)) more)
-    (fewer : List (ℕ × rust_node.Node)) (cut : fewer ≡ nodes_after replaced less nodes) (kept : (q : ℕ) (node : rust_node.Node) → node_at fewer q ≡ Some node → node_at nodes q ≡ Some node)
-    (last : List (ℕ × rust_node.Node)) (shown : map inode_shown last ≡ map inode_shown fewer)
-    (set : (q : ℕ) → node_at last q ≡ (if q == n then option_map (with_parent to) (node_at fewer q) else node_at fewer q))
-    → IsSound less last next × IfSome (target_of before (spot_at from old)) (λ m. tree_in less last next ≡ tree_moved before from old to new m)
-moved entries nodes next sound before view_is from old to new fits_from fits_to named k k_spelled can n found key spelled replaced was more entered less taken fewer cut kept last shown set =
-    let leads : target_of before (spot_at from old) ≡ Some n =
-    ap (λ (v : Tree). target_of v (spot_at from old)) (sym view_is) ∙ sym (found ∙ target_found entries sound.keys (spot_at from old) fits_from nodes next k k_spelled) in
-    let may : CanStandAt before to new n = subst (λ o. IsSomeAnd o (CanStandAt before to new)) leads can in
-    let here : CanStandAt (tree_in entries nodes next) to new n = subst (λ (v : Tree). CanStandAt v to new n) (sym view_is) may in (
-      sound_moved entries nodes next sound from old to new n fits_from fits_to named k k_spelled found here key spelled replaced was more entered less taken fewer cut kept last shown set,
-      subst (λ o. IfSome o (λ m. tree_in less last next ≡ tree_moved before from old to new m)) (sym leads)
-          (tree_is entries nodes next sound from old to new n fits_from fits_to named k k_spelled found here key spelled replaced was more entered less taken fewer cut kept last shown set
-          ∙ ap (λ (v : Tree). tree_moved v from old to new n) view_is),
+-- with what the steps of the code answered
+pub after_move : {entries more less : List (Spot × ℕ)} {nodes fewer last : List (ℕ × rust_node.Node)} {next : ℕ} {t : Tree} {lost : Option ℕ} (from : ℕ) (old : List ℕ) (to : ℕ) (new : List ℕ) (n : ℕ)
+    → Shows entries nodes next t → IsTrue (is_name new) → CanMove t from old to new → Some n ≡ find spot_cmp (spot_at from old) entries
+    → more ≡ put spot_cmp (spot_at to new) n entries → lost ≡ find spot_cmp (spot_at to new) entries → less ≡ without_spot (spot_at from old) more
+    → fewer ≡ nodes_after lost less nodes → ((q : ℕ) (node : rust_node.Node) → node_at fewer q ≡ Some node → node_at nodes q ≡ Some node) → map inode_shown last ≡ map inode_shown fewer
+    → ((q : ℕ) → node_at last q ≡ (if q == n then option_map (with_parent to) (node_at fewer q) else node_at fewer q))
+    → (target_of t (spot_at from old) ≡ Some n) × Shows less last next (tree_moved t from old to new n)
+after_move {nodes = nodes} {last = last} {next = next} {t = t} {lost = lost} from old to new n now named can found entered was taken cut kept shown set =
+    let at : (spot : Spot) → target_of t spot ≡ find spot_cmp spot _ = λ spot. ap (λ (u : Tree). target_of u spot) (sym now.shows) in
+    let leads = at (spot_at from old) ∙ sym found in
+    let may : CanStandAt t to new n = subst (λ o. IsSomeAnd o (CanStandAt t to new)) leads can in
+    let less_is = taken ∙ ap (without_spot (spot_at from old)) entered in (
+      leads,
+      subst (λ es. Shows es last next (tree_moved t from old to new n)) (sym less_is)
+          (over_any from old to new now named n leads may shown set lost (at (spot_at to new) ∙ sym was) (cut ∙ ap (λ es. nodes_after lost es nodes) less_is) kept),
     )

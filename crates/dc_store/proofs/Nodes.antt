@@ -1,21 +1,18 @@
--- What a node says of the tree that its maps stand for.
-use Rattle.dc_names.specs.Paths.{fault_of, path_in}
-use Rattle.dc_names.specs.declared.fault.TextFault.{TextFault}
-use Rattle.dc_plain.specs.Trees.Inode.{Symbolic}
-use Rattle.std.proofs.Common.{Ok, Err, is_ok, ◌≡◌, ℕ, ◌==◌, List, [], ◌∷◌, Bool, true, false, not, cond, if◌then◌else◌, Option, Some, None, Bor, option_map, option_and_then, IfSome, IsTrue, find, refl, ap, sym, ◌∙◌, subst}
-use Rattle.std.specs.Global.{Vec}
+-- What a node says of the tree that entries and nodes stand for.
+use Rattle.std.proofs.Common.{Ok, Err, is_ok, ◌≡◌, ℕ, ◌==◌, List, [], ◌∷◌, Bool, true, false, not, cond, if◌then◌else◌, map, Option, Some, None, Bor, option_map, option_and_then, IfSome, IsTrue, find, refl, ap, sym, ◌∙◌, subst}
+use Rattle.std.specs.List.{AllByRecursion}
+use Rattle.std.specs.Map.{lookup, set_value}
 use Rattle.std.specs.Option.{option_copied}
 use Rattle.std.specs.Ordering.{nat_cmp}
-use Rattle.std.proofs.Common.{map, []}
-use Rattle.std.specs.Map.{lookup, set_value}
-use Rattle.dc_store.specs.Maps.{inode_shown, with_parent}
-use Rattle.std.specs.List.{AllByRecursion}
+use Rattle.dc_names.specs.Paths.{fault_of, path_in}
+use Rattle.dc_names.specs.declared.fault.TextFault.{TextFault}
 use Rattle.dc_plain.proofs.Made.{is_directory_in}
 use Rattle.dc_plain.specs.Facts.{Place}
 use Rattle.dc_plain.specs.IsWellFormed.{Stands}
 use Rattle.dc_plain.specs.Resolution.{root}
 use Rattle.dc_plain.specs.Trees.{Tree, Inode, Spot, inode_of, place_at, holder_of, kind_of, is_live_directory, is_directory_inode}
-use Rattle.dc_store.specs.Maps.{IsNodeAt, node_shown, tree_in, node_at, IsSound}
+use Rattle.dc_plain.specs.Trees.Inode.{Symbolic}
+use Rattle.dc_store.specs.Maps.{IsNodeAt, inode_shown, node_shown, tree_in, node_at, with_parent, IsSound}
 use Rattle.dc_store.specs.declared.node.Node as rust_node
 use Rattle.dc_store.specs.declared.node.Node.TheVariants as kinds
 use Rattle.dc_store.proofs.Maps.{lookup_shown, all_of_each}
@@ -37,7 +34,7 @@ held_lives t p (x ∷ xs) all up e =
       | false ↦ λ is. held_lives t p xs all.1 up is
     ] e
 
-module _ (entries : List (Vec ℕ × ℕ)) (nodes : List (ℕ × rust_node.Node)) (next : ℕ) (n : ℕ) where
+module _ (entries : List (Spot × ℕ)) (nodes : List (ℕ × rust_node.Node)) (next : ℕ) (n : ℕ) where
   pub inode_shown_at : option_map node_shown (node_at nodes n) ≡ inode_of (tree_in entries nodes next) n
   inode_shown_at = lookup_shown nat_cmp (λ k. k) node_shown (nat_cmp n) n nodes (all_of_each _ (λ e. refl) nodes)
 

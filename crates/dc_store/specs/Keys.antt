@@ -1,9 +1,13 @@
 -- The bytes that an entry is kept under: its directory's number in 8 bytes, the highest first, and its name.
-use Rattle.std.specs.Prelude.{◌≡◌, ℕ, ◌<◌, ◌^◌, List, [], ◌∷◌, ◌++◌, take, drop, Option, Some, None, if◌then◌else◌}
+-- Entries under their keys, as a list by their directories and names.
+use Rattle.std.specs.Prelude.{◌≡◌, ℕ, ◌<◌, ◌^◌, ◌==◌, List, [], ◌∷◌, ◌++◌, take, drop, map, filter, Option, Some, None, IsTrue, if◌then◌else◌}
+use Rattle.std.specs.FinMap.Entries.{is_sorted}
+use Rattle.std.specs.Global.{Vec}
 use Rattle.std.specs.Int.{w64, to_be_bytes, from_be_bytes}
+use Rattle.std.specs.List.{AllByRecursion}
 use Rattle.std.specs.Option.{option_to_list}
 use Rattle.std.specs.Str.{bytes_eq}
-use Rattle.dc_plain.specs.Trees.{Spot}
+use Rattle.dc_plain.specs.Trees.{Spot, spot_cmp}
 
 unfoldable pub number_bytes : ℕ → List ℕ
 number_bytes n = to_be_bytes w64 n
@@ -30,3 +34,15 @@ names_held d (key ∷ keys) = option_to_list (name_held d key) ++ names_held d k
 pub record IsKey (key : List ℕ) : Type 0 where
   pub spelled : key_of (spot_in key) ≡ key
   pub fits : (spot_in key).directory < 2 ^ 64
+
+abbrev pub entry_shown : Vec ℕ × ℕ → Spot × ℕ
+entry_shown e = (spot_in e.0.items, e.1)
+
+-- entries stand under keys, in the order of their spots
+pub record AreKept (entries : List (Vec ℕ × ℕ)) : Type 0 where
+  pub keys : AllByRecursion (λ e. IsKey e.0.items) entries
+  pub sorted : IsTrue (is_sorted spot_cmp (map entry_shown entries))
+
+-- the names in a directory, by their bytes
+abbrev pub names_by : ℕ → List (Spot × ℕ) → List (List ℕ)
+names_by d entries = map (λ e. e.0.name) (filter (λ e. e.0.directory == d) entries)

@@ -1,16 +1,13 @@
--- The plain tree that two ordered maps stand for.
+-- The plain tree that entries and nodes stand for.
 use Rattle.std.specs.Prelude.{◌≡◌, ⊤, ℕ, option_map, IfSome, IsTrue, ◌==◌, List, map, Option, Some, None, if◌then◌else◌}
 use Rattle.std.specs.BTreeMap.{is_at}
-use Rattle.std.specs.List.{AllByRecursion}
 use Rattle.std.specs.Map.{lookup, remove_entry}
 use Rattle.std.specs.Ordering.{nat_cmp}
-use Rattle.std.specs.Global.{Vec}
 use Rattle.dc_names.specs.Paths.{fault_of}
 use Rattle.dc_plain.specs.Trees.{Tree, Inode, Spot, how_many, holder_of, entry_of, text_in, is_live_directory}
 use Rattle.dc_plain.specs.Facts.Label.{Parent}
 use Rattle.dc_plain.specs.Trees.Inode.{Directory, Regular, Symbolic}
 use Rattle.dc_plain.specs.IsWellFormed.{IsWellFormed}
-use Rattle.dc_store.specs.Keys.{spot_in, IsKey}
 use Rattle.dc_store.specs.declared.node.Node as rust_node
 use Rattle.dc_store.specs.declared.node.Node.TheVariants as kinds
 
@@ -32,21 +29,18 @@ CanKeep d (kinds.Dir up) = up ≡ d
 CanKeep d kinds.File = ⊤
 CanKeep d (kinds.Link text) = fault_of text.items ≡ None
 
-abbrev pub entry_shown : Vec ℕ × ℕ → Spot × ℕ
-entry_shown e = (spot_in e.0.items, e.1)
-
 abbrev pub inode_shown : ℕ × rust_node.Node → ℕ × Inode
 inode_shown e = (e.0, node_shown e.1)
 
--- the tree of the entries under their keys, the nodes under their numbers, and the next number
-abbrev pub tree_in : List (Vec ℕ × ℕ) → List (ℕ × rust_node.Node) → ℕ → Tree
-tree_in entries nodes next = record { entries = map entry_shown entries; inodes = map inode_shown nodes; next = next }
+-- the tree of the entries, the nodes under their numbers, and the next number
+abbrev pub tree_in : List (Spot × ℕ) → List (ℕ × rust_node.Node) → ℕ → Tree
+tree_in entries nodes next = record { entries = entries; inodes = map inode_shown nodes; next = next }
 
 abbrev pub node_at : List (ℕ × rust_node.Node) → ℕ → Option rust_node.Node
 node_at nodes n = lookup (is_at (nat_cmp n)) nodes
 
 -- without the node of what was replaced, where no entry leads to it
-abbrev pub nodes_after : Option ℕ → List (Vec ℕ × ℕ) → List (ℕ × rust_node.Node) → List (ℕ × rust_node.Node)
+abbrev pub nodes_after : Option ℕ → List (Spot × ℕ) → List (ℕ × rust_node.Node) → List (ℕ × rust_node.Node)
 nodes_after None entries nodes = nodes
 nodes_after (Some n) entries nodes = if how_many (λ e. e.1 == n) entries == 0 then remove_entry (is_at (nat_cmp n)) nodes else nodes
 
@@ -66,8 +60,7 @@ pub record IsNodeAt (t : Tree) (n : ℕ) (node : rust_node.Node) : Type 0 where
   pub directory : IfSome (parent_kept node) (λ up. IsTrue (is_live_directory t up))
   pub path : IfSome (text_in (node_shown node)) (λ text. fault_of text ≡ None)
 
--- the entries stand under keys, the tree is well formed, and each directory keeps its parent
-pub record IsSound (entries : List (Vec ℕ × ℕ)) (nodes : List (ℕ × rust_node.Node)) (next : ℕ) : Type 0 where
-  pub keys : AllByRecursion (λ e. IsKey e.0.items) entries
+-- the tree is well formed, and each directory keeps its parent
+pub record IsSound (entries : List (Spot × ℕ)) (nodes : List (ℕ × rust_node.Node)) (next : ℕ) : Type 0 where
   pub well : IsWellFormed (tree_in entries nodes next)
   pub parents : (n up : ℕ) → node_at nodes n ≡ Some (kinds.Dir up) → parent_in (tree_in entries nodes next) n ≡ Some up

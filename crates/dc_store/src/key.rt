@@ -1,8 +1,9 @@
-ghost use Rattle.std.specs.Prelude.{◌≡◌, ℕ, ◌+◌, ◌≤◌, List, ◌++◌, take, drop, length};
-ghost use Rattle.dc_store.specs.Keys.{key_of};
+ghost use Rattle.std.specs.Prelude.{◌≡◌, ℕ, ◌+◌, ◌≤◌, List, ◌++◌, take, drop, length, is_some, option_map, IfOk};
+ghost use Rattle.dc_store.specs.Keys.{key_of, name_held};
 ghost use Rattle.dc_store.specs.Spots.{spot_at};
 
-use dc_names::Name;
+use dc_names::{Name, NoMemory};
+use std::alloc::Global;
 use std::marker::Model;
 
 /// The bytes that an entry is kept under. Making them takes no memory.
@@ -40,6 +41,12 @@ impl Key {
     {
         &self.bytes[..self.len]
     }
+
+    pub fn to_vec(&self, alloc: Global) -> Result<Vec<u8>, NoMemory>
+        ensures { IfOk result (λ bytes. bytes.items ≡ self.now) }
+    {
+        Ok(self.as_slice().to_vec(alloc)?)
+    }
 }
 
 /// Writes a part over the bytes from a place on.
@@ -48,4 +55,18 @@ fn put_at(bytes: &mut [u8], start: usize, part: &[u8])
     ensures { bytes.new ≡ take start bytes.old ++ part.now ++ drop (start + length part.now) bytes.old }
 {
     bytes[start..start + part.len()].copy_from_slice(part);
+}
+
+/// The name of a key, where it is for an entry in a directory.
+pub fn name_in(key: &[u8], dir: u64) -> Option<&[u8]>
+    ensures { option_map (λ name. name.now) result ≡ name_held dir key.now }
+{
+    key.strip_prefix(&dir.to_be_bytes())
+}
+
+/// Whether a key is for an entry in a directory.
+pub fn stands_in(key: &[u8], dir: u64) -> bool
+    ensures { result ≡ is_some (name_held dir key.now) }
+{
+    name_in(key, dir).is_some()
 }

@@ -1,7 +1,7 @@
 //! Stores of inodes and entries: each stands for a plain tree.
 #![tactic(auto)]
 
-mod counts;
+mod entries;
 mod key;
 mod map_store;
 mod node;

@@ -7,9 +7,8 @@ ghost use Rattle.dc_store.specs.Maps.{tree_in, node_shown, IsNodeAt, CanKeep, Is
 ghost use Rattle.dc_store.specs.Moved.{CanMove, tree_moved};
 ghost use Rattle.dc_store.specs.Spots.{spot_at};
 
-use crate::counts::{drop_replaced, drop_unnamed, held, names, names_held};
-use crate::key::Key;
-use crate::node::{Node, set_parent};
+use crate::entries::Entries;
+use crate::node::{Node, drop_unnamed, set_parent};
 use crate::store::{New, Store};
 use dc_names::{Kind, Name, NoMemory};
 use std::alloc::Global;
@@ -19,7 +18,7 @@ use std::marker::Model;
 /// A store in two ordered maps: entries under their keys, and nodes under their numbers.
 #[derive(Drop)]
 pub struct MapStore {
-    entries: BTreeMap<Vec<u8>, u64>,
+    entries: Entries,
     nodes: BTreeMap<u64, Node>,
     next: u64,
 }
@@ -27,9 +26,9 @@ pub struct MapStore {
 impl Model for MapStore {
     ghost Value = { Tree };
 
-    ghost view = { λ s. tree_in s.entries.entries s.nodes.entries s.next };
+    ghost view = { λ s. tree_in s.entries s.nodes.entries s.next };
 
-    ghost invariant = { λ s. IsSound s.entries.entries s.nodes.entries s.next };
+    ghost invariant = { λ s. IsSound s.entries s.nodes.entries s.next };
 }
 
 impl MapStore {
@@ -40,7 +39,7 @@ impl MapStore {
         let mut nodes = BTreeMap::new(alloc);
         nodes.insert(1, Node::Dir(1))?;
         Ok(MapStore {
-            entries: BTreeMap::new(alloc),
+            entries: Entries::new(alloc),
             nodes,
             next: 2,
         })
@@ -55,7 +54,8 @@ impl MapStore {
         self.nodes.get(&number)
     }
 
-    /// Adds a node under the next number, and an entry for it. The node goes again where the entry finds no memory.
+    /// Adds a node under the next number, and an entry for it. The node goes again where the entry
+    /// finds no memory.
     fn make(&mut self, alloc: Global, dir: u64, name: Name<'_>, node: Node) -> Result<u64, NoMemory>
         requires directory { IsTrue (is_live_directory self.old dir) }
         requires free { target_of self.old (spot_at dir name.bytes.now) ≡ None }
@@ -65,12 +65,11 @@ impl MapStore {
         ensures number { IfOk result (λ number. number ≡ self.old.next) }
         ensures err { OnErr result (self.new ≡ self.old) }
     {
-        let key = Key::new(dir, name).as_slice().to_vec(alloc)?;
         let number = self.next;
         let Ok(_) = self.nodes.insert(number, node) else {
             return Err(NoMemory);
         };
-        let Ok(_) = self.entries.insert(key, number) else {
+        let Ok(_) = self.entries.insert(alloc, dir, name, number) else {
             self.nodes.remove(&number);
             return Err(NoMemory);
         };
@@ -86,12 +85,11 @@ impl MapStore {
         ensures ok { OnOk result (self.new ≡ with_entry_for self.old dir name.entry.bytes.now number) }
         ensures err { OnErr result (self.new ≡ self.old) }
     {
-        let key = Key::new(dir, name).as_slice().to_vec(alloc)?;
-        self.entries.insert(key, number)?;
+        self.entries.insert(alloc, dir, name, number)?;
         Ok(())
     }
 
-    /// Moves an entry. The new key is what can fail: put in, it finds or makes its place, and the rest takes no memory.
+    /// Moves an entry. To put it in is the one step that can fail, and comes first.
     fn relocate(
         &mut self,
         alloc: Global,
@@ -105,15 +103,12 @@ impl MapStore {
             (λ n. self.new ≡ tree_moved self.old from old.entry.bytes.now to new.entry.bytes.now n)) }
         ensures err { OnErr result (self.new ≡ self.old) }
     {
-        let key = Key::new(to, new).as_slice().to_vec(alloc)?;
-        let source = Key::new(from, old);
-        let source = source.as_slice();
-        let Some(number) = self.entries.get(source).copied() else {
-            return Ok(());
+        let Some(number) = self.entries.get(from, old) else {
+            unreachable!();
         };
-        let replaced = self.entries.insert(key, number)?;
-        self.entries.remove(source);
-        drop_replaced(&mut self.nodes, &self.entries, replaced);
+        let replaced = self.entries.insert(alloc, to, new, number)?;
+        self.entries.remove(from, old);
+        drop_unnamed(&mut self.nodes, &self.entries, replaced);
         set_parent(&mut self.nodes, number, to);
         Ok(())
     }
@@ -123,8 +118,7 @@ impl Store for MapStore {
     ghost tree = { λ store. store };
 
     fn find(&self, dir: u64, name: Name<'_>) -> Option<u64> {
-        let key = Key::new(dir, name);
-        self.entries.get(key.as_slice()).copied()
+        self.entries.get(dir, name)
     }
 
     fn kind(&self, number: u64) -> Option<Kind> {
@@ -150,15 +144,15 @@ impl Store for MapStore {
 
     fn count(&self, number: u64) -> u64 {
         match self.kind(number) {
-            Some(Kind::Dir) => held(&self.entries, number),
-            Some(Kind::File) => names(&self.entries, number),
-            Some(Kind::Link) => names(&self.entries, number),
+            Some(Kind::Dir) => self.entries.held(number),
+            Some(Kind::File) => self.entries.names(number),
+            Some(Kind::Link) => self.entries.names(number),
             None => 0,
         }
     }
 
     fn list(&self, alloc: Global, dir: u64) -> Result<Vec<Vec<u8>>, NoMemory> {
-        names_held(alloc, &self.entries, dir)
+        self.entries.list(alloc, dir)
     }
 
     fn add(
@@ -183,11 +177,8 @@ impl Store for MapStore {
     }
 
     fn drop_entry(&mut self, dir: u64, name: Name<'_>) {
-        let key = Key::new(dir, name);
-        let Some(number) = self.entries.remove(key.as_slice()) else {
-            return;
-        };
-        drop_unnamed(&mut self.nodes, &self.entries, number);
+        let lost = self.entries.remove(dir, name);
+        drop_unnamed(&mut self.nodes, &self.entries, lost);
     }
 
     fn move_entry(

@@ -1,7 +1,9 @@
-ghost use Rattle.std.specs.Prelude.{◌≡◌, ℕ, ◌==◌, map, option_map, if◌then◌else◌};
+ghost use Rattle.std.specs.Prelude.{◌≡◌, ℕ, ◌==◌, map, option_map, Some, if◌then◌else◌};
 ghost use Rattle.dc_plain.specs.Trees.{kind_of, text_in};
-ghost use Rattle.dc_store.specs.Maps.{inode_shown, node_at, node_shown, parent_kept, with_parent};
+ghost use Rattle.dc_store.specs.Maps.{inode_shown, node_at, node_shown, nodes_after, parent_kept, with_parent};
+ghost use Rattle.dc_store.specs.declared.node.Node as rust_node;
 
+use crate::entries::Entries;
 use dc_names::Kind;
 use std::collections::BTreeMap;
 
@@ -61,5 +63,18 @@ pub fn set_parent(nodes: &mut BTreeMap<u64, Node>, number: u64, parent: u64)
 {
     if let Some(node) = nodes.get_mut(&number) {
         node.set_parent(parent);
+    }
+}
+
+/// Drops the node of what lost an entry, where no entry leads to it any more.
+pub fn drop_unnamed(nodes: &mut BTreeMap<u64, Node>, entries: &Entries, lost: Option<u64>)
+    ensures rest { nodes.new.entries ≡ nodes_after lost entries.now nodes.old.entries }
+    ensures kept { (q : ℕ) (node : rust_node.Node) → node_at nodes.new.entries q ≡ Some node
+        → node_at nodes.old.entries q ≡ Some node }
+{
+    if let Some(number) = lost
+        && entries.names(number) == 0
+    {
+        nodes.remove(&number);
     }
 }

@@ -31,22 +31,24 @@ pub trait Store {
     /// The plain tree that it stands for.
     ghost tree: { Self → Tree };
 
-    /// The number that a name in a directory leads to.
+    /// The number that a name in a directory leads to. `None` where there is no such entry, or no such
+    /// directory.
     fn find(&self, dir: u64, name: Name<'_>) -> Option<u64>
         ensures target { result ≡ target_of (tree self.now) (spot_at dir name.entry.bytes.now) }
         ensures well { IsWellFormed (tree self.now) };
 
-    /// The kind of a live inode.
+    /// The kind of an inode. `None` where nothing lives under the number.
     fn kind(&self, number: u64) -> Option<Kind>
         ensures kind { result ≡ option_map kind_of (inode_of (tree self.now) number) }
         ensures well { IsWellFormed (tree self.now) };
 
-    /// The directory that holds a live directory's entry. The root holds itself.
+    /// The directory that holds a directory's entry. The root holds itself. `None` where no directory
+    /// lives under the number.
     fn parent(&self, number: u64) -> Option<u64>
         ensures parent { result ≡ option_map (λ place. place.0) (entry_of (tree self.now) number Parent) }
         ensures directory { IfSome result (λ up. IsTrue (is_live_directory (tree self.now) up)) };
 
-    /// The text of a live link, which is a path.
+    /// The text of a link, which is a path. `None` where no link lives under the number.
     fn text(&self, number: u64) -> Option<&[u8]>
         ensures text { option_map (λ text. text.now) result ≡ text_of (tree self.now) number }
         ensures path { IfSome result (λ text. fault_of text.now ≡ None) };
@@ -61,16 +63,21 @@ pub trait Store {
         ensures next { result ≡ (tree self.now).next }
         ensures well { IsWellFormed (tree self.now) };
 
-    /// How many names a file or link has, or how many entries stand in a directory. 0 where nothing lives.
+    /// How many names a file or link has, or how many entries stand in a directory. 0 where nothing
+    /// lives under the number.
     fn count(&self, number: u64) -> u64
         ensures count { result ≡ count_of (tree self.now) number }
         ensures well { IsWellFormed (tree self.now) };
 
-    /// The names in a directory, by their bytes. `NoMemory` where memory was refused.
+    /// The names in a directory, by their bytes. None where no directory lives under the number.
+    /// `NoMemory` where memory was refused.
     fn list(&self, alloc: Global, dir: u64) -> Result<Vec<Vec<u8>>, NoMemory>
-        ensures { IfOk result (λ names. map (λ name. name.items) names.items ≡ names_in (tree self.now) dir) };
+        ensures { IfOk result (λ names.
+            map (λ name. name.items) names.items ≡ names_in (tree self.now) dir) };
 
-    /// Adds an entry, with a new inode or for one that lives, and answers the number that it leads to.
+    /// Adds an entry to a live directory, under a name that is free there, and answers the number that
+    /// it leads to: that of a new inode, where the next number is below 2^63 and a link's text is a
+    /// path, or of one that lives, is no directory and has fewer than 65,000 names.
     /// `NoMemory` where memory was refused: then nothing has changed.
     fn add(
         &mut self,
@@ -82,17 +89,21 @@ pub trait Store {
         requires directory { IsTrue (is_live_directory (tree self.old) dir) }
         requires free { target_of (tree self.old) (spot_at dir name.bytes.now) ≡ None }
         requires can { CanAdd (tree self.old) new }
-        ensures ok { OnOk result (tree self.new ≡ tree_added (tree self.old) dir name.entry.bytes.now new.entry) }
+        ensures ok { OnOk result (tree self.new
+            ≡ tree_added (tree self.old) dir name.entry.bytes.now new.entry) }
         ensures number { IfOk result (λ number. number ≡ number_added (tree self.old) new.entry) }
         ensures err { OnErr result (tree self.new ≡ tree self.old) };
 
-    /// Drops an entry, and what it leads to where that was its last name. It takes no memory.
+    /// Drops an entry that is there and leads to no directory in which entries stand, and what it leads
+    /// to where that was its last name. It takes no memory.
     fn drop_entry(&mut self, dir: u64, name: Name<'_>)
         requires { CanDrop (tree self.old) dir name.bytes.now }
         ensures { IfSome (target_of (tree self.old) (spot_at dir name.entry.bytes.now))
             (λ n. tree self.new ≡ without_entry (tree self.old) dir name.entry.bytes.now n) };
 
-    /// Moves an entry to another name, over what stands there.
+    /// Moves an entry that is there to another name, in a live directory that isn't beneath what moves:
+    /// over nothing, or over another inode that is no directory in which entries stand, whose name goes
+    /// and which goes itself where that was its last.
     /// `NoMemory` where memory was refused: then nothing has changed.
     fn move_entry(
         &mut self,
@@ -102,6 +113,7 @@ pub trait Store {
     ) -> Result<(), NoMemory>
         requires { CanMove (tree self.old) old.0 old.1.bytes.now new.0 new.1.bytes.now }
         ensures ok { OnOk result (IfSome (target_of (tree self.old) (spot_at old.entry.0 old.entry.1.bytes.now))
-            (λ n. tree self.new ≡ tree_moved (tree self.old) old.entry.0 old.entry.1.bytes.now new.entry.0 new.entry.1.bytes.now n)) }
+            (λ n. tree self.new ≡ tree_moved (tree self.old) old.entry.0 old.entry.1.bytes.now
+            new.entry.0 new.entry.1.bytes.now n)) }
         ensures err { OnErr result (tree self.new ≡ tree self.old) };
 }

@@ -5,9 +5,9 @@ use Rattle.dc_store.proofs.map_store.MapStore.node.Goals as goal
 
 pub returns-clause-shown : goal.returns-clause-shown
 returns-clause-shown c =
-    node_found c.self.inside.entries.entries c.self.inside.nodes.entries c.self.inside.next c.args.number c.get.result c.get.ensures.value
+    node_found c.self.inside.entries c.self.inside.nodes.entries c.self.inside.next c.args.number c.get.result c.get.ensures.value
     ∙ ap (λ (t : Tree). inode_of t c.args.number) c.self.view_is
 
 pub returns-clause-kept : goal.returns-clause-kept
 returns-clause-kept c =
-    rw (← c.self.view_is) (node_told c.self.inside.entries.entries c.self.inside.nodes.entries c.self.inside.next c.args.number c.self.invariant c.get.result c.get.ensures.value)
+    rw (← c.self.view_is) (node_told c.self.inside.entries c.self.inside.nodes.entries c.self.inside.next c.args.number c.self.invariant c.get.result c.get.ensures.value)

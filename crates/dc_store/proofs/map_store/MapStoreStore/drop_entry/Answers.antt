@@ -1,20 +1,13 @@
-use Rattle.std.proofs.Common.{◌∙◌}
-use Rattle.dc_store.proofs.Dropped.{dropped, nothing_there}
+use Rattle.dc_store.proofs.Dropped.{after_drop, if_some_at}
+use Rattle.dc_store.proofs.Stores.{shows_now, sound_as}
 use Rattle.dc_store.proofs.map_store.MapStoreStore.drop_entry.Goals as goal
 
-pub returns-in_default : goal.returns-in_default
-returns-in_default c =
-    nothing_there c.self.inside.entries.entries c.self.inside.nodes.entries c.self.inside.next c.self.invariant c.args.self.now c.self.view_is c.args.dir c.args.name.bytes.now c.ranges.dir.fits
-    _ (c.as_slice.ensures ∙ c.new-key.ensures) _ c.in_default.ensures.value
-
-pub invariant_of-self-2 : goal.invariant_of-self-2
-invariant_of-self-2 c =
-    let both = dropped c.self.inside.entries.entries c.self.inside.nodes.entries c.self.inside.next c.self.invariant c.args.self.now c.self.view_is c.args.dir c.args.name.bytes.now c.ranges.dir.fits
-    _ (c.as_slice.ensures ∙ c.new-key.ensures) c.requires c.in-Some.number c.in-Some.ensures.value _ c.in-Some.ensures.entries _ c.drop_unnamed.ensures.entries c.drop_unnamed.ensures.kept in
-    both.0
+pub invariant_of-self : goal.invariant_of-self
+invariant_of-self c =
+    let (n, leads, now) = after_drop _ _ (shows_now c.self.invariant c.self.view_is) c.requires c.remove-lost.ensures.rest c.remove-lost.ensures.before c.drop_unnamed.ensures.rest c.drop_unnamed.ensures.kept in
+    sound_as now
 
 pub returns : goal.returns
 returns c =
-    let both = dropped c.self.inside.entries.entries c.self.inside.nodes.entries c.self.inside.next c.self.invariant c.args.self.now c.self.view_is c.args.dir c.args.name.bytes.now c.ranges.dir.fits
-    _ (c.as_slice.ensures ∙ c.new-key.ensures) c.requires c.in-Some.number c.in-Some.ensures.value _ c.in-Some.ensures.entries _ c.drop_unnamed.ensures.entries c.drop_unnamed.ensures.kept in
-    both.1
+    let (n, leads, now) = after_drop _ _ (shows_now c.self.invariant c.self.view_is) c.requires c.remove-lost.ensures.rest c.remove-lost.ensures.before c.drop_unnamed.ensures.rest c.drop_unnamed.ensures.kept in
+    if_some_at _ leads now.shows
