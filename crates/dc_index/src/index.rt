@@ -1,4 +1,4 @@
-ghost use Rattle.std.specs.Prelude.{◌≡◌, ◌<◌, ◌≤◌, ◌*◌, ◌/◌, ◌↔◌, ◌≢◌, ℕ, Some, None, OnOk, OnErr, IfOk, IfSome, length, replicate, slice_set, map};
+ghost use Rattle.std.specs.Prelude.{◌≡◌, ◌<◌, ◌≤◌, ◌*◌, ◌/◌, ◌≢◌, ℕ, OnOk, OnErr, IfOk, IfSome, length, replicate, slice_set, map};
 ghost use Rattle.dc_plain.specs.KeysShown.{key_shown, label_shown};
 ghost use Rattle.dc_index.specs.Slots.{slot_of, cleared, bucket_of, label_bytes, IsIndex, IsRowOf};
 ghost use Rattle.dc_index.specs.Slots.Slot.{Free as IsFree, Retired as IsRetired, Holds};
@@ -9,7 +9,7 @@ use crate::slot::{OwnKey, Slot, free_slots, place_of_free, place_of_key};
 use dc_names::{NoMemory, hash};
 use dc_plain::{Key, Label};
 use dc_shrink::Shrinker;
-use std::alloc::{AllocError, Global};
+use std::alloc::Global;
 use std::marker::Model;
 
 /// For each row the key that it has, if any. A bucket has four rows, and its keys stand in these.

@@ -34,6 +34,7 @@ pub enum Verb {
 pub struct Command {
     /// From 0 to 15.
     pub session: u64,
+    /// What the command asks for.
     pub verb: Verb,
     /// The bytes that each word after the verb stands for, its escapes read.
     pub words: Vec<Vec<u8>>,
@@ -44,6 +45,7 @@ pub struct Command {
 pub enum Line {
     /// All commands before it are answered before any after it begins.
     Sync,
+    /// A command of one session.
     Command(Command),
 }
 

@@ -1,4 +1,4 @@
-ghost use Rattle.std.specs.Prelude.{◌≡◌, ◌<◌, [], Option, Some, None, IfOk, IfSome, IfNone, IsErrOf, map, length};
+ghost use Rattle.std.specs.Prelude.{◌≡◌, ◌<◌, Some, None, IfOk, IfSome, IfNone, IsErrOf, map, length};
 ghost use Rattle.dc_lang.specs.Commands.{Said, Says, said_by, order_of};
 ghost use Rattle.dc_lang.specs.Reading.{Reads, escaped, with_first, bytes_in, word_in, words_in, session_in, order_in, parts, said_in};
 

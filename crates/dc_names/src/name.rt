@@ -30,6 +30,7 @@ impl<'a> Name<'a> {
         Name { bytes }
     }
 
+    /// The bytes of the name.
     pub fn bytes(&self) -> &'a [u8]
         ensures bytes { result.now ≡ self.now.bytes.now }
         ensures named { IsTrue (is_name result.now) }
@@ -41,8 +42,11 @@ impl<'a> Name<'a> {
 /// A component of a path (POSIX.1-2017 XBD 4.13).
 #[derive(Clone, Copy)]
 pub enum Part<'a> {
+    /// The name of an entry.
     Normal(Name<'a>),
+    /// `.`, the directory itself.
     Dot,
+    /// `..`, the parent directory.
     DotDot,
 }
 

@@ -46,6 +46,7 @@ impl<'a> PathText<'a> {
         PathText { bytes }
     }
 
+    /// The bytes of the path.
     pub fn bytes(&self) -> &'a [u8]
         ensures bytes { result.now ≡ self.now.bytes.now }
         ensures valid { fault_of result.now ≡ None }

@@ -3,7 +3,7 @@ ghost use Rattle.std.specs.Option.{option_map};
 ghost use Rattle.dc_plain.specs.Facts.{Fact};
 ghost use Rattle.dc_row.specs.Rows.{row_shown, label_shown};
 ghost use Rattle.dc_row.specs.Spelling.{Spells, TellsRow, TellsLabel, TellsTarget, TellsByte, fields_of};
-ghost use Rattle.dc_row.specs.declared.TheConstants.{ROW_WORDS, ROW_TEXT};
+ghost use Rattle.dc_row.specs.declared.TheConstants.{ROW_TEXT};
 
 use crate::fields::word;
 use crate::{

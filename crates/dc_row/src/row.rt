@@ -4,7 +4,9 @@ use dc_names::Kind;
 /// The entry of a directory that a row tells of.
 #[derive(Debug, Drop, PartialEq, Eq)]
 pub enum RowLabel {
+    /// The entry with this name.
     Name(RowText),
+    /// The entry `..`.
     DotDot,
 }
 

@@ -1,5 +1,9 @@
-use crate::{ROW_WORDS, Row, RowLabel, RowText, decode, encode, kind, length, number, tag, value};
+use crate::{
+    ROW_WORDS, Row, RowLabel, RowText, decode, encode, kind, length, number,
+    rows_have_one_spelling, tag, value, words_spell_one_row,
+};
 use dc_names::Kind;
+
 /// Whether the row is spelled by these words, whatever the sequence count is.
 fn is_spelled_by(row: &Row, words: &[u64; ROW_WORDS]) -> bool {
     match encode(row) {
@@ -51,7 +55,9 @@ fn spells_the_examples(rt: HostRuntime) {
     for at in 0..5 {
         assert_eq!(rt; words_of(at), Some(EXAMPLES[at]));
         assert_eq!(rt; decode(&EXAMPLES[at]), example(at));
+        words_spell_one_row(&EXAMPLES[at]);
     }
+    rows_have_one_spelling();
 }
 
 #[test]

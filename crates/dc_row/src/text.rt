@@ -44,6 +44,7 @@ impl RowText {
         })
     }
 
+    /// The bytes that stand in the room.
     pub fn bytes(&self) -> &[u8]
         ensures bytes { result.now ≡ self.now }
         ensures room { length result.now ≤ ROW_TEXT }

@@ -1,7 +1,7 @@
 ghost use Rattle.std.specs.Prelude.{◌≡◌, ◌≤◌, ◌<◌, ◌↔◌, length, slice_index, IfSome, IsSome, IsTrue};
 ghost use Rattle.dc_names.specs.Words.{AreBytes};
 ghost use Rattle.dc_row.specs.Rows.{row_shown};
-ghost use Rattle.dc_row.specs.Spelling.{Spells, has_spelling, is_numbered, is_path, kind_code, target_number, text_word, fields, IsSpelled};
+ghost use Rattle.dc_row.specs.Spelling.{Spells, has_spelling, is_numbered, kind_code, target_number, text_word, fields, IsSpelled};
 ghost use Rattle.dc_row.specs.declared.TheConstants.{ROW_WORDS, ROW_TEXT};
 
 use crate::{ROW_WORDS, Row, RowLabel};

@@ -1,4 +1,4 @@
-ghost use Rattle.std.specs.Prelude.{◌≡◌, ◌↔◌, ◌<◌, ◌≤◌, ◌+◌, ◌-◌, ◌^◌, ◌∷◌, [], Err, IfOk, OnOk, OnErr, filter, IsTrue, not};
+ghost use Rattle.std.specs.Prelude.{◌≡◌, ◌↔◌, ◌<◌, ◌≤◌, ◌^◌, [], Err, IfOk, OnOk, OnErr, filter, IsTrue, not};
 ghost use Rattle.std.specs.FinMap as map;
 ghost use Rattle.dc_shrink.specs.declared.shrinker.PinFault.TheVariants as fault;
 ghost use Rattle.dc_shrink.specs.Listings.{listing, added, touched, with_pins, pinned_once, unpinned_once, dropped, is_in, is_used, pins_of, last_of, in_bucket, IsListing};

@@ -7,8 +7,8 @@ use dc_names::NoMemory;
 use std::alloc::Global;
 use std::test::*;
 
-// The calls that take memory are made once more where it was refused, if nothing changed by that. So
-// the test passes whichever allocation `rt try --test --fail-alloc N` refuses.
+// The calls that take memory are made once more where it was refused, if nothing changed by that.
+// So the test passes whichever allocation `rt try --test --fail-alloc N` refuses.
 
 fn new_again(alloc: Global, rows: u64) -> Result<Shrinker, NoMemory>
     requires { 0 < rows }
