@@ -1,11 +1,12 @@
 -- What is carried out makes another tree.
-use Rattle.std.proofs.Common.{◌≡◌, ◌≢◌, ℕ, ◌+◌, ◌==◌, List, Bool, true, false, not, cond, Option, Some, None, Result, Ok, Err, refl, ap, sym, ◌∙◌, arith, IfSome, subst, if◌then◌else◌}
+use Rattle.std.proofs.Common.{◌≡◌, ◌≢◌, ℕ, ◌==◌, List, Bool, true, false, not, cond, Option, Some, None, Result, Ok, Err, refl, ap, sym, ◌∙◌, arith, IfSome, subst, if◌then◌else◌}
 use Rattle.std.specs.Cmp.{tied_itself}
 use Rattle.std.specs.Ordering.{is_eq}
 use Rattle.std.specs.FinMap.Entries.{put, find-put}
 use Rattle.std.specs.FinMap.Entries.{find as lookup}
 use Rattle.dc_plain.specs.Trees.{Tree, Spot, entry_of, spot_cmp, target_of, how_many, names_of, without_spot, without_number}
-use Rattle.dc_plain.specs.Requests.{Request, Answer}
+use Rattle.dc_plain.specs.declared.call.Call.{Call}
+use Rattle.dc_plain.specs.Requests.{Request, Answer, request_of}
 use Rattle.dc_plain.specs.Requests.Answer.{Nothing, Refused}
 use Rattle.dc_plain.specs.Facts.Label.{Entry}
 use Rattle.dc_plain.specs.Operations.{change_of, settled, operation, left_alone}
@@ -13,7 +14,6 @@ use Rattle.dc_plain.specs.TouchedKeys.{listed, unless_refused}
 use Rattle.dc_store.specs.Moved.{tree_moved}
 use Rattle.dc_ops.specs.Keys.{keys_of}
 use Rattle.dc_ops.specs.Reads.{answered}
-use Rattle.dc_plain.specs.Runs.{alters}
 use Rattle.dc_plain.specs.Effects.{without_entry, without_entry_alone, without_there}
 use Rattle.dc_plain.proofs.Made.{spots_total}
 use Rattle.dc_plain.proofs.Takes.{lookup-take}
@@ -110,3 +110,10 @@ idles_if limit t request found is change = declines_so limit t request Nothing (
 
 pub refuses_so : (limit : ℕ) (t : Tree) (request : Request) (number : ℕ) → change_of limit t request ≡ Err number → Declines limit t request (Refused number)
 refuses_so limit t request number is = declines_so limit t request (Refused number) (ap (settled t) is)
+
+-- the keys that are listed for a call, whose plan was found
+pub listed_if : (t : Tree) (call asked : Call) (found other : Option rust_plan.Plan) → found ≡ other → call ≡ asked
+    → IfSome other (λ plan. keys_of plan ≡ listed t (request_of asked)) → IfSome found (λ plan. keys_of plan ≡ listed t (request_of call))
+listed_if t call asked found other same is keys =
+    subst (λ call. IfSome found (λ plan. keys_of plan ≡ listed t (request_of call))) (sym is)
+    (subst (λ found. IfSome found (λ plan. keys_of plan ≡ listed t (request_of asked))) (sym same) keys)

@@ -1,7 +1,5 @@
 -- What goes with its last name, and what a count says by its kind.
-use Rattle.std.proofs.Common.{◌≡◌, ◌≢◌, ℕ, ◌≤◌, ◌==◌, List, Bool, true, false, Option, Some, None, Ok, is_some, option_and_then, refl, ap, sym, ◌∙◌, arith, length, option_map, subst, cond, if◌then◌else◌, [], ◌∷◌, ◌+◌}
-use Rattle.std.specs.Bool.{then_some}
-use Rattle.dc_names.specs.declared.kind.Kind.TheVariants.{Dir, File, Link}
+use Rattle.std.proofs.Common.{◌≡◌, ◌≢◌, ℕ, ◌≤◌, ◌==◌, List, true, false, Option, Some, None, Ok, is_some, option_and_then, refl, ap, sym, ◌∙◌, arith, length, option_map, subst, cond, if◌then◌else◌, [], ◌∷◌, ◌+◌}
 use Rattle.dc_plain.specs.Facts.{Place}
 use Rattle.dc_plain.specs.Resolution.{is_directory}
 use Rattle.dc_plain.specs.TouchedKeys.{keys_gone, keys_at}
@@ -17,22 +15,21 @@ use Rattle.dc_plain.specs.Refusals.{walk_on, ◌>>=◌}
 use Rattle.dc_plain.specs.Requests.Answer.{Counted}
 use Rattle.dc_ops.specs.Reads.{answered}
 use Rattle.dc_store.specs.Counts.{count_of}
-use Rattle.dc_ops.specs.Keys.{keys_gone_with}
+use Rattle.dc_ops.specs.Keys.{own_keys}
 
 -- by the inode of a place
 pub by_inode : (P : Place → Option Inode → Type 0) (n : ℕ) (o : Option Inode) (place : Place) → option_map (λ inode. (n, kind_of inode)) o ≡ Some place → ((i : Inode) → P (n, kind_of i) (Some i)) → P place o
 by_inode P n None place e so = absurd cc
 by_inode P n (Some i) place e so = let same : (n, kind_of i) ≡ place = cc in subst (λ p. P p (Some i)) same (so i)
 
--- its own key is that of its kind
-own_key : (n : ℕ) (i : Inode) → keys_gone_with (Some (n, kind_of i)) ≡ keys_at n (Some i)
+-- the key of its own that goes with a last name
+own_key : (n : ℕ) (i : Inode) → own_keys (n, kind_of i) ≡ keys_at n (Some i)
 own_key n Directory = refl
 own_key n Regular = refl
 own_key n (Symbolic text) = refl
 
-pub goes_keys : (t : Tree) (place : Place) → place_at t place.0 ≡ Some place → (b : Bool) → (names_of t place.0 == 1) ≡ b → keys_gone_with (then_some b place) ≡ keys_gone t place.0
-goes_keys t place lives true one = by_inode (λ p o. keys_gone_with (Some p) ≡ keys_at p.0 o) place.0 (inode_of t place.0) place lives (own_key place.0) ∙ rw one refl
-goes_keys t place lives false more = rw more refl
+pub freed_keys : (t : Tree) (place : Place) → place_at t place.0 ≡ Some place → (names_of t place.0 == 1) ≡ true → own_keys place ≡ keys_gone t place.0
+freed_keys t place lives one = by_inode (λ p o. own_keys p ≡ keys_at p.0 o) place.0 (inode_of t place.0) place lives (own_key place.0) ∙ rw one refl
 
 -- a directory that has a name has one alone
 is_root : (t : Tree) (n : ℕ) → IsWellFormed t → 1 ≤ names_of t n → n ≢ 1

@@ -5,7 +5,6 @@ use Rattle.dc_plain.specs.Facts.Label.{Parent}
 use Rattle.dc_plain.specs.IsWellFormed.{IsWellFormed}
 use Rattle.dc_plain.specs.Trees.{Tree, Inode, inode_of, place_at, kind_of, entry_of, holder_of, is_live_directory, is_directory_inode}
 use Rattle.dc_plain.proofs.Holders.{other_test, holder-live}
-use Rattle.dc_plain.proofs.Made.{is_directory_in}
 
 abbrev up : Option Place → Option ℕ
 up place = option_map (λ place. place.0) place

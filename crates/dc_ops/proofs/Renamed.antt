@@ -1,6 +1,5 @@
 -- The keys of a rename.
-use Rattle.std.proofs.Common.{◌≡◌, ℕ, ◌==◌, ◌&&◌, not, List, [], ◌∷◌, ◌++◌, Bool, true, false, cond, Option, Some, None, refl, ap, sym, ◌∙◌, option_map, if◌then◌else◌}
-use Rattle.dc_names.specs.declared.kind.Kind.TheVariants.{Dir}
+use Rattle.std.proofs.Common.{◌≡◌, ℕ, ◌==◌, ◌&&◌, not, List, [], ◌∷◌, ◌++◌, Bool, false, Option, Some, None, refl, ap, sym, ◌∙◌, option_map, if◌then◌else◌}
 use Rattle.dc_plain.specs.Facts.{Place, Key}
 use Rattle.dc_plain.specs.Operations.{same_inode}
 use Rattle.dc_plain.specs.Resolution.{is_directory}
@@ -8,7 +7,8 @@ use Rattle.dc_plain.specs.TouchedKeys.{entry_key, keys_gone, keys_moved, keys_re
 use Rattle.dc_plain.specs.Trees.{Tree, Inode, target_of, place_at, inode_of, is_live_directory, is_directory_inode}
 use Rattle.dc_plain.specs.Trees.Inode.{Directory, Regular, Symbolic}
 use Rattle.dc_store.specs.Spots.{spot_at}
-use Rattle.dc_ops.specs.Keys.{keys_gone_with, keys_turned}
+use Rattle.dc_plain.specs.declared.key.Key as rust_key
+use Rattle.dc_ops.specs.Keys.{keys_in, keys_turned}
 use Rattle.dc_ops.proofs.Goes.{by_inode}
 
 same_by : (moved : Place) (there : Option Place) → same_target (Some moved.0) (option_map (λ place. place.0) there) ≡ same_inode moved there
@@ -23,15 +23,15 @@ live_by t place lives = by_inode (λ p o. is_directory p ≡ is_directory_inode 
     by_kind Regular = refl
     by_kind (Symbolic text) = refl
 
-pub renamed_keys : (t : Tree) (from : ℕ) (old : List ℕ) (to : ℕ) (new : List ℕ) (moved : Place) (there : Option Place) (turns : Bool) (freed : Option Place)
+pub renamed_keys : (t : Tree) (from : ℕ) (old : List ℕ) (to : ℕ) (new : List ℕ) (moved : Place) (there : Option Place) (turns : Bool) (freed : Option rust_key.Key)
     → target_of t (spot_at from old) ≡ Some moved.0 → place_at t moved.0 ≡ Some moved → option_map (λ place. place.0) there ≡ target_of t (spot_at to new)
-    → same_inode moved there ≡ false → turns ≡ (is_directory moved && not (from == to)) → keys_gone_with freed ≡ with_target (option_map (λ place. place.0) there) (keys_gone t)
-    → entry_key from old ∷ entry_key to new ∷ (keys_turned moved.0 turns ++ keys_gone_with freed) ≡ keys_renamed t from old to new
+    → same_inode moved there ≡ false → turns ≡ (is_directory moved && not (from == to)) → keys_in freed ≡ with_target (option_map (λ place. place.0) there) (keys_gone t)
+    → entry_key from old ∷ entry_key to new ∷ (keys_turned moved.0 turns ++ keys_in freed) ≡ keys_renamed t from old to new
 renamed_keys t from old to new moved there turns freed source lives target apart turned gone =
     let other : same_target (target_of t (spot_at from old)) (target_of t (spot_at to new)) ≡ false = rw (source, ← target) (same_by moved there ∙ apart) in
     let moves : with_target (target_of t (spot_at from old)) (keys_moved t from to) ≡ keys_turned moved.0 turns =
     ap (λ o. with_target o (keys_moved t from to)) source ∙ ap (λ b. if b && not (from == to) then parent_key moved.0 ∷ [] else []) (sym (live_by t moved lives)) ∙ ap (keys_turned moved.0) (sym turned) in
-    let takes : keys_taken t to new ≡ keys_gone_with freed = ap (λ o. with_target o (keys_gone t)) (sym target) ∙ sym gone in
+    let takes : keys_taken t to new ≡ keys_in freed = ap (λ o. with_target o (keys_gone t)) (sym target) ∙ sym gone in
     let both : List Key = entry_key from old ∷ entry_key to new ∷ (with_target (target_of t (spot_at from old)) (keys_moved t from to) ++ keys_taken t to new) in
     let whole : keys_renamed t from old to new ≡ both = ap (λ b. if b then [] else both) other in
     sym (whole ∙ ap (λ keys. entry_key from old ∷ entry_key to new ∷ (keys ++ keys_taken t to new)) moves

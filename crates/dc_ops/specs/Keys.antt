@@ -1,8 +1,11 @@
 -- The keys whose facts a plan alters.
-use Rattle.std.specs.Prelude.{ℕ, List, [], ◌∷◌, ◌++◌, Bool, Option, Some, None, if◌then◌else◌}
+use Rattle.std.specs.Prelude.{ℕ, List, [], ◌∷◌, ◌++◌, Bool, Option, option_map, if◌then◌else◌}
+use Rattle.std.specs.Option.{option_to_list}
 use Rattle.dc_names.specs.declared.kind.Kind.{Kind}
 use Rattle.dc_names.specs.declared.kind.Kind.TheVariants.{Dir, File, Link}
 use Rattle.dc_plain.specs.Facts.{Key}
+use Rattle.dc_plain.specs.KeysShown.{key_shown}
+use Rattle.dc_plain.specs.declared.key.Key as rust_key
 use Rattle.dc_plain.specs.TouchedKeys.{entry_key, parent_key, text_key}
 use Rattle.dc_store.specs.declared.store.New as rust_new
 use Rattle.dc_store.specs.declared.store.New.TheVariants as news
@@ -15,10 +18,9 @@ own_keys (n, Dir) = parent_key n ∷ []
 own_keys (n, File) = []
 own_keys (n, Link) = text_key n ∷ []
 
--- of an inode that goes, if one does
-abbrev pub keys_gone_with : Option (ℕ × Kind) → List Key
-keys_gone_with None = []
-keys_gone_with (Some place) = own_keys place
+-- a key, or none
+abbrev pub keys_in : Option rust_key.Key → List Key
+keys_in key = option_to_list (option_map key_shown key)
 
 -- of a new inode
 abbrev pub keys_made : ℕ → rust_new.New → List Key
@@ -33,6 +35,6 @@ keys_turned n turns = if turns then parent_key n ∷ [] else []
 
 abbrev pub keys_of : rust_plan.Plan → List Key
 keys_of (plans.Add dir name new number) = entry_key dir name.bytes.now ∷ keys_made number new
-keys_of (plans.Drop dir name number freed) = entry_key dir name.bytes.now ∷ keys_gone_with freed
+keys_of (plans.Drop dir name number freed) = entry_key dir name.bytes.now ∷ keys_in freed
 keys_of (plans.Move from to number turns freed) =
-    entry_key from.0 from.1.bytes.now ∷ entry_key to.0 to.1.bytes.now ∷ keys_turned number turns ++ keys_gone_with freed
+    entry_key from.0 from.1.bytes.now ∷ entry_key to.0 to.1.bytes.now ∷ keys_turned number turns ++ keys_in freed

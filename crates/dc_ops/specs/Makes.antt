@@ -1,5 +1,5 @@
 -- Changes that make a new inode.
-use Rattle.std.specs.Prelude.{◌≡◌, ℕ, List, Bool, true, false, None, Result}
+use Rattle.std.specs.Prelude.{◌≡◌, ℕ, List, Bool, true, false, None}
 use Rattle.dc_names.specs.Paths.{fault_of}
 use Rattle.dc_plain.specs.Trees.{Tree, Inode}
 use Rattle.dc_plain.specs.Trees.Inode.{Directory, Regular, Symbolic}

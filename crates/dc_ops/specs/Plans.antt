@@ -1,5 +1,5 @@
 -- What a plan makes of a tree, and which plans are a change's.
-use Rattle.std.specs.Prelude.{◌≡◌, ◌≢◌, ℕ, List, Option, Some, None, true, false, IsTrue}
+use Rattle.std.specs.Prelude.{◌≡◌, ℕ, List, Option, Some, None, true, false, IsTrue}
 use Rattle.dc_plain.specs.Trees.{Tree, is_live_directory, target_of}
 use Rattle.dc_plain.specs.Requests.{Request, Answer}
 use Rattle.dc_plain.specs.Requests.Answer.{Done, Nothing}

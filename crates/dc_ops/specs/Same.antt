@@ -1,7 +1,6 @@
 -- A finder whose store stays tells the same.
-use Rattle.std.specs.Prelude.{◌≡◌, refl}
-use Rattle.std.proofs.Common.{sym, ap, ◌∙◌, subst}
-use Rattle.dc_plain.specs.Facts.{Teller}
+use Rattle.std.specs.Prelude.{◌≡◌}
+use Rattle.std.proofs.Common.{sym, ◌∙◌, subst}
 use Rattle.dc_plain.specs.Tellers.{Extends}
 use Rattle.dc_plain.specs.Trees.{Tree, told_of}
 

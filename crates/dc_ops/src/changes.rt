@@ -42,17 +42,18 @@ fn found<'a, S: Store>(store: &S, call: &Call<'a>, max_inodes: u64) -> Result<Op
     ensures refused { IfErr result (λ number.
         change_of max_inodes (S.tree store.now) (request_of call.now) ≡ Err number) }
 {
-    let plan = match *call {
-        Call::Mkdir { base, path } => plan_make(store, base, path, New::Dir, max_inodes)?,
-        Call::Create { base, path } => plan_make(store, base, path, New::File, max_inodes)?,
-        Call::Symlink { base, text, path } => plan_symlink(store, base, text, path, max_inodes)?,
-        Call::Link { base, old, new } => plan_link(store, base, old, new)?,
-        Call::Unlink { base, path } => plan_unlink(store, base, path)?,
-        Call::Rmdir { base, path } => plan_rmdir(store, base, path)?,
-        Call::Rename { base, old, new } => return Ok(plan_rename(store, base, old, new)?),
+    Ok(match *call {
+        Call::Mkdir { base, path } => Some(plan_make(store, base, path, New::Dir, max_inodes)?),
+        Call::Create { base, path } => Some(plan_make(store, base, path, New::File, max_inodes)?),
+        Call::Symlink { base, text, path } => {
+            Some(plan_symlink(store, base, text, path, max_inodes)?)
+        }
+        Call::Link { base, old, new } => Some(plan_link(store, base, old, new)?),
+        Call::Unlink { base, path } => Some(plan_unlink(store, base, path)?),
+        Call::Rmdir { base, path } => Some(plan_rmdir(store, base, path)?),
+        Call::Rename { base, old, new } => plan_rename(store, base, old, new)?,
         Call::Look { .. } | Call::Readlink { .. } | Call::Stat { .. } | Call::List { .. } => {
             unreachable!()
         }
-    };
-    Ok(Some(plan))
+    })
 }

@@ -1,9 +1,9 @@
-ghost use Rattle.std.specs.Prelude.{◌≡◌, ◌<◌, ◌≤◌, ◌+◌, ◌++◌, [], ◌∷◌, map, option_map};
+ghost use Rattle.std.specs.Prelude.{◌≡◌, ◌<◌, ◌≤◌, ◌+◌, ◌++◌, map};
 ghost use Rattle.std.specs.Option.{option_to_list};
 ghost use Rattle.arrayvec.specs.ArrayVec.{array_vec_len};
 ghost use Rattle.dc_plain.specs.KeysShown.{key_shown};
 ghost use Rattle.dc_plain.specs.TouchedKeys.{entry_key, parent_key};
-ghost use Rattle.dc_ops.specs.Keys.{keys_of, own_keys, keys_gone_with, keys_made, keys_turned};
+ghost use Rattle.dc_ops.specs.Keys.{keys_in, keys_made, keys_of, own_keys};
 
 use crate::Plan;
 use arrayvec::ArrayVec;
@@ -35,7 +35,7 @@ impl<'a> Plan<'a> {
                 ..
             } => {
                 keys.push(entry_key(dir, name));
-                push_some(&mut keys, gone_key(freed));
+                push_some(&mut keys, freed);
             }
             Plan::Move {
                 from,
@@ -47,7 +47,7 @@ impl<'a> Plan<'a> {
                 keys.push(entry_key(from.0, from.1));
                 keys.push(entry_key(to.0, to.1));
                 push_some(&mut keys, turns.then_some(parent_key(number)));
-                push_some(&mut keys, gone_key(freed));
+                push_some(&mut keys, freed);
             }
         }
         keys
@@ -84,8 +84,8 @@ fn parent_key<'a>(number: u64) -> Key<'a>
 }
 
 /// The key that an inode has of its own.
-fn own_key<'a>(number: u64, kind: Kind) -> Option<Key<'a>>
-    ensures { option_to_list (option_map key_shown result) ≡ own_keys (number, kind) }
+pub fn own_key<'a>(number: u64, kind: Kind) -> Option<Key<'a>>
+    ensures { keys_in result ≡ own_keys (number, kind) }
 {
     match kind {
         Kind::Dir => Some(parent_key(number)),
@@ -99,19 +99,11 @@ fn own_key<'a>(number: u64, kind: Kind) -> Option<Key<'a>>
 
 /// The same of a new inode.
 fn made_key<'a>(number: u64, new: New<'_>) -> Option<Key<'a>>
-    ensures { option_to_list (option_map key_shown result) ≡ keys_made number new.entry }
+    ensures { keys_in result ≡ keys_made number new.entry }
 {
     match new {
         New::Dir => own_key(number, Kind::Dir),
         New::Link(_) => own_key(number, Kind::Link),
         New::File | New::Same(_) => None,
     }
-}
-
-/// The same of an inode that goes, if one does.
-fn gone_key<'a>(freed: Option<(u64, Kind)>) -> Option<Key<'a>>
-    ensures { option_to_list (option_map key_shown result) ≡ keys_gone_with freed }
-{
-    let (number, kind) = freed?;
-    own_key(number, kind)
 }

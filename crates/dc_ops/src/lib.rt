@@ -15,6 +15,7 @@ mod takes;
 
 pub use carrying::carry;
 pub use changes::plan;
+pub use dc_plain::{Call, Key, Label, Reply};
 pub use reads::{ask, seek};
 pub use steps::Plan;
 

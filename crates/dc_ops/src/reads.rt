@@ -69,9 +69,9 @@ pub fn ask<S: Store>(alloc: Global, store: &S, call: &Call<'_>) -> Result<Reply,
     ensures { IfOk result (λ reply. (limit : ℕ) →
         Declines limit (S.tree store.now) (request_of call.now) (answer_of reply)) }
 {
-    match *call {
-        Call::Readlink { base, path } => Ok(read_link(alloc, store, base, path)?),
-        Call::List { base, path } => Ok(list(alloc, store, base, path)?),
+    Ok(match *call {
+        Call::Readlink { base, path } => read_link(alloc, store, base, path)?,
+        Call::List { base, path } => list(alloc, store, base, path)?,
         Call::Look { .. }
         | Call::Stat { .. }
         | Call::Mkdir { .. }
@@ -81,7 +81,7 @@ pub fn ask<S: Store>(alloc: Global, store: &S, call: &Call<'_>) -> Result<Reply,
         | Call::Unlink { .. }
         | Call::Rmdir { .. }
         | Call::Rename { .. } => unreachable!(),
-    }
+    })
 }
 
 fn read_link<S: Store>(alloc: Global, store: &S, base: u64, path: &[u8]) -> Result<Reply, NoMemory>

@@ -5,7 +5,7 @@ ghost use Rattle.dc_plain.specs.Requests.Request.{Rename};
 ghost use Rattle.dc_plain.specs.Resolution.{is_directory};
 ghost use Rattle.dc_plain.specs.TouchedKeys.{keys_gone, listed, with_target};
 ghost use Rattle.dc_plain.specs.Trees.{is_live_directory, names_of, place_at, target_of};
-ghost use Rattle.dc_ops.specs.Keys.{keys_gone_with, keys_of};
+ghost use Rattle.dc_ops.specs.Keys.{keys_in, keys_of};
 ghost use Rattle.dc_ops.specs.Plans.{effect_if, CanCarry};
 ghost use Rattle.dc_ops.specs.Renames.{keys_of_move, move_to, spot_named};
 
@@ -13,8 +13,9 @@ use crate::Plan;
 use crate::asking::{is_directory, name_or_each, present, refuse};
 use crate::finder::entry;
 use crate::paths::{path_of, place_path};
-use crate::takes::{goes, is_empty};
+use crate::takes::{freed, is_empty};
 use dc_names::{Kind, Name};
+use dc_plain::Key;
 use dc_store::Store;
 
 /// The plan of a rename, or none where both names lead to one inode.
@@ -74,7 +75,7 @@ fn plan_move<'a, S: Store>(
         to,
         number: moved.0,
         turns: turns(moved, from.0, to.0),
-        freed: freed(store, there),
+        freed: freed_there(store, there),
     }))
 }
 
@@ -111,16 +112,16 @@ fn turns(moved: (u64, Kind), from: u64, to: u64) -> bool
     is_directory(moved) && from != to
 }
 
-/// What goes with its last name, where something stands there.
-fn freed<S: Store>(store: &S, there: Option<(u64, Kind)>) -> Option<(u64, Kind)>
+/// The key of its own that goes with a last name, where something stands there.
+fn freed_there<'a, S: Store>(store: &S, there: Option<(u64, Kind)>) -> Option<Key<'a>>
     requires lives { IfSome there (λ place. place_at (S.tree store.now) place.0 ≡ Some place) }
     requires named { IfSome there (λ place. 1 ≤ names_of (S.tree store.now) place.0) }
     requires well { IsWellFormed (S.tree store.now) }
-    ensures { keys_gone_with result
+    ensures { keys_in result
         ≡ with_target (option_map (λ place. place.0) there) (keys_gone (S.tree store.now)) }
 {
     match there {
-        Some(place) => goes(store, place),
+        Some(place) => freed(store, place),
         None => None,
     }
 }

@@ -5,12 +5,14 @@ ghost use Rattle.dc_plain.specs.Operations.{unlink, rmdir};
 ghost use Rattle.dc_plain.specs.Resolution.{is_directory};
 ghost use Rattle.dc_plain.specs.TouchedKeys.{at_name, entry_key, keys_taken, keys_gone};
 ghost use Rattle.dc_plain.specs.Trees.{names_in, names_of, place_at};
-ghost use Rattle.dc_ops.specs.Keys.{keys_of, keys_gone_with};
+ghost use Rattle.dc_ops.specs.Keys.{keys_in, keys_of};
 ghost use Rattle.dc_ops.specs.Plans.{effect, CanCarry};
 
 use crate::Plan;
 use crate::asking::{is_directory, name_or, name_or_each, place_text, present, refuse};
+use crate::keys::own_key;
 use dc_names::Kind;
+use dc_plain::Key;
 use dc_store::Store;
 
 /// The plan of a name that goes.
@@ -32,7 +34,7 @@ pub fn plan_unlink<'a, S: Store>(store: &S, base: u64, path: &'a [u8]) -> Result
         dir: at.dir,
         name,
         number: inode.0,
-        freed: goes(store, inode),
+        freed: freed(store, inode),
     })
 }
 
@@ -54,7 +56,7 @@ pub fn plan_rmdir<'a, S: Store>(store: &S, base: u64, path: &'a [u8]) -> Result<
         dir: at.dir,
         name,
         number: inode.0,
-        freed: goes(store, inode),
+        freed: freed(store, inode),
     })
 }
 
@@ -67,14 +69,17 @@ pub fn is_empty<S: Store>(store: &S, place: (u64, Kind)) -> bool
     store.count(place.0) == 0
 }
 
-/// What an entry leads to, where that entry is its last name.
-pub fn goes<S: Store>(store: &S, place: (u64, Kind)) -> Option<(u64, Kind)>
+/// The key of its own that an inode has, where an entry is its last name.
+pub fn freed<'a, S: Store>(store: &S, place: (u64, Kind)) -> Option<Key<'a>>
     requires lives { place_at (S.tree store.now) place.0 ≡ Some place }
     requires named { 1 ≤ names_of (S.tree store.now) place.0 }
     requires well { IsWellFormed (S.tree store.now) }
-    ensures { keys_gone_with result ≡ keys_gone (S.tree store.now) place.0 }
+    ensures { keys_in result ≡ keys_gone (S.tree store.now) place.0 }
 {
-    has_one_name(store, place).then_some(place)
+    if !has_one_name(store, place) {
+        return None;
+    }
+    own_key(place.0, place.1)
 }
 
 /// Whether an inode has one name alone, as each directory but the root has.

@@ -1,26 +1,16 @@
-use Rattle.std.proofs.Common.{List, IfSome, sym, ap, subst, ◌∙◌, ◌≡◌}
-use Rattle.dc_plain.specs.declared.call.Call.{Call}
-use Rattle.dc_plain.specs.Facts.{Key}
-use Rattle.dc_plain.specs.TouchedKeys.{listed}
-use Rattle.dc_plain.specs.Requests.{request_of}
-use Rattle.dc_ops.specs.Keys.{keys_of}
+use Rattle.dc_ops.proofs.Alters.{listed_if}
 use Rattle.dc_ops.proofs.changes.found.Goals as goal
-use Rattle.dc_ops.proofs.changes.found.Goals.{in-Mkdir+in_ok-plan-in-Mkdir, in-Create+in_ok-plan-in-Create, in-Symlink+in_ok-plan-in-Symlink, in-Link+in_ok-plan-in-Link, in-Unlink+in_ok-plan-in-Unlink, in-Rmdir+in_ok-plan-in-Rmdir}
-
-pub returns-in-Rename-clause-keys : goal.returns-in-Rename-clause-keys
-returns-in-Rename-clause-keys g c =
-    let t = g.S.Store.tree c.args.store.now in
-    let told = c.in_ok-plan_rename-in-Rename in
-    subst (λ call. IfSome told.field-0 (λ plan. keys_of plan ≡ listed t (request_of call))) (sym c.in-Rename.is) told.ensures.keys
+use Rattle.dc_ops.proofs.changes.found.Goals.{in-Mkdir+in_ok-plan_make-in-Mkdir, in-Create+in_ok-plan_make-in-Create, in-Symlink+in_ok-plan_symlink-in-Symlink, in-Link+in_ok-plan_link-in-Link, in-Unlink+in_ok-plan_unlink-in-Unlink, in-Rmdir+in_ok-plan_rmdir-in-Rmdir, in-Rename+in_ok-plan_rename-in-Rename}
 
 pub returns-clause-keys : goal.returns-clause-keys
 returns-clause-keys g c =
-    let wanted : Call → List Key = λ call. listed (g.S.Store.tree c.args.store.now) (request_of call) in
+    let t = g.S.Store.tree c.args.store.now in
     elim c.match-call.branch [
-      | in-Mkdir+in_ok-plan-in-Mkdir w ↦ ap keys_of w.plan-is ∙ w.in_ok-plan-in-Mkdir.ensures.keys ∙ sym (ap wanted w.in-Mkdir.is)
-      | in-Create+in_ok-plan-in-Create w ↦ ap keys_of w.plan-is ∙ w.in_ok-plan-in-Create.ensures.keys ∙ sym (ap wanted w.in-Create.is)
-      | in-Symlink+in_ok-plan-in-Symlink w ↦ ap keys_of w.plan-is ∙ w.in_ok-plan-in-Symlink.ensures.keys ∙ sym (ap wanted w.in-Symlink.is)
-      | in-Link+in_ok-plan-in-Link w ↦ ap keys_of w.plan-is ∙ w.in_ok-plan-in-Link.ensures.keys ∙ sym (ap wanted w.in-Link.is)
-      | in-Unlink+in_ok-plan-in-Unlink w ↦ ap keys_of w.plan-is ∙ w.in_ok-plan-in-Unlink.ensures.keys ∙ sym (ap wanted w.in-Unlink.is)
-      | in-Rmdir+in_ok-plan-in-Rmdir w ↦ ap keys_of w.plan-is ∙ w.in_ok-plan-in-Rmdir.ensures.keys ∙ sym (ap wanted w.in-Rmdir.is)
+      | in-Mkdir+in_ok-plan_make-in-Mkdir w ↦ listed_if t c.args.call.now _ _ _ w.result-is w.in-Mkdir.is w.in_ok-plan_make-in-Mkdir.ensures.keys
+      | in-Create+in_ok-plan_make-in-Create w ↦ listed_if t c.args.call.now _ _ _ w.result-is w.in-Create.is w.in_ok-plan_make-in-Create.ensures.keys
+      | in-Symlink+in_ok-plan_symlink-in-Symlink w ↦ listed_if t c.args.call.now _ _ _ w.result-is w.in-Symlink.is w.in_ok-plan_symlink-in-Symlink.ensures.keys
+      | in-Link+in_ok-plan_link-in-Link w ↦ listed_if t c.args.call.now _ _ _ w.result-is w.in-Link.is w.in_ok-plan_link-in-Link.ensures.keys
+      | in-Unlink+in_ok-plan_unlink-in-Unlink w ↦ listed_if t c.args.call.now _ _ _ w.result-is w.in-Unlink.is w.in_ok-plan_unlink-in-Unlink.ensures.keys
+      | in-Rmdir+in_ok-plan_rmdir-in-Rmdir w ↦ listed_if t c.args.call.now _ _ _ w.result-is w.in-Rmdir.is w.in_ok-plan_rmdir-in-Rmdir.ensures.keys
+      | in-Rename+in_ok-plan_rename-in-Rename w ↦ listed_if t c.args.call.now _ _ _ w.result-is w.in-Rename.is w.in_ok-plan_rename-in-Rename.ensures.keys
     ]

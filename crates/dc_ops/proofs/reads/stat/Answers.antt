@@ -1,4 +1,4 @@
-use Rattle.std.proofs.Common.{sym, ap, ◌∙◌}
+use Rattle.std.proofs.Common.{sym, ◌∙◌}
 use Rattle.dc_plain.specs.declared.call.Follow.TheVariants.{Yes}
 use Rattle.dc_plain.proofs.Spotted.{walk_stands}
 use Rattle.dc_ops.proofs.Goes.{stat_told}

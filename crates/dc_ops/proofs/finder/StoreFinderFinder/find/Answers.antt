@@ -1,4 +1,4 @@
-use Rattle.std.proofs.Common.{◌≡◌, Option, IsTrue, sym, subst}
+use Rattle.std.proofs.Common.{IsTrue, sym, subst}
 use Rattle.dc_names.specs.Names.{part_shown}
 use Rattle.dc_resolve.specs.Asked.{may_be_found}
 use Rattle.dc_ops.proofs.finder.StoreFinderFinder.find.Goals as goal
