@@ -9,39 +9,39 @@ use Rattle.dc_plain.specs.Resolution.{resolve}
 use Rattle.dc_plain.specs.Runs.{replies_of}
 
 -- nothing asked
-row1 : replies_of 16 empty_tree []
+nothing_asked : replies_of 16 empty_tree []
     ≡ []
 unfolding resolve
-row1 = refl
+nothing_asked = refl
 
 -- slashes, and dot-dot of the root
-row2 : replies_of 16 empty_tree (
+root_above_itself : replies_of 16 empty_tree (
     Look 1 (codes "/") follow.Yes
     ∷ Look 1 (codes "//../..") follow.Yes
     ∷ [])
     ≡ Found 1 Dir ∷ Found 1 Dir ∷ []
 unfolding resolve
-row2 = refl
+root_above_itself = refl
 
 -- an ending slash of a new directory
-row3 : replies_of 16 empty_tree (
+directory_with_end_slash : replies_of 16 empty_tree (
     Mkdir 1 (codes "/a/")
     ∷ Look 1 (codes "/a") follow.Yes
     ∷ [])
     ≡ Done 2 ∷ Found 2 Dir ∷ []
 unfolding resolve
-row3 = refl
+directory_with_end_slash = refl
 
 -- the empty path
-row4 : replies_of 16 empty_tree (
+empty_path : replies_of 16 empty_tree (
     Look 1 [] follow.Yes
     ∷ [])
     ≡ Refused 2 ∷ []
 unfolding resolve
-row4 = refl
+empty_path = refl
 
 -- what was missing is made
-row5 : replies_of 16 empty_tree (
+missing_then_made : replies_of 16 empty_tree (
     Look 1 (codes "/f") follow.Yes
     ∷ Look 1 (codes "/f") follow.Yes
     ∷ Create 1 (codes "/f")
@@ -50,29 +50,29 @@ row5 : replies_of 16 empty_tree (
     ∷ [])
     ≡ Refused 2 ∷ Refused 2 ∷ Done 2 ∷ Found 2 File ∷ Refused 20 ∷ []
 unfolding resolve
-row5 = refl
+missing_then_made = refl
 
 -- dot beneath a file
-row6 : replies_of 16 empty_tree (
+dot_beneath_file : replies_of 16 empty_tree (
     Create 1 (codes "/f")
     ∷ Look 1 (codes "/f/.") follow.Yes
     ∷ [])
     ≡ Done 2 ∷ Refused 20 ∷ []
 unfolding resolve
-row6 = refl
+dot_beneath_file = refl
 
 -- a link that leads to itself
-row7 : replies_of 16 empty_tree (
+link_to_itself : replies_of 16 empty_tree (
     Symlink 1 (codes "l") (codes "/l")
     ∷ Look 1 (codes "/l") follow.Yes
     ∷ Look 1 (codes "/l") follow.No
     ∷ [])
     ≡ Done 2 ∷ Refused 40 ∷ Found 2 Link ∷ []
 unfolding resolve
-row7 = refl
+link_to_itself = refl
 
 -- eight links, and nine
-row8 : replies_of 65536 empty_tree (
+eight_links_and_nine : replies_of 65536 empty_tree (
     Create 1 (codes "/f")
     ∷ Symlink 1 (codes "f") (codes "/l8")
     ∷ Symlink 1 (codes "l8") (codes "/l7")
@@ -88,10 +88,10 @@ row8 : replies_of 65536 empty_tree (
     ∷ [])
     ≡ Done 2 ∷ Done 3 ∷ Done 4 ∷ Done 5 ∷ Done 6 ∷ Done 7 ∷ Done 8 ∷ Done 9 ∷ Done 10 ∷ Done 11 ∷ Found 2 File ∷ Refused 40 ∷ []
 unfolding resolve
-row8 = refl
+eight_links_and_nine = refl
 
 -- a rename onto another name of the same file
-row9 : replies_of 65536 empty_tree (
+rename_onto_same_file : replies_of 65536 empty_tree (
     Create 1 (codes "/f")
     ∷ Hard_link 1 (codes "/f") (codes "/g")
     ∷ Rename 1 (codes "/f") (codes "/g")
@@ -99,19 +99,19 @@ row9 : replies_of 65536 empty_tree (
     ∷ [])
     ≡ Done 2 ∷ Done 2 ∷ Nothing ∷ Found 2 File ∷ []
 unfolding resolve
-row9 = refl
+rename_onto_same_file = refl
 
 -- a directory beneath itself
-row10 : replies_of 65536 empty_tree (
+directory_beneath_itself : replies_of 65536 empty_tree (
     Mkdir 1 (codes "/a")
     ∷ Rename 1 (codes "/a") (codes "/a/b")
     ∷ [])
     ≡ Done 2 ∷ Refused 22 ∷ []
 unfolding resolve
-row10 = refl
+directory_beneath_itself = refl
 
 -- what rmdir and unlink refuse
-row11 : replies_of 65536 empty_tree (
+removals_refused : replies_of 65536 empty_tree (
     Mkdir 1 (codes "/a")
     ∷ Create 1 (codes "/a/x")
     ∷ Rmdir 1 (codes "/a")
@@ -122,19 +122,19 @@ row11 : replies_of 65536 empty_tree (
     ∷ [])
     ≡ Done 2 ∷ Done 3 ∷ Refused 39 ∷ Refused 22 ∷ Refused 39 ∷ Refused 16 ∷ Refused 1 ∷ []
 unfolding resolve
-row11 = refl
+removals_refused = refl
 
 -- names of 255 and of 256 bytes
-row12 : replies_of 65536 empty_tree (
+longest_name : replies_of 65536 empty_tree (
     Mkdir 1 (codes "/" ++ replicate 255 110)
     ∷ Mkdir 1 (codes "/x/" ++ replicate 256 110)
     ∷ [])
     ≡ Done 2 ∷ Refused 36 ∷ []
 unfolding resolve
-row12 = refl
+longest_name = refl
 
 -- a starting directory that is gone
-row13 : replies_of 65536 empty_tree (
+start_gone : replies_of 65536 empty_tree (
     Mkdir 1 (codes "/a")
     ∷ Look 1 (codes "/a") follow.Dir
     ∷ Rmdir 1 (codes "/a")
@@ -142,10 +142,10 @@ row13 : replies_of 65536 empty_tree (
     ∷ [])
     ≡ Done 2 ∷ Found 2 Dir ∷ Nothing ∷ Refused 2 ∷ []
 unfolding resolve
-row13 = refl
+start_gone = refl
 
 -- a link, its text, names and counts
-row20 : replies_of 65536 empty_tree (
+links_names_counts : replies_of 65536 empty_tree (
     Mkdir 1 (codes "/d")
     ∷ Create 1 (codes "/d/f")
     ∷ Symlink 1 (codes "./d") (codes "/s")
@@ -159,16 +159,16 @@ row20 : replies_of 65536 empty_tree (
     ∷ [])
     ≡ Done 2 ∷ Done 3 ∷ Done 4 ∷ Found 3 File ∷ Found 4 Link ∷ Found 2 Dir ∷ Bytes (codes "./d") ∷ Names ((codes "d") ∷ (codes "s") ∷ []) ∷ Counted 3 File 1 ∷ Found 2 Dir ∷ []
 unfolding resolve
-row20 = refl
+links_names_counts = refl
 
 -- the limit of inodes
-row21 : replies_of 1 empty_tree (
+inode_limit : replies_of 1 empty_tree (
     Mkdir 1 (codes "/a")
     ∷ Look 1 (codes "/a") follow.Yes
     ∷ [])
     ≡ Refused 28 ∷ Refused 2 ∷ []
 unfolding resolve
-row21 = refl
+inode_limit = refl
 
 -- what is there, and what is missing
 makes : replies_of 65536 empty_tree (

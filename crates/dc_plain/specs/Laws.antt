@@ -11,7 +11,8 @@ use Rattle.dc_plain.specs.Places.Placed.{Not}
 use Rattle.dc_plain.specs.Trees.{Tree}
 use Rattle.dc_plain.specs.IsWellFormed.{IsWellFormed, IsWithin}
 use Rattle.dc_plain.specs.Requests.{Request}
-use Rattle.dc_plain.specs.Runs.{tree_after, tree_after_all, Touches, Alters}
+use Rattle.dc_plain.specs.Requests.Answer.{Refused as Declined}
+use Rattle.dc_plain.specs.Runs.{reply_of, tree_after, tree_after_all, Touches, Alters}
 use Rattle.dc_plain.specs.TouchedKeys.{keys_touched}
 use Rattle.std.specs.List.{Contains}
 
@@ -26,6 +27,10 @@ KeepsWithinLimit = (limit : ℕ) (t : Tree) (request : Request) → IsWellFormed
 -- so is each tree of a run
 abbrev pub KeepsRunsWellFormed : Type 0
 KeepsRunsWellFormed = (limit : ℕ) (t : Tree) (requests : List Request) → IsWellFormed t → IsWellFormed (tree_after_all limit t requests)
+
+-- a refusal leaves the tree as it was
+abbrev pub RefusalsAlterNothing : Type 0
+RefusalsAlterNothing = (limit : ℕ) (t : Tree) (request : Request) (number : ℕ) → reply_of limit t request ≡ Declined number → tree_after limit t request ≡ t
 
 -- the numbers with which a resolution refuses: ENOENT, ENOTDIR, ELOOP
 abbrev pub is_walk_refusal : ℕ → Bool

@@ -25,7 +25,7 @@ refuse false number = Ok true
 abbrev pub path_or_fault : List ℕ → Result Path ℕ
 path_or_fault text = elim (path_of text) [ Ok path ↦ Ok path | Err fault ↦ Err (fault_number fault) ]
 
--- on a tree. It answers every question, so `None` doesn't come where the tree is well formed
+-- what a resolution found, or the number of its refusal
 abbrev pub ended : Outcome → Result Place ℕ
 ended (Found place) = Ok place
 ended (Refused number) = Err number
@@ -34,7 +34,8 @@ ended (Refused number) = Err number
 abbrev pub walk_on : Tree → ℕ → List ℕ → Follow → Result Place ℕ
 walk_on t base text how = path_or_fault text >>= λ path. ended (settled_walk (walk (told_of t) base path how))
 
--- where the last part of a path is to be looked up
+-- where the last part of a path is to be looked up. A tree answers every question, so `None` doesn't come
+-- where it is well formed
 abbrev pub where_of : Option Placed → Result Where ℕ
 where_of None = Err 2
 where_of (Some (At at)) = Ok at

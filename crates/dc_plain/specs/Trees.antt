@@ -93,9 +93,11 @@ text_of t n = option_and_then text_in (inode_of t n)
 abbrev pub told_of : Tree → Teller
 told_of t = record { entry = λ d label. Some (entry_of t d label); text = text_of t }
 
--- the fact is so in the tree
+-- the fact is so in the tree; a text leads nowhere
 abbrev pub Holds : Tree → Fact → Type 0
-Holds t (Leads d label target) = entry_of t d label ≡ target
+Holds t (Leads d (Entry name) target) = entry_of t d (Entry name) ≡ target
+Holds t (Leads d Parent target) = entry_of t d Parent ≡ target
+Holds t (Leads d Text target) = ⊥
 Holds t (Reads n text) = text_of t n ≡ Some text
 
 -- what the tree says of a number under a label: where it leads, and for a link's key its text

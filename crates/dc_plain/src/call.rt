@@ -99,6 +99,8 @@ pub enum Reply {
 /// took effect.
 #[derive(Debug, Drop, PartialEq, Eq)]
 pub struct Stamped {
+    /// The answer.
     pub reply: Reply,
+    /// How many changes came before it.
     pub at: u64,
 }

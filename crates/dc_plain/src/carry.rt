@@ -9,7 +9,7 @@ use crate::plan::{Change, New, Spot};
 use crate::resolve::Place;
 use crate::rows::{Entry, Inode, Node, insert_entry, insert_inode, remove_entry, remove_inode};
 use crate::{PlainTree, Reply};
-use dc_names::{Name, NoMemory};
+use dc_names::NoMemory;
 use std::alloc::Global;
 
 impl New<'_> {

@@ -15,7 +15,9 @@ pub enum Label<'a> {
 /// number.
 #[derive(Clone, Copy)]
 pub struct Key<'a> {
+    /// The inode's number.
     pub number: u64,
+    /// What is asked of it.
     pub label: Label<'a>,
 }
 

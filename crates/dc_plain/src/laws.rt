@@ -2,7 +2,7 @@
 
 ghost use Rattle.dc_plain.specs.Trees.{empty_tree};
 ghost use Rattle.dc_plain.specs.IsWellFormed.{IsWellFormed};
-ghost use Rattle.dc_plain.specs.Laws.{KeepsTreesWellFormed, KeepsWithinLimit, KeepsRunsWellFormed, WalksRefuseByThree, PlacesRefuseByThree, WalksStay, PlacesStay, TouchesTheListed, TouchesFourAtMost, AltersWhereItTouches};
+ghost use Rattle.dc_plain.specs.Laws.{KeepsTreesWellFormed, KeepsWithinLimit, KeepsRunsWellFormed, WalksRefuseByThree, PlacesRefuseByThree, WalksStay, PlacesStay, TouchesTheListed, TouchesFourAtMost, AltersWhereItTouches, RefusalsAlterNothing};
 
 /// The tree that is opened is well formed.
 pub fn opening_tree_is_well_formed()
@@ -14,6 +14,11 @@ pub fn operations_keep_trees_well_formed()
     ensures well_formed { KeepsTreesWellFormed }
     ensures within { KeepsWithinLimit }
     ensures runs { KeepsRunsWellFormed }
+{}
+
+/// A call that is refused leaves the tree as it was.
+pub fn refusals_alter_nothing()
+    ensures { RefusalsAlterNothing }
 {}
 
 /// A path is refused by ENOENT, ENOTDIR or ELOOP alone, whoever tells where entries lead.

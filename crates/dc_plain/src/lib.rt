@@ -23,6 +23,6 @@ pub use call::{Call, Follow, Reply, Stamped};
 pub use key::{Key, Label};
 pub use laws::{
     calls_touch_the_listed_keys, opening_tree_is_well_formed, operations_keep_trees_well_formed,
-    resolution_refuses_with_few_numbers, resolution_stays_as_more_is_told,
+    refusals_alter_nothing, resolution_refuses_with_few_numbers, resolution_stays_as_more_is_told,
 };
 pub use plain::PlainTree;

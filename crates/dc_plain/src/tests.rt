@@ -1,6 +1,10 @@
 ghost use Rattle.std.specs.Prelude.{◌≤◌};
 
-use crate::{Call, Follow, PlainTree, Reply};
+use crate::{
+    Call, Follow, PlainTree, Reply, calls_touch_the_listed_keys, opening_tree_is_well_formed,
+    operations_keep_trees_well_formed, refusals_alter_nothing, resolution_refuses_with_few_numbers,
+    resolution_stays_as_more_is_told,
+};
 use dc_names::{Kind, NoMemory};
 use std::alloc::Global;
 use std::test::Fail;
@@ -332,4 +336,15 @@ fn makes_no_more_than_the_limit(rt: HostRuntime) -> Result<(), Fail> {
     ];
     assert_eq!(rt; first_other(rt.alloc(), 1, &rows)?, rows.len());
     Ok(())
+}
+
+/// The laws hold by their proofs; here each is called.
+#[test]
+fn laws_are_called() {
+    opening_tree_is_well_formed();
+    operations_keep_trees_well_formed();
+    refusals_alter_nothing();
+    resolution_refuses_with_few_numbers();
+    resolution_stays_as_more_is_told();
+    calls_touch_the_listed_keys();
 }
