@@ -9,7 +9,7 @@ use Rattle.dc_plain.proofs.Holders.{same_test}
 use Rattle.dc_plain.specs.Trees.{Tree, Spot, spot_cmp, how_many, target_of, Inode, inode_of, place_at, kind_of, names_of, names_in}
 use Rattle.dc_plain.specs.Trees.Inode.{Directory, Regular, Symbolic}
 use Rattle.dc_plain.specs.IsWellFormed.{IsWellFormed}
-use Rattle.dc_plain.specs.Operations.{count_at, stat}
+use Rattle.dc_plain.specs.Reads.{count_at, stat}
 use Rattle.dc_plain.specs.declared.call.Follow.TheVariants as follow
 use Rattle.dc_plain.specs.Refusals.{walk_on, ◌>>=◌}
 use Rattle.dc_plain.specs.Requests.Answer.{Counted}

@@ -1,5 +1,5 @@
 ghost use Rattle.std.specs.Prelude.{◌≡◌, ℕ, IfOk};
-ghost use Rattle.dc_plain.specs.Operations.{look, stat, readlink, list_names};
+ghost use Rattle.dc_plain.specs.Reads.{look, stat, readlink, list_names};
 ghost use Rattle.dc_plain.specs.Requests.{answer_of, request_of};
 ghost use Rattle.dc_plain.specs.Refusals.{walk_on};
 ghost use Rattle.dc_ops.specs.Asked.{IsSought, IsToldAtLength};

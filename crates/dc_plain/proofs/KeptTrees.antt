@@ -4,7 +4,8 @@ use Rattle.dc_plain.specs.Trees.{Tree}
 use Rattle.dc_plain.specs.Trees.Inode.{Directory, Regular}
 use Rattle.dc_plain.specs.Requests.{Answer, Request}
 use Rattle.dc_plain.specs.Requests.Request.{Look, Readlink, Stat, List_names, Mkdir, Create, Hard_link, Symlink, Unlink, Rmdir, Rename}
-use Rattle.dc_plain.specs.Operations.{look, readlink, stat, list_names, change_of, settled, Change}
+use Rattle.dc_plain.specs.Reads.{look, readlink, stat, list_names}
+use Rattle.dc_plain.specs.Operations.{change_of, settled, Change}
 use Rattle.dc_plain.specs.Runs.{tree_after}
 use Rattle.dc_plain.specs.IsWellFormed.{IsWellFormed}
 use Rattle.dc_plain.specs.Laws.{KeepsTreesWellFormed, KeepsWithinLimit, KeepsRunsWellFormed}

@@ -8,7 +8,8 @@ use Rattle.dc_plain.specs.Requests.{Answer, Request}
 use Rattle.dc_plain.specs.Requests.Request.{Look, Readlink, Stat, List_names, Mkdir, Create, Hard_link, Symlink, Unlink, Rmdir, Rename}
 use Rattle.dc_plain.specs.Refusals.{path_or_fault}
 use Rattle.dc_plain.specs.Effects.{without_there}
-use Rattle.dc_plain.specs.Operations.{make, look, readlink, stat, list_names, left_alone, rename, change_of, settled, Change, same_inode}
+use Rattle.dc_plain.specs.Reads.{look, readlink, stat, list_names}
+use Rattle.dc_plain.specs.Operations.{make, left_alone, rename, change_of, settled, Change, same_inode}
 use Rattle.dc_plain.specs.Runs.{tree_after}
 use Rattle.dc_plain.specs.IsWellFormed.{IsWellFormed}
 use Rattle.dc_plain.specs.TouchedKeys.{entry_key, own_keys, keys_taken, keys_renamed, at_name, listed, unless_refused, keys_touched}

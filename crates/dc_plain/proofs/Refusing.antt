@@ -14,7 +14,8 @@ use Rattle.dc_plain.specs.Requests.Request.{Look, Readlink, Stat, List_names, Mk
 use Rattle.dc_plain.specs.Refusals.{◌>>=◌, refuse, path_or_fault, place_on, spot_on, name_or, name_or_each, present, is_full}
 use Rattle.dc_plain.specs.Effects.{with_new, with_entry_for, without_entry}
 use Rattle.dc_plain.specs.Plans.{with_moved}
-use Rattle.dc_plain.specs.Operations.{Change, make, link, unlink, rmdir, is_beneath, replaceable, same_inode, rename, look, readlink, stat, list_names, left_alone, change_of, settled}
+use Rattle.dc_plain.specs.Reads.{look, readlink, stat, list_names}
+use Rattle.dc_plain.specs.Operations.{Change, make, link, unlink, rmdir, is_beneath, replaceable, same_inode, rename, left_alone, change_of, settled}
 use Rattle.dc_plain.specs.Laws.{RefusalsAlterNothing}
 
 -- a refused change leaves the tree

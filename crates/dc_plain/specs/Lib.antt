@@ -8,6 +8,7 @@ pub mod IsWellFormed
 pub mod Requests
 pub mod Refusals
 pub mod Effects
+pub mod Reads
 pub mod Operations
 pub mod Runs
 pub mod Laws

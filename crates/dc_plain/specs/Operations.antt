@@ -1,21 +1,19 @@
 -- What each call answers on a tree, and the tree that it leaves.
 use Rattle.std.specs.Prelude.{ℕ, zero, suc, List, Bool, true, false, not, ◌==◌, ◌&&◌, ◌||◌, nat_le, length, Option, Some, None, is_some, if◌then◌else◌, Result, Ok, Err}
 use Rattle.dc_names.specs.Bytes.{is_empty}
-use Rattle.dc_plain.specs.declared.call.Follow.{Follow}
-use Rattle.dc_plain.specs.declared.call.Follow.TheVariants as follow
 use Rattle.dc_plain.specs.Facts.{Place}
 use Rattle.dc_plain.specs.Facts.Label.{Entry}
 use Rattle.dc_plain.specs.Resolution.{is_directory}
-use Rattle.dc_plain.specs.Trees.{Tree, Inode, entry_of, text_of, names_of, names_in, holder_of, if_held}
+use Rattle.dc_plain.specs.Trees.{Tree, Inode, entry_of, names_of, names_in, holder_of, if_held}
 use Rattle.dc_plain.specs.Trees.Inode.{Directory, Regular, Symbolic}
 use Rattle.dc_plain.specs.Requests.{Request, Answer}
 use Rattle.dc_plain.specs.Requests.Request.{Look, Readlink, Stat, List_names, Mkdir, Create, Hard_link, Symlink, Unlink, Rmdir, Rename}
-use Rattle.dc_plain.specs.Requests.Answer.{Found, Done, Nothing, Bytes, Names, Counted, Refused}
-use Rattle.dc_plain.specs.Refusals.{◌>>=◌, refuse, path_or_fault, walk_on, place_on, spot_on, name_or, name_or_each, present, is_full}
+use Rattle.dc_plain.specs.Requests.Answer.{Done, Nothing, Refused}
+use Rattle.dc_plain.specs.Refusals.{◌>>=◌, refuse, path_or_fault, place_on, spot_on, name_or, name_or_each, present, is_full}
+use Rattle.dc_plain.specs.Reads.{look, readlink, stat, list_names}
 use Rattle.dc_plain.specs.Effects.{with_new, with_entry_for, without_entry, without_entry_alone, without_there}
 
 -- the answer with the tree that is left, or a refusal
-
 abbrev pub Change : Type 0
 Change = Result (Answer × Tree) ℕ
 
@@ -106,32 +104,11 @@ symlink limit t base text path = do
   link_text ← path_or_fault text
   make limit t base path false (Symbolic text)
 
-abbrev pub look : Tree → ℕ → List ℕ → Follow → Result Answer ℕ
-look t base text how = do
-  place ← walk_on t base text how
-  Ok (Found place.0 place.1)
-
-abbrev pub readlink : Tree → ℕ → List ℕ → Result Answer ℕ
-readlink t base text = do
-  place ← walk_on t base text follow.No
-  elim (text_of t place.0) [ None ↦ Err 22 | Some bytes ↦ Ok (Bytes bytes) ]
-
-abbrev pub count_at : Tree → Place → ℕ
-count_at t place = if is_directory place then length (names_in t place.0) else names_of t place.0
-
-abbrev pub stat : Tree → ℕ → List ℕ → Result Answer ℕ
-stat t base text = do
-  place ← walk_on t base text follow.Yes
-  Ok (Counted place.0 place.1 (count_at t place))
-
-abbrev pub list_names : Tree → ℕ → List ℕ → Result Answer ℕ
-list_names t base text = do
-  place ← walk_on t base text follow.Dir
-  Ok (Names (names_in t place.0))
-
+-- a read, which leaves the tree as it is
 abbrev pub left_alone : Tree → Result Answer ℕ → Change
 left_alone t answered = answered >>= λ answer. Ok (answer, t)
 
+-- by the request
 abbrev pub change_of : ℕ → Tree → Request → Change
 change_of limit t (Look base path how) = left_alone t (look t base path how)
 change_of limit t (Readlink base path) = left_alone t (readlink t base path)

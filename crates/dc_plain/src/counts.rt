@@ -2,7 +2,7 @@
 
 ghost use Rattle.std.specs.Prelude.{◌≡◌, ◌==◌, map, filter, length, IfOk};
 ghost use Rattle.dc_names.specs.Bytes.{is_empty};
-ghost use Rattle.dc_plain.specs.Operations.{count_at};
+ghost use Rattle.dc_plain.specs.Reads.{count_at};
 ghost use Rattle.dc_plain.specs.Plain.{entry_shown};
 ghost use Rattle.dc_plain.specs.Trees.{how_many, names_in as names_within, names_of as names_of_inode};
 

@@ -1,6 +1,6 @@
 //! The calls that change nothing.
 
-ghost use Rattle.dc_plain.specs.Operations.{look, readlink, stat, list_names};
+ghost use Rattle.dc_plain.specs.Reads.{look, readlink, stat, list_names};
 ghost use Rattle.dc_plain.specs.Requests.{answer_of};
 ghost use Rattle.dc_plain.specs.Stops.{Finds};
 

@@ -1,6 +1,6 @@
 -- How many names a file or link has, or how many entries stand in a directory.
 use Rattle.std.specs.Prelude.{ℕ, option_map, unwrap_or}
-use Rattle.dc_plain.specs.Operations.{count_at}
+use Rattle.dc_plain.specs.Reads.{count_at}
 use Rattle.dc_plain.specs.Trees.{Tree, place_at}
 
 -- 0 where nothing lives
