@@ -1,19 +1,19 @@
-ghost use Rattle.std.specs.Prelude.{◌≡◌, ◌≢◌, ◌/◌, ℕ, [], IfOk, OnOk, replicate, slice_set};
+ghost use Rattle.std.specs.Prelude.{◌≡◌, ◌≢◌, ◌/◌, ℕ, ◌<◌, [], IfOk, OnOk, IsTrue, length, not, replicate, slice_set};
 ghost use Rattle.std.specs.FinMap as map;
 ghost use Rattle.dc_plain.specs.KeysShown.{key_shown};
-ghost use Rattle.dc_shrink.specs.Listings.{listing};
-ghost use Rattle.dc_index.specs.Slots.{slot_of, bucket_of};
+ghost use Rattle.dc_shrink.specs.Listings.{listing, added, pinned_once, is_used};
+ghost use Rattle.dc_index.specs.Slots.{slot_of, bucket_of, has_key};
 ghost use Rattle.dc_index.specs.Slots.Slot.{Free, Retired, Holds};
 
 use crate::Index;
-use dc_names::{Name, NoMemory};
+use dc_names::{Name, NoMemory, hash};
 use dc_plain::{Key, Label};
-use dc_shrink::Shrinker;
+use dc_shrink::{PinFault, Shrinker};
 use std::alloc::Global;
 use std::test::*;
 
-// The calls that take memory are made once more where it was refused, if nothing changed by that. So
-// the test passes whichever allocation `rt try --test --fail-alloc N` refuses.
+// The calls that take memory are made once more where it was refused, if nothing changed by that.
+// So the test passes whichever allocation `rt try --test --fail-alloc N` refuses.
 
 fn new_index_again(alloc: Global) -> Result<Index, NoMemory>
     ensures { IfOk result (λ index. index ≡ replicate 4096 Free) }
@@ -50,8 +50,8 @@ fn set_again(index: &mut Index, alloc: Global, row: u64, key: &Key<'_>) -> Resul
     }
 }
 
-/// The row that a key is to have among free ones, the row that it is to have once that one is retired,
-/// where it is found then, and where after its row was cleared.
+/// The row that a key is to have among free ones, the row that it is to have once that one is
+/// retired, where it is found then, and where after its row was cleared.
 fn rows_of(alloc: Global, key: &Key<'_>) -> Result<[Option<u64>; 4], NoMemory> {
     let mut index = new_index_again(alloc)?;
     let shrinker = new_shrinker_again(alloc)?;
@@ -79,6 +79,146 @@ fn keys_stand_in_their_bucket(rt: HostRuntime) -> Result<(), Fail> {
     for (number, label, row) in labels {
         let rows = rows_of(rt.alloc(), &Key { number, label })?;
         assert_eq!(rt; rows, [Some(row), Some(row + 1), Some(row + 1), None]);
+    }
+    Ok(())
+}
+
+/// An index and a shrinker in which the same rows are in use.
+#[derive(Drop)]
+struct Rows {
+    index: Index,
+    shrinker: Shrinker,
+    ghost agree: { (row : ℕ) → has_key (slot_of index row) ≡ is_used shrinker row },
+    ghost as_many: { length index ≡ shrinker.rows },
+}
+
+fn add_again(shrinker: &mut Shrinker, row: u64) -> Result<(), NoMemory>
+    requires within { row < shrinker.old.rows }
+    requires unused { IsTrue (not (is_used shrinker.old row)) }
+    ensures { OnOk result (shrinker.new ≡ added shrinker.old row) }
+{
+    let victim = shrinker.victim();
+    match shrinker.add(row) {
+        Ok(()) => Ok(()),
+        Err(NoMemory) => {
+            if shrinker.victim() != victim {
+                return Err(NoMemory);
+            }
+            shrinker.add(row)
+        }
+    }
+}
+
+fn pin_again(shrinker: &mut Shrinker, row: u64) -> Result<(), PinFault>
+    requires { IsTrue (is_used shrinker.old row) }
+    ensures { OnOk result (shrinker.new ≡ pinned_once shrinker.old row) }
+{
+    let pins = shrinker.pins(row);
+    match shrinker.pin(row) {
+        Ok(()) => Ok(()),
+        Err(fault) => {
+            if shrinker.pins(row) != pins {
+                return Err(fault);
+            }
+            shrinker.pin(row)
+        }
+    }
+}
+
+/// The key of the text of a link.
+fn text_of(number: u64) -> Key<'static> {
+    Key {
+        number,
+        label: Label::Text,
+    }
+}
+
+impl Rows {
+    fn new(alloc: Global) -> Result<Rows, NoMemory> {
+        let index = new_index_again(alloc)?;
+        let shrinker = new_shrinker_again(alloc)?;
+        Ok(Rows { index, shrinker })
+    }
+
+    /// The row that is chosen for a text.
+    fn choose(&self, number: u64) -> Option<u64> {
+        self.index.choose(&self.shrinker, &text_of(number))
+    }
+
+    /// Gives a text without a row the one that is chosen for it, as the most recently used.
+    fn give(self, alloc: Global, number: u64) -> Result<Rows, NoMemory> {
+        let Rows {
+            mut index,
+            mut shrinker,
+        } = self;
+        let key = text_of(number);
+        let (Some(row), None) = (index.choose(&shrinker, &key), index.row_of(&key)) else {
+            return Ok(Rows { index, shrinker });
+        };
+        shrinker.remove(row);
+        set_again(&mut index, alloc, row, &key)?;
+        add_again(&mut shrinker, row)?;
+        Ok(Rows { index, shrinker })
+    }
+
+    /// Pins the row of a text.
+    fn pin(self, number: u64) -> Result<Rows, PinFault> {
+        let Some(row) = self.index.row_of(&text_of(number)) else {
+            return Ok(self);
+        };
+        let Rows {
+            index,
+            mut shrinker,
+        } = self;
+        pin_again(&mut shrinker, row)?;
+        Ok(Rows { index, shrinker })
+    }
+}
+
+/// The next number after this one whose text is of a bucket.
+fn next_in(bucket: u64, after: u64) -> u64 {
+    (after..100_000)
+        .find(|number| *number > after && hash(*number, b"") % 1024 == bucket)
+        .unwrap_or(0)
+}
+
+/// Six numbers whose texts are of a bucket.
+fn rivals(bucket: u64) -> [u64; 6] {
+    let mut rivals = [0; 6];
+    let mut last = 0;
+    for at in 0..6 {
+        last = next_in(bucket, last);
+        rivals[at] = last;
+    }
+    rivals
+}
+
+/// The rows that are chosen for six texts of a bucket: for each of the first five, which is given
+/// its row, and for the last one before and after each of the four rows is pinned.
+fn chosen_in(alloc: Global, bucket: u64) -> Result<[Option<u64>; 10], Fail> {
+    let texts = rivals(bucket);
+    let mut rows = Rows::new(alloc)?;
+    let mut chosen = [None; 10];
+    for at in 0..5 {
+        chosen[at] = rows.choose(texts[at]);
+        rows = rows.give(alloc, texts[at])?;
+    }
+    for at in 1..5 {
+        chosen[at + 4] = rows.choose(texts[5]);
+        rows = rows.pin(texts[at])?;
+    }
+    chosen[9] = rows.choose(texts[5]);
+    Ok(chosen)
+}
+
+#[test]
+fn chooses_the_least_recently_used_unpinned_row(rt: HostRuntime) -> Result<(), Fail> {
+    for bucket in [959, 767, 519] {
+        let chosen = chosen_in(rt.alloc(), bucket)?;
+        for at in 0..9 {
+            assert_eq!(rt; chosen[at], Some(4 * bucket + at as u64 % 4));
+        }
+        assert_eq!(rt; chosen[9], None);
     }
     Ok(())
 }
