@@ -1,18 +1,19 @@
 -- What was written once some phases of all are served, and in the middle of the next.
-use Rattle.std.proofs.Common.{◌≡◌, ℕ, ◌+◌, ◌<◌, List, [], ◌∷◌, ◌++◌, take, drop, get_or, length, map, Option, ap, ap₂, sym, subst, ◌∙◌, refl, append_assoc}
+use Rattle.std.proofs.Common.{◌≡◌, ℕ, ◌+◌, ◌<◌, ◌≤◌, List, [], ◌∷◌, ◌++◌, take, drop, get_or, length, map, Option, ap, sym, subst, ◌∙◌, refl, append_assoc, arith}
 use Rattle.std.proofs.lemmas.List.{append-nil, get_or-map, length-map, take-append-drop, take_more}
 use Rattle.std.proofs.lemmas.List.Concat.{flat_map-append}
 use Rattle.std.specs.Io.KnownBytes.{Appends}
 use Rattle.std.specs.Borrow.{Bor}
 use Rattle.dc_lang.specs.declared.line.Line.{Line}
 use Rattle.dc_lang.specs.Commands.{Order, said_by}
-use Rattle.dc_serve.specs.Bytes.{AppendsFront, WritesFront}
+use Rattle.dc_serve.specs.Bytes.{AppendsFront, IsServiceFault, WritesFront}
 use Rattle.dc_serve.specs.Endings.{ServesFront}
 use Rattle.dc_serve.specs.declared.fault.ServeFault.{ServeFault}
 use Rattle.dc_serve.specs.declared.fault.ServeFault.TheVariants.{BadSize, Read, BadLine, NoMemory, Spent, Write}
 use Rattle.dc_serve.specs.Phases.{by_session, in_order, orders_in}
 use Rattle.dc_serve.specs.Serving.{State, after_all, replies_in}
 use Rattle.dc_serve.proofs.BytesLemmas.{appends_both, front_after}
+use Rattle.dc_serve.proofs.Clocks.{clock-rises}
 use Rattle.dc_serve.proofs.Served.{after_all-append, replies_in-append, replies_more, state_more}
 
 in_order-next : (phases : List (List Order)) (i : ℕ) → i < length phases → in_order (take (i + 1) phases) ≡ in_order (take i phases) ++ by_session (get_or phases i [])
@@ -70,6 +71,22 @@ phase_fails start self phases i old mid new text (BadLine n) so_far is fails = a
 phase_fails start self phases i old mid new text NoMemory so_far is fails = absurd fails
 phase_fails start self phases i old mid new text Spent so_far is fails = absurd fails
 phase_fails start self phases i old mid new text Write so_far is fails = phase_front start self phases i old mid new text so_far is fails
+
+-- where serving a phase stops, the replies to those before it were written
+pub phase_stops : (start self : State) (phases : List (List Order)) (i : ℕ) (old mid : Option (List ℕ)) (fault : ServeFault) → Served start self phases i old mid
+    → IsServiceFault (after_all self (by_session (get_or phases i []))).clock fault → ServesFront start phases old mid fault
+phase_stops start self phases i old mid BadSize so_far is = absurd is
+phase_stops start self phases i old mid Read so_far is = absurd is
+phase_stops start self phases i old mid (BadLine n) so_far is = absurd is
+phase_stops start self phases i old mid NoMemory so_far is = record { count = i; written = so_far.written }
+phase_stops start self phases i old mid Spent so_far is =
+    let these = by_session (get_or phases i []) in
+    let behind = in_order (drop (i + 1) phases) in
+    let end = state_more start self _ (in_order (take i phases)) (these ++ behind) so_far.state refl ∙ ap (after_all start) (sym (in_order-cut phases i so_far.within)) in
+    let all = sym (after_all-append self these behind) ∙ end in
+    let rises = subst (λ (state : State). (after_all self these).clock ≤ state.clock) all (clock-rises (after_all self these) behind) in
+    omega arith
+phase_stops start self phases i old mid Write so_far is = absurd is
 
 -- the orders of a borrowed phase
 abbrev pub orders_of : Bor (List Line) → List Order

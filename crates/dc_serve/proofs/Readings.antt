@@ -1,11 +1,11 @@
 -- Lines that say something, and the first that doesn't.
-use Rattle.std.proofs.Common.{◌≡◌, ℕ, ◌+◌, ◌-◌, ◌<◌, List, [], ◌∷◌, ◌++◌, take, drop, length, get_or, map, refl, append_assoc, ap, sym, subst, ◌∙◌, arith}
-use Rattle.std.proofs.lemmas.List.{get_or-map, length-map, length-take-le, map_push, take-append-drop, take_more}
+use Rattle.std.proofs.Common.{ℕ, ◌+◌, ◌<◌, List, [], ◌∷◌, ◌++◌, take, drop, length, get_or, map, append_assoc, ap, sym, subst, ◌∙◌, arith}
+use Rattle.std.proofs.lemmas.List.{get_or-map, length-map, length-take-le, take-append-drop, take_more}
 use Rattle.std.specs.Borrow.{Bor}
 use Rattle.dc_lang.specs.Commands.{Said, Says}
 use Rattle.dc_serve.specs.declared.fault.ServeFault.{ServeFault}
 use Rattle.dc_serve.specs.declared.fault.ServeFault.TheVariants.{BadSize, Read, BadLine, NoMemory, Spent, Write}
-use Rattle.dc_serve.specs.Input.{AllSay, IsFirstBad, IsLineFault, IsLinesFault}
+use Rattle.dc_serve.specs.Input.{AllSay, IsLineFault, IsLinesFault}
 
 pub one_more_says : (lines : List (List ℕ)) (said : List Said) (line : List ℕ) (one : Said) → AllSay lines said → Says line one → AllSay (lines ++ line ∷ []) (said ++ one ∷ [])
 one_more_says [] [] line one all says = (says, tt)

@@ -1,11 +1,12 @@
 -- What the server answers to orders that come in parts.
-use Rattle.std.proofs.Common.{◌≡◌, ℕ, suc, ◌+◌, List, [], ◌∷◌, ◌++◌, Bool, true, false, cond, ◌==◌, filter, map, refl, ap, ap₂, sym, ◌∙◌, append_assoc, add-one}
-use Rattle.std.specs.List.{flat_map, slice_split, onto_first}
+use Rattle.std.proofs.Common.{◌≡◌, ℕ, ◌+◌, List, [], ◌∷◌, ◌++◌, Bool, true, false, cond, ◌==◌, map, refl, ap, ap₂, sym, ◌∙◌, append_assoc, add-one}
+use Rattle.std.specs.List.{slice_split, onto_first}
 use Rattle.std.proofs.lemmas.List.Elements.{filter-append}
+use Rattle.dc_plain.specs.Runs.{replies_of, tree_after_all}
 use Rattle.dc_lang.specs.Commands.{Order, Said}
 use Rattle.dc_lang.specs.Commands.Said.{Sync, Orders}
-use Rattle.dc_serve.specs.Phases.{is_sync, orders_in, phases, of_session, of_sessions, in_order}
-use Rattle.dc_serve.specs.Serving.{State, after, after_all, reply_in, replies_in}
+use Rattle.dc_serve.specs.Phases.{orders_in, of_session, of_sessions}
+use Rattle.dc_serve.specs.Serving.{State, after, after_all, answer_in, answers_in, reply_in, replies_in, requests_in}
 
 pub replies_in-append : (state : State) (xs ys : List Order) → replies_in state (xs ++ ys) ≡ replies_in state xs ++ replies_in (after_all state xs) ys
 replies_in-append state [] ys = refl
@@ -16,6 +17,14 @@ replies_in-append state (x ∷ xs) ys =
 pub after_all-append : (state : State) (xs ys : List Order) → after_all state (xs ++ ys) ≡ after_all (after_all state xs) ys
 after_all-append state [] ys = refl
 after_all-append state (x ∷ xs) ys = after_all-append (after state x) xs ys
+
+pub answers-run : (state : State) (orders : List Order) → answers_in state orders ≡ replies_of state.limit state.tree (requests_in state orders)
+answers-run state [] = refl
+answers-run state (order ∷ orders) = ap (λ answers. answer_in state order ∷ answers) (answers-run (after state order) orders)
+
+pub tree-run : (state : State) (orders : List Order) → (after_all state orders).tree ≡ tree_after_all state.limit state.tree (requests_in state orders)
+tree-run state [] = refl
+tree-run state (order ∷ orders) = tree-run (after state order) orders
 
 -- the orders of the first of what is said, and those of the rest
 pub orders_in-first : (said : Said) (rest : List Said) → orders_in (said ∷ rest) ≡ orders_in (said ∷ []) ++ orders_in rest

@@ -1,8 +1,8 @@
 -- What reading and writing leave, where a reader and a writer tell their bytes.
-use Rattle.std.specs.Prelude.{◌≡◌, ℕ, ◌≤◌, List, ◌++◌, length, Option}
+use Rattle.std.specs.Prelude.{◌≡◌, ℕ, ◌≤◌, ◌^◌, List, ◌++◌, length, Option}
 use Rattle.std.specs.Io.KnownBytes.{Consumes, IsAtEnd, Appends}
 use Rattle.dc_serve.specs.declared.fault.ServeFault.{ServeFault}
-use Rattle.dc_serve.specs.declared.fault.ServeFault.TheVariants.{BadSize, Read, BadLine, NoMemory, Spent, Write}
+use Rattle.dc_serve.specs.declared.fault.ServeFault.TheVariants.{Read, NoMemory, Spent, Write}
 
 -- an input of at most 1,048,576 bytes was read up to its end
 pub record ReadWhole (before after : Option (List ℕ)) (input : List ℕ) : Type 0 where
@@ -16,11 +16,11 @@ IsReadFault Read = Unit {0}
 IsReadFault NoMemory = Unit {0}
 IsReadFault _ = ⊥
 
--- answering ends with these faults alone
-abbrev pub IsServiceFault : ServeFault → Type 0
-IsServiceFault NoMemory = Unit {0}
-IsServiceFault Spent = Unit {0}
-IsServiceFault _ = ⊥
+-- answering ends with these faults alone, `Spent` only where the clock gets as far as this limit
+abbrev pub IsServiceFault : ℕ → ServeFault → Type 0
+IsServiceFault clock NoMemory = Unit {0}
+IsServiceFault clock Spent = 2 ^ 62 ≤ clock
+IsServiceFault clock _ = ⊥
 
 -- known bytes have grown by a front of the text
 pub record AppendsFront (old new : Option (List ℕ)) (text : List ℕ) : Type 0 where

@@ -1,12 +1,12 @@
 -- How a run ends, in the bytes that the reader has left and the writer holds.
-use Rattle.std.specs.Prelude.{◌≡◌, ℕ, List, take, Option, ◌⊎◌}
+use Rattle.std.specs.Prelude.{ℕ, ◌≤◌, ◌^◌, List, take, Option, ◌⊎◌}
 use Rattle.std.specs.Io.KnownBytes.{Appends, Keeps}
 use Rattle.dc_lang.specs.Commands.{Order, Said}
 use Rattle.dc_serve.specs.Bytes.{AppendsFront, ReadWhole}
 use Rattle.dc_serve.specs.Input.{AllSay, IsFirstBad}
 use Rattle.dc_serve.specs.Lines.{lines_of}
 use Rattle.dc_serve.specs.Phases.{in_order, phases}
-use Rattle.dc_serve.specs.Serving.{State, opening, replies_in}
+use Rattle.dc_serve.specs.Serving.{State, after_all, opening, replies_in}
 use Rattle.dc_serve.specs.declared.fault.ServeFault.{ServeFault}
 use Rattle.dc_serve.specs.declared.fault.ServeFault.TheVariants.{BadSize, Read, BadLine, NoMemory, Spent, Write}
 
@@ -19,10 +19,11 @@ pub record ServesPhases (state : State) (phases : List (List Order)) (old new : 
   pub count : ℕ
   pub written : Appends old new (replies_in state (in_order (take count phases)))
 
--- serving ends early after whole phases, and where writing fails after a front of the text
+-- serving ends early after whole phases, and where writing fails after a front of the text; `Spent`
+-- comes only where the orders bring the clock to its limit
 abbrev pub ServesFront : State → List (List Order) → Option (List ℕ) → Option (List ℕ) → ServeFault → Type 0
 ServesFront state phases old new NoMemory = ServesPhases state phases old new
-ServesFront state phases old new Spent = ServesPhases state phases old new
+ServesFront state phases old new Spent = 2 ^ 62 ≤ (after_all state (in_order phases)).clock
 ServesFront state phases old new Write = AppendsFront old new (replies_in state (in_order phases))
 ServesFront state phases old new _ = ⊥
 
@@ -71,11 +72,11 @@ pub record RefusesLine (n : ℕ) (streams : Streams) : Type 0 where
 abbrev pub StopsEarly : ℕ → Streams → Type 0
 StopsEarly limit streams = Keeps streams.old streams.new ⊎ AnswersPhases limit streams
 
--- what each fault leaves
+-- what each fault leaves; `Spent` never comes, as no input holds so many changes
 abbrev pub EndsBy : ℕ → Streams → ServeFault → Type 0
 EndsBy limit streams BadSize = Keeps streams.old streams.new
 EndsBy limit streams Read = Keeps streams.old streams.new
 EndsBy limit streams (BadLine n) = RefusesLine n streams
 EndsBy limit streams NoMemory = StopsEarly limit streams
-EndsBy limit streams Spent = AnswersPhases limit streams
+EndsBy limit streams Spent = ⊥
 EndsBy limit streams Write = AnswersFront limit streams

@@ -2,7 +2,7 @@
 use Rattle.std.specs.Prelude.{◌≡◌, ℕ, ◌+◌, List, [], ◌∷◌, ◌++◌, length}
 use Rattle.dc_lang.specs.Commands.{Said, Says}
 use Rattle.dc_serve.specs.declared.fault.ServeFault.{ServeFault}
-use Rattle.dc_serve.specs.declared.fault.ServeFault.TheVariants.{BadSize, Read, BadLine, NoMemory, Spent, Write}
+use Rattle.dc_serve.specs.declared.fault.ServeFault.TheVariants.{BadLine, NoMemory}
 
 -- the lines say this, one after the other
 abbrev pub AllSay : List (List ℕ) → List Said → Type 0

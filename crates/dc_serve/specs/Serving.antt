@@ -1,5 +1,5 @@
 -- What the server keeps between commands, and what it answers.
-use Rattle.std.specs.Prelude.{ℕ, List, [], ◌∷◌, ◌++◌, Bool, true, false, replicate, slice_index, slice_set, if◌then◌else◌}
+use Rattle.std.specs.Prelude.{ℕ, List, [], ◌∷◌, ◌++◌, replicate, slice_index, slice_set}
 use Rattle.dc_plain.specs.Trees.{Tree, empty_tree}
 use Rattle.dc_plain.specs.Requests.{Request, Answer}
 use Rattle.dc_plain.specs.Requests.Answer.{Found}
@@ -54,6 +54,17 @@ abbrev pub replies_in : State → List Order → List ℕ
 replies_in state [] = []
 replies_in state (order ∷ orders) = reply_in state order ++ replies_in (after state order) orders
 
+-- the calls of orders, each as its state has it
+abbrev pub requests_in : State → List Order → List Request
+requests_in state [] = []
+requests_in state (order ∷ orders) = request_in state order ∷ requests_in (after state order) orders
+
+-- what the orders are answered, one after the other
+abbrev pub answers_in : State → List Order → List Answer
+answers_in state [] = []
+answers_in state (order ∷ orders) = answer_in state order ∷ answers_in (after state order) orders
+
+-- what orders leave
 abbrev pub after_all : State → List Order → State
 after_all state [] = state
 after_all state (order ∷ orders) = after_all (after state order) orders

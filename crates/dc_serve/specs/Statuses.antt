@@ -2,7 +2,7 @@
 use Rattle.std.specs.Prelude.{ℕ}
 use Rattle.clap.specs.Values.{kind_of}
 use Rattle.clap.specs.declared.error.kind.ErrorKind.{ErrorKind}
-use Rattle.clap.specs.declared.error.kind.ErrorKind.TheVariants.{DisplayHelp, DisplayVersion, OutOfMemory}
+use Rattle.clap.specs.declared.error.kind.ErrorKind.TheVariants.{DisplayHelp, OutOfMemory}
 use Rattle.dc_serve.specs.declared.fault.ServeFault.{ServeFault}
 use Rattle.dc_serve.specs.declared.fault.ServeFault.TheVariants.{BadSize, Read, BadLine, NoMemory, Spent, Write}
 use Rattle.dc_serve.specs.declared.fault.OptionsFault.{OptionsFault}
@@ -20,7 +20,6 @@ status_of Write = 4
 -- 0 where help is told, 3 where clap found no memory, 2 for all other words
 abbrev pub kind_status : ErrorKind → ℕ
 kind_status DisplayHelp = 0
-kind_status DisplayVersion = 0
 kind_status OutOfMemory = 3
 kind_status _ = 2
 

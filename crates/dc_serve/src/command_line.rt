@@ -1,4 +1,4 @@
-ghost use Rattle.std.specs.Prelude.{◌≡◌, [], IfOk, IfErr, MatchResult, unwrap_or, map, string_bytes};
+ghost use Rattle.std.specs.Prelude.{◌≡◌, [], IfOk, IfErr, unwrap_or, map, string_bytes};
 ghost use Rattle.clap.specs.Words.{FailsBy, first_of, found_of, matches_of, rows_of};
 ghost use Rattle.clap.specs.Faults.{fault_of};
 ghost use Rattle.dc_serve.specs.CommandLine.{app, IsSize, Spells, Chooses, Refuses};
@@ -48,9 +48,9 @@ fn size(text: &str) -> Result<u64, OptionsFault>
     text.parse::<u64>().map_err(|_| OptionsFault::BadSize)
 }
 
-/// The sizes that the words after the program's name choose, where clap takes them. Whether they are
-/// within their limits isn't tested here. `BadSize` where the text of a size isn't what the number's
-/// `parse` reads.
+/// The sizes that the words after the program's name choose, where clap takes them. Whether they
+/// are within their limits isn't tested here. `BadSize` where the text of a size isn't what the
+/// number's `parse` reads.
 pub fn options(alloc: Global, words: &[String]) -> Result<Options, OptionsFault>
     ensures ok { IfOk result (Chooses (map string_bytes words.now)) }
     ensures err { IfErr result (Refuses (map string_bytes words.now)) }

@@ -6,6 +6,7 @@ mod command_line;
 mod convert;
 mod fault;
 mod gate;
+mod laws;
 mod lines;
 mod phases;
 mod read;
@@ -18,6 +19,7 @@ mod status;
 pub use command_line::options;
 pub use fault::{OptionsFault, ServeFault};
 pub use gate::{FreeGate, Gate};
+pub use laws::replies_are_those_of_a_run;
 pub use running::run;
 pub use sizes::Options;
 

@@ -15,7 +15,8 @@ fn is_sync(line: &Line) -> bool
 /// The lines between those that say `sync`.
 pub fn phases(alloc: Global, lines: &[Line]) -> Result<Vec<&[Line]>, AllocError>
     ensures { IfOk result (λ parts.
-        map (λ part. orders_in (map said_by part.now)) parts.items ≡ phases (map said_by lines.now)) }
+        map (λ part. orders_in (map said_by part.now)) parts.items
+        ≡ phases (map said_by lines.now)) }
 {
     lines.split(|line| is_sync(line)).collect(alloc)
 }

@@ -1,6 +1,5 @@
-ghost use Rattle.std.specs.Prelude.{◌≡◌, ◌≤◌, IfOk, IfErr, map, length};
+ghost use Rattle.std.specs.Prelude.{IfOk, IfErr, map};
 ghost use Rattle.dc_lang.specs.Commands.{Says, said_by};
-ghost use Rattle.dc_serve.specs.Bytes.{ReadWhole};
 ghost use Rattle.dc_serve.specs.Input.{AllSay, IsLineFault, IsLinesFault};
 ghost use Rattle.dc_serve.specs.Lines.{lines_of};
 

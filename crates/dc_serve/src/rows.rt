@@ -1,12 +1,8 @@
 //! Worked rows: what a run writes for its lines.
 
-use crate::{FreeGate, Options, run};
+use crate::tests::USUAL;
+use crate::{FreeGate, run};
 use std::test::Fail;
-
-const SIZES: Options = Options {
-    buckets: 256,
-    inodes: 65536,
-};
 
 /// Lines, and the replies to them.
 const ROWS: [(&str, &str); 13] = [
@@ -85,7 +81,7 @@ fn rows_of_all_commands(rt: HostRuntime) -> Result<(), Fail> {
     for (input, want) in ROWS {
         let mut output = Vec::new(rt.alloc());
         let mut rest = input.as_bytes();
-        run(&rt, rt.alloc(), &mut rest, &mut output, SIZES, &FreeGate)?;
+        run(&rt, rt.alloc(), &mut rest, &mut output, USUAL, &FreeGate)?;
         assert!(rt; output.as_slice() == want.as_bytes(), "{input}: {output:?}");
     }
     Ok(())

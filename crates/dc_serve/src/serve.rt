@@ -1,6 +1,6 @@
-ghost use Rattle.std.specs.Prelude.{◌≡◌, OnOk, IfErr, map};
+ghost use Rattle.std.specs.Prelude.{OnOk, IfErr, map};
 ghost use Rattle.std.specs.Io.KnownBytes.{Appends};
-ghost use Rattle.dc_lang.specs.Commands.{said_by, order_of};
+ghost use Rattle.dc_lang.specs.Commands.{said_by};
 ghost use Rattle.dc_serve.specs.Endings.{ServesFront};
 ghost use Rattle.dc_serve.specs.Phases.{in_order, orders_in, phases};
 ghost use Rattle.dc_serve.specs.Serving.{replies_in};

@@ -1,11 +1,12 @@
-ghost use Rattle.std.specs.Prelude.{◌≡◌, ◌<◌, ◌≤◌, ◌^◌, ◌++◌, ◌∷◌, [], OnOk, OnErr, IfOk, IfErr, map};
+ghost use Rattle.std.specs.Prelude.{◌≡◌, ◌<◌, ◌++◌, ◌∷◌, [], OnOk, IfOk, IfErr, map};
 ghost use Rattle.dc_plain.specs.Requests.{answer_of, request_of};
 ghost use Rattle.dc_plain.specs.Runs.{reply_of};
 ghost use Rattle.dc_plain.specs.Trees.{empty_tree};
 ghost use Rattle.dc_ops.specs.Asked.{IsChange};
 ghost use Rattle.dc_lang.specs.Commands.{order_of, said_by};
 ghost use Rattle.dc_serve.specs.Phases.{by_session, orders_for, orders_in};
-ghost use Rattle.dc_serve.specs.Serving.{State, opening, called, bases_after, reply_in, after, replies_in, after_all};
+ghost use Rattle.dc_serve.specs.Serving.{State, opening, called, bases_after, reply_in, after};
+ghost use Rattle.dc_serve.specs.Serving.{replies_in, after_all};
 ghost use Rattle.dc_serve.specs.Bytes.{IsServiceFault};
 
 use crate::{Gate, ServeFault};
@@ -62,7 +63,7 @@ impl<S: Store + Drop> Server<S> {
         ensures reply { IfOk result (λ reply.
             answer_of reply ≡ reply_of self.old.limit self.old.tree (request_of call.now)) }
         ensures new { OnOk result (self.new ≡ called self.old (request_of call.now)) }
-        ensures err { IfErr result IsServiceFault }
+        ensures err { IfErr result (IsServiceFault self.old.clock) }
     {
         let plan = match plan(&self.store, call, self.limit) {
             Ok(plan) => plan,
@@ -81,7 +82,7 @@ impl<S: Store + Drop> Server<S> {
         ensures reply { IfOk result (λ reply.
             answer_of reply ≡ reply_of self.old.limit self.old.tree (request_of call.now)) }
         ensures new { OnOk result (self.new ≡ called self.old (request_of call.now)) }
-        ensures err { IfErr result IsServiceFault }
+        ensures err { IfErr result (IsServiceFault self.old.clock) }
     {
         match call {
             Call::Look { .. } | Call::Stat { .. } => Ok(seek(&self.store, call)),
@@ -100,7 +101,8 @@ impl<S: Store + Drop> Server<S> {
     fn go(&mut self, command: &Command, reply: &Reply)
         requires { command.now.session < 16 }
         ensures { self.new ≡ record self.old {
-          bases = bases_after command.now.verb command.now.session (answer_of reply.now) self.old.bases;
+          bases = bases_after command.now.verb command.now.session (answer_of reply.now)
+              self.old.bases;
         } }
     {
         if let (Verb::Cd, Reply::Found(number, _)) = (command.verb, reply) {
@@ -114,7 +116,7 @@ impl<S: Store + Drop> Server<S> {
         ensures reply { IfOk result (λ text.
             text.items ≡ reply_in self.old (order_of command.now)) }
         ensures new { OnOk result (self.new ≡ after self.old (order_of command.now)) }
-        ensures err { IfErr result IsServiceFault }
+        ensures err { IfErr result (IsServiceFault self.old.clock) }
     {
         let base = self.bases[command.session as usize];
         let at = self.clock;
@@ -138,7 +140,7 @@ impl<S: Store + Drop> Server<S> {
             ≡ text.old.items ++ replies_in self.old (orders_for session (said_by line.now ∷ []))) }
         ensures new { OnOk result (self.new
             ≡ after_all self.old (orders_for session (said_by line.now ∷ []))) }
-        ensures err { IfErr result IsServiceFault }
+        ensures err { IfErr result (IsServiceFault self.old.clock) }
     {
         let Line::Command(command) = line else {
             return Ok(());
@@ -168,7 +170,8 @@ impl<S: Store + Drop> Server<S> {
             ≡ text.old.items ++ replies_in self.old (orders_for session (map said_by phase.now))) }
         ensures new { OnOk result (self.new
             ≡ after_all self.old (orders_for session (map said_by phase.now))) }
-        ensures err { IfErr result IsServiceFault }
+        ensures err { IfErr result (IsServiceFault
+            (after_all self.old (orders_for session (map said_by phase.now))).clock) }
     {
         for (at, line) in phase.iter().enumerate() {
             let number = first.saturating_add(at as u64);
@@ -189,7 +192,8 @@ impl<S: Store + Drop> Server<S> {
             text.items ≡ replies_in self.old (by_session (orders_in (map said_by phase.now)))) }
         ensures new { OnOk result (self.new
             ≡ after_all self.old (by_session (orders_in (map said_by phase.now)))) }
-        ensures err { IfErr result IsServiceFault }
+        ensures err { IfErr result (IsServiceFault
+            (after_all self.old (by_session (orders_in (map said_by phase.now)))).clock) }
     {
         let mut text = Vec::new(alloc);
         for session in 0..SESSIONS {

@@ -26,7 +26,7 @@ impl OptionsFault {
         match self {
             OptionsFault::BadSize => 2,
             OptionsFault::Words(error) => match error.kind() {
-                ErrorKind::DisplayHelp | ErrorKind::DisplayVersion => 0,
+                ErrorKind::DisplayHelp => 0,
                 ErrorKind::OutOfMemory => 3,
                 _ => 2,
             },

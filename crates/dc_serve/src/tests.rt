@@ -1,11 +1,14 @@
-use crate::{FreeGate, Gate, Options, OptionsFault, ServeFault, options, run};
+use crate::{
+    FreeGate, Gate, Options, OptionsFault, ServeFault, options, replies_are_those_of_a_run, run,
+};
 use std::alloc::{AllocError, Global};
 use std::io;
 use std::io::{Read, Write};
 use std::sync::atomic::{AtomicU64, Ordering};
 use std::test::Fail;
 
-const USUAL: Options = Options {
+/// The sizes that the tests use.
+pub const USUAL: Options = Options {
     buckets: 256,
     inodes: 65536,
 };
@@ -334,4 +337,42 @@ fn words_that_are_refused(rt: HostRuntime) -> Result<(), Fail> {
         assert_eq!(rt; fault.status(), status, "{line}");
     }
     Ok(())
+}
+
+#[test]
+fn texts_and_statuses_of_faults(rt: HostRuntime) -> Result<(), Fail> {
+    for (fault, text, status) in [
+        (ServeFault::BadLine(1), "bad line 1", 1),
+        (
+            ServeFault::BadLine(u64::MAX),
+            "bad line 18446744073709551615",
+            1,
+        ),
+        (ServeFault::BadSize, "bad size", 2),
+        (ServeFault::NoMemory, "no memory", 3),
+        (ServeFault::Spent, "spent", 3),
+        (ServeFault::Read, "read fault", 4),
+        (ServeFault::Write, "write fault", 4),
+    ] {
+        let told = format!(in rt.alloc(); "{fault}")?;
+        assert_eq!(rt; told.as_str(), text);
+        assert_eq!(rt; fault.status(), status, "{text}");
+    }
+    Ok(())
+}
+
+#[test]
+fn help_names_the_options(rt: HostRuntime) -> Result<(), Fail> {
+    let Err(fault) = options(rt.alloc(), &words_of(rt.alloc(), "--help")?) else {
+        panic!(rt; "no help");
+    };
+    let help = format!(in rt.alloc(); "{fault}")?;
+    assert!(rt; help.as_str().contains("--buckets <N>"), "{help}");
+    assert!(rt; help.as_str().contains("--inodes <N>"), "{help}");
+    Ok(())
+}
+
+#[test]
+fn laws_can_be_called() {
+    replies_are_those_of_a_run();
 }

@@ -1,4 +1,4 @@
-use Rattle.std.proofs.Common.{◌≡◌, arith, length, rules, take, drop}
+use Rattle.std.proofs.Common.{arith, rules, take}
 use Rattle.std.specs.Io.KnownBytes.{Appends}
 use Rattle.std.proofs.lemmas.List.{take_rest, length-drop}
 use Rattle.dc_serve.proofs.BytesLemmas.{appends_more, front_of}

@@ -1,4 +1,4 @@
-use Rattle.std.proofs.Common.{length, ◌≡◌, ◌≤◌, ◌-◌, take}
+use Rattle.std.proofs.Common.{length, ◌≤◌, ◌-◌, take}
 use Rattle.std.specs.Io.KnownBytes.{Appends}
 use Rattle.dc_serve.proofs.bytes.write_whole.Given as goal
 

@@ -1,6 +1,6 @@
-use Rattle.std.proofs.Common.{◌≡◌, ◌∷◌, ℕ, arith, length, take, drop, ap, ◌∙◌, sym, List, []}
+use Rattle.std.proofs.Common.{◌∷◌, ℕ, ap, ◌∙◌, sym, List}
 use Rattle.std.proofs.lemmas.List.{take_rest}
-use Rattle.dc_serve.specs.Lines.{lines_of, line_length}
+use Rattle.dc_serve.specs.Lines.{lines_of}
 use Rattle.dc_serve.proofs.LinesLemmas.{line_length-le, cut_line, no_rest}
 use Rattle.dc_serve.proofs.lines.first_line.Goals as goal
 

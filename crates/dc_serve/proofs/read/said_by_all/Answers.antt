@@ -1,4 +1,4 @@
-use Rattle.std.proofs.Common.{List, map, arith, rules}
+use Rattle.std.proofs.Common.{map, arith, rules}
 use Rattle.std.proofs.lemmas.List.{map_push}
 use Rattle.dc_lang.specs.Commands.{said_by}
 use Rattle.dc_serve.proofs.Readings.{next_read, next_refused}

@@ -1,6 +1,7 @@
-use Rattle.std.proofs.Common.{map, refl, rules}
+use Rattle.std.proofs.Common.{arith, map, refl, rules}
 use Rattle.dc_lang.specs.Commands.{said_by}
 use Rattle.dc_serve.specs.Phases.{orders_in, of_session, of_sessions}
+use Rattle.dc_serve.proofs.Clocks.{session_fails}
 use Rattle.dc_serve.proofs.Served.{of_sessions-next, of_sessions-none, replies_more, state_more}
 use Rattle.dc_serve.proofs.server.Server.serve_phase.Goals as goal
 
@@ -20,3 +21,12 @@ loop-session-preserved g c =
     let before = c.loop-session.invariant in
     let now = c.in_ok-serve_session.ensures in
     record { told = rw next (replies_more start self done these _ _ before.told before.state now.text); state = rw next (state_more start self _ done these before.state now.new) }
+
+pub returns-in_err-serve_session-clause-err : goal.returns-in_err-serve_session-clause-err
+returns-in_err-serve_session-clause-err g c =
+    let start = c.args.self.now in
+    let at = c.loop-session.session in
+    let orders = orders_in (map said_by c.args.phase.now) in
+    let is = c.in_err-serve_session.ensures.err in
+    let fault = session_fails start c.loop-session.self orders at _ (omega arith) c.loop-session.invariant.state is in
+    search rules

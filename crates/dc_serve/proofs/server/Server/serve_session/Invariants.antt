@@ -1,5 +1,5 @@
-use Rattle.std.proofs.Common.{◌≡◌, ◌++◌, map, drop, List}
-use Rattle.dc_lang.specs.Commands.{Order, said_by}
+use Rattle.std.proofs.Common.{◌≡◌, ◌++◌, map, drop}
+use Rattle.dc_lang.specs.Commands.{said_by}
 use Rattle.dc_serve.specs.Phases.{of_session, orders_in}
 use Rattle.dc_serve.specs.Serving.{replies_in, after_all}
 use Rattle.dc_serve.proofs.server.Server.serve_session.Given as goal
