@@ -99,6 +99,7 @@ fn is_kept(follow: Follow, is_last: bool, slash: bool) -> bool
 }
 
 /// Goes over the parts on the stack, of which the last comes first.
+#[tactic(auto, using(crate::proofs::Stacks::walk_steps))]
 fn walk_parts(
     tree: &PlainTree,
     start: Place,
