@@ -1,64 +1,95 @@
-ghost use Rattle.std.specs.Prelude.{◌≡◌, ◌&&◌, ◌^◌, not, is_some, nat_lt};
+ghost use Rattle.std.specs.Prelude.{◌≡◌, ◌≢◌, ◌&&◌, true, false, length, not, is_some, Some, IfSome, IsTrue};
+ghost use Rattle.dc_plain.specs.Operations.{is_beneath};
 ghost use Rattle.dc_plain.specs.Trees.{target_of, is_live_directory};
+ghost use Rattle.dc_store.specs.Added.{CanAdd, CanBeNamed};
+ghost use Rattle.dc_store.specs.Dropped.{is_full_directory};
 ghost use Rattle.dc_store.specs.Spots.{spot_at};
 
 use crate::{MapStore, New, Store};
-use dc_names::{Kind, Name, NoMemory};
+use dc_names::{Kind, Name, NoMemory, parse};
 use std::alloc::Global;
 use std::test::Fail;
 
-/// Whether a name in a directory is free for a new inode.
-fn can_make<S: Store>(store: &S, dir: u64, name: Name<'_>) -> bool
+/// Whether a name in a directory is free.
+fn is_free<S: Store>(store: &S, dir: u64, name: Name<'_>) -> bool
     ensures { result ≡ (is_live_directory (S.tree store.now) dir
-        && not (is_some (target_of (S.tree store.now) (spot_at dir name.entry.bytes.now)))
-        && nat_lt (S.tree store.now).next (2 ^ 63)) }
+        && not (is_some (target_of (S.tree store.now) (spot_at dir name.entry.bytes.now)))) }
 {
-    let holds = matches!(store.kind(dir), Some(Kind::Dir));
-    holds && store.find(dir, name).is_none() && store.next() < 1 << 63
+    matches!(store.kind(dir), Some(Kind::Dir)) && store.find(dir, name).is_none()
 }
 
-/// Makes a directory, or answers `None` where that may not be.
-fn make_dir<S: Store>(
+fn may_be_named<S: Store>(store: &S, number: u64) -> bool
+    ensures { result ≡ true → CanBeNamed (S.tree store.now) number }
+{
+    matches!(store.kind(number), Some(Kind::File | Kind::Link)) && store.count(number) < 65_000
+}
+
+fn may_be_added<S: Store>(store: &S, new: New<'_>) -> bool
+    ensures { result ≡ true → CanAdd (S.tree store.now) new.entry }
+{
+    let has_number = store.next() < 1 << 63;
+    match new {
+        New::Dir | New::File => has_number,
+        New::Link(text) => has_number && parse(text).is_ok(),
+        New::Same(number) => may_be_named(store, number),
+    }
+}
+
+/// Whether a directory is one in which entries stand.
+fn is_full<S: Store>(store: &S, number: u64) -> bool
+    ensures { result ≡ is_full_directory (S.tree store.now) number }
+{
+    matches!(store.kind(number), Some(Kind::Dir)) && store.count(number) != 0
+}
+
+/// Whether an inode is no directory, or is to stand in the root.
+fn is_apart<S: Store>(store: &S, number: u64, to: u64) -> bool
+    ensures { result ≡ true → (is_live_directory (S.tree store.now) number
+        && is_beneath (length (S.tree store.now).inodes) (S.tree store.now) to number) ≡ false }
+{
+    !matches!(store.kind(number), Some(Kind::Dir)) || to == 1 && number != 1
+}
+
+/// Whether nothing stands at a name, or another inode that gives way.
+fn gives_way<S: Store>(store: &S, to: u64, new: Name<'_>, number: u64) -> bool
+    ensures other { result ≡ true → target_of (S.tree store.now) (spot_at to new.entry.bytes.now) ≢ Some number }
+    ensures gives_way { result ≡ true → IfSome (target_of (S.tree store.now) (spot_at to new.entry.bytes.now))
+        (λ m. IsTrue (not (is_full_directory (S.tree store.now) m))) }
+{
+    match store.find(to, new) {
+        Some(there) => there != number && !is_full(store, there),
+        None => true,
+    }
+}
+
+/// Adds an entry, or answers `None` where that may not be.
+fn add_to<S: Store>(
     store: &mut S,
     alloc: Global,
     dir: u64,
     name: Name<'_>,
+    new: New<'_>,
 ) -> Result<Option<u64>, NoMemory> {
-    if !can_make(store, dir, name) {
+    if !is_free(store, dir, name) || !may_be_added(store, new) {
         return Ok(None);
     }
-    let number = store.add(alloc, dir, name, New::Dir)?;
+    let number = store.add(alloc, dir, name, new)?;
     Ok(Some(number))
 }
 
-/// Makes a file, or answers `None` where that may not be.
-fn make_file<S: Store>(
-    store: &mut S,
-    alloc: Global,
-    dir: u64,
-    name: Name<'_>,
-) -> Result<Option<u64>, NoMemory> {
-    if !can_make(store, dir, name) {
-        return Ok(None);
+/// Drops an entry. It answers whether that may be.
+fn drop_from<S: Store>(store: &mut S, dir: u64, name: Name<'_>) -> bool {
+    match store.find(dir, name) {
+        Some(number) if !is_full(store, number) => {
+            store.drop_entry(dir, name);
+            true
+        }
+        _ => false,
     }
-    let number = store.add(alloc, dir, name, New::File)?;
-    Ok(Some(number))
 }
 
-/// Drops a file's name. It answers whether it was one.
-fn drop_file<S: Store>(store: &mut S, dir: u64, name: Name<'_>) -> bool {
-    let Some(number) = store.find(dir, name) else {
-        return false;
-    };
-    let Some(Kind::File) = store.kind(number) else {
-        return false;
-    };
-    store.drop_entry(dir, name);
-    true
-}
-
-/// Moves a file to a name that is free. It answers whether it could be.
-fn move_file<S: Store>(
+/// Moves an entry, a directory into the root alone. It answers whether that may be.
+fn move_to<S: Store>(
     store: &mut S,
     alloc: Global,
     old: (u64, Name<'_>),
@@ -67,62 +98,188 @@ fn move_file<S: Store>(
     let Some(number) = store.find(old.0, old.1) else {
         return Ok(false);
     };
-    let Some(Kind::File) = store.kind(number) else {
-        return Ok(false);
-    };
-    if !can_make(store, new.0, new.1) {
+    let stands = matches!(store.kind(new.0), Some(Kind::Dir));
+    if !stands || !is_apart(store, number, new.0) || !gives_way(store, new.0, new.1, number) {
         return Ok(false);
     }
     store.move_entry(alloc, old, new)?;
     Ok(true)
 }
 
+/// A change with its answer, or what is seen between two changes.
+#[derive(Clone, Copy)]
+enum Step<'a> {
+    Add(u64, &'a [u8], New<'a>, Option<u64>),
+    Drop(u64, &'a [u8], bool),
+    Move((u64, &'a [u8]), (u64, &'a [u8]), bool),
+    /// A number's kind, parent and count.
+    Seen(u64, Option<Kind>, Option<u64>, u64),
+    Find(u64, &'a [u8], Option<u64>),
+    Text(u64, Option<&'a [u8]>),
+    List(u64, &'a [&'a [u8]]),
+    /// The next number, and how many inodes live.
+    Size(u64, u64),
+}
+
+fn named(text: &[u8]) -> Result<Name<'_>, NoMemory> {
+    Name::new(text).ok_or(NoMemory)
+}
+
+/// Whether these names stand in a directory.
+fn holds<S: Store>(store: &S, alloc: Global, dir: u64, want: &[&[u8]]) -> Result<bool, NoMemory> {
+    let names = store.list(alloc, dir)?;
+    let mut pairs = names.iter().zip(want);
+    Ok(names.len() == want.len() && pairs.all(|(name, want)| name.as_slice() == *want))
+}
+
+/// Whether a change answers so.
+fn answers<S: Store>(store: &mut S, alloc: Global, step: Step<'_>) -> Result<bool, NoMemory> {
+    match step {
+        Step::Add(dir, name, new, want) => {
+            Ok(add_to(store, alloc, dir, named(name)?, new)? == want)
+        }
+        Step::Drop(dir, name, want) => Ok(drop_from(store, dir, named(name)?) == want),
+        Step::Move(old, new, want) => {
+            let (old, new) = ((old.0, named(old.1)?), (new.0, named(new.1)?));
+            Ok(move_to(store, alloc, old, new)? == want)
+        }
+        Step::Seen(number, kind, parent, count) => {
+            let seen = (
+                store.kind(number),
+                store.parent(number),
+                store.count(number),
+            );
+            Ok(seen == (kind, parent, count))
+        }
+        Step::Find(dir, name, want) => Ok(store.find(dir, named(name)?) == want),
+        Step::Text(number, want) => Ok(store.text(number) == want),
+        Step::List(dir, want) => holds(store, alloc, dir, want),
+        Step::Size(next, live) => Ok((store.next(), store.live()) == (next, live)),
+    }
+}
+
+/// The place of the first step of a new store that answers otherwise.
+fn fails_at(alloc: Global, steps: &[Step<'_>]) -> Result<Option<usize>, NoMemory> {
+    let mut store = MapStore::new(alloc)?;
+    for (place, step) in steps.iter().enumerate() {
+        if !answers(&mut store, alloc, *step)? {
+            return Ok(Some(place));
+        }
+    }
+    Ok(None)
+}
+
+const DIR: Option<Kind> = Some(Kind::Dir);
+
+const FILE: Option<Kind> = Some(Kind::File);
+
+const LINK: Option<Kind> = Some(Kind::Link);
+
 #[test]
 fn makes_directories(rt: HostRuntime) -> Result<(), Fail> {
-    let mut store = MapStore::new(rt.alloc())?;
-    let a = Name::new(b"a").ok_or(NoMemory)?;
-    assert_eq!(rt; make_dir(&mut store, rt.alloc(), 1, a)?, Some(2));
-    assert_eq!(rt; make_dir(&mut store, rt.alloc(), 1, a)?, None);
-    assert_eq!(rt; make_dir(&mut store, rt.alloc(), 2, a)?, Some(3));
-    assert_eq!(rt; make_dir(&mut store, rt.alloc(), 4, a)?, None);
-    assert_eq!(rt; store.find(1, a), Some(2));
-    assert_eq!(rt; store.find(2, a), Some(3));
-    assert_eq!(rt; store.find(3, a), None);
-    assert_eq!(rt;
-        (store.parent(1), store.parent(2), store.parent(3)),
-        (Some(1), Some(1), Some(2))
-    );
-    assert_eq!(rt; (store.kind(2), store.kind(4)), (Some(Kind::Dir), None));
-    assert_eq!(rt; (store.next(), store.live()), (4, 3));
+    let steps = [
+        Step::Seen(1, DIR, Some(1), 0),
+        Step::Size(2, 1),
+        Step::Add(1, b"a", New::Dir, Some(2)),
+        Step::Add(1, b"a", New::Dir, None),
+        Step::Add(2, b"a", New::Dir, Some(3)),
+        Step::Add(4, b"a", New::Dir, None),
+        Step::Find(1, b"a", Some(2)),
+        Step::Find(2, b"a", Some(3)),
+        Step::Find(3, b"a", None),
+        Step::Seen(1, DIR, Some(1), 1),
+        Step::Seen(2, DIR, Some(1), 1),
+        Step::Seen(3, DIR, Some(2), 0),
+        Step::Seen(4, None, None, 0),
+        Step::Size(4, 3),
+    ];
+    assert_eq!(rt; fails_at(rt.alloc(), &steps)?, None);
     Ok(())
 }
 
 #[test]
-fn moves_and_drops_a_file(rt: HostRuntime) -> Result<(), Fail> {
-    let mut store = MapStore::new(rt.alloc())?;
-    let a = Name::new(b"a").ok_or(NoMemory)?;
-    let b = Name::new(b"b").ok_or(NoMemory)?;
-    assert_eq!(rt; make_dir(&mut store, rt.alloc(), 1, b)?, Some(2));
-    assert_eq!(rt; make_file(&mut store, rt.alloc(), 1, a)?, Some(3));
-    let names = store.list(rt.alloc(), 1)?;
-    assert!(rt;
-        names.len() == 2
-            && names[0].as_slice() == b"a".as_slice()
-            && names[1].as_slice() == b"b".as_slice()
-    );
-    assert_eq!(rt;
-        (
-            store.count(1),
-            store.count(2),
-            store.count(3),
-            store.count(4)
-        ),
-        (2, 0, 1, 0)
-    );
-    assert!(rt; move_file(&mut store, rt.alloc(), (1, a), (2, b))?);
-    assert_eq!(rt; (store.find(1, a), store.find(2, b)), (None, Some(3)));
-    assert_eq!(rt; (store.count(1), store.count(2)), (1, 1));
-    assert!(rt; drop_file(&mut store, 2, b));
-    assert_eq!(rt; (store.kind(3), store.live(), store.next()), (None, 2, 4));
+fn keeps_links_and_further_names(rt: HostRuntime) -> Result<(), Fail> {
+    let steps = [
+        Step::Add(1, b"d", New::Dir, Some(2)),
+        Step::Add(1, b"l", New::Link(b"d/x"), Some(3)),
+        Step::Add(2, b"f", New::File, Some(4)),
+        Step::Add(1, b"f", New::Same(4), Some(4)),
+        // No further name for a directory, and no empty text.
+        Step::Add(2, b"d", New::Same(2), None),
+        Step::Add(2, b"d", New::Link(b""), None),
+        Step::Find(1, b"f", Some(4)),
+        Step::Find(2, b"f", Some(4)),
+        Step::Text(3, Some(b"d/x")),
+        Step::Text(4, None),
+        Step::Seen(1, DIR, Some(1), 3),
+        Step::Seen(2, DIR, Some(1), 1),
+        Step::Seen(3, LINK, None, 1),
+        Step::Seen(4, FILE, None, 2),
+        Step::List(1, &[b"d", b"f", b"l"]),
+        Step::Drop(1, b"d", false),
+        Step::Drop(2, b"f", true),
+        Step::Seen(4, FILE, None, 1),
+        Step::Drop(1, b"f", true),
+        Step::Drop(1, b"l", true),
+        Step::Seen(4, None, None, 0),
+        Step::Text(3, None),
+        Step::List(1, &[b"d"]),
+        Step::Drop(1, b"d", true),
+        Step::Size(5, 1),
+    ];
+    assert_eq!(rt; fails_at(rt.alloc(), &steps)?, None);
+    Ok(())
+}
+
+#[test]
+fn moves_files(rt: HostRuntime) -> Result<(), Fail> {
+    let steps = [
+        Step::Add(1, b"a", New::File, Some(2)),
+        Step::Add(1, b"b", New::File, Some(3)),
+        Step::Add(1, b"c", New::Same(3), Some(3)),
+        Step::Add(1, b"d", New::Dir, Some(4)),
+        Step::Move((1, b"a"), (4, b"a"), true),
+        Step::List(4, &[b"a"]),
+        // Over one of two names of another file, and then over its last.
+        Step::Move((4, b"a"), (1, b"b"), true),
+        Step::Find(4, b"a", None),
+        Step::Find(1, b"b", Some(2)),
+        Step::Seen(3, FILE, None, 1),
+        Step::Move((1, b"b"), (1, b"c"), true),
+        Step::Find(1, b"b", None),
+        Step::Find(1, b"c", Some(2)),
+        Step::Seen(1, DIR, Some(1), 2),
+        Step::Seen(2, FILE, None, 1),
+        Step::Seen(3, None, None, 0),
+        Step::Seen(4, DIR, Some(1), 0),
+        Step::List(1, &[b"c", b"d"]),
+        Step::Size(5, 3),
+    ];
+    assert_eq!(rt; fails_at(rt.alloc(), &steps)?, None);
+    Ok(())
+}
+
+#[test]
+fn moves_a_directory(rt: HostRuntime) -> Result<(), Fail> {
+    let steps = [
+        Step::Add(1, b"a", New::Dir, Some(2)),
+        Step::Add(2, b"b", New::Dir, Some(3)),
+        Step::Add(3, b"f", New::File, Some(4)),
+        Step::Add(1, b"f", New::Dir, Some(5)),
+        // A directory in which an entry stands gives no way, an empty one does.
+        Step::Move((1, b"f"), (1, b"a"), false),
+        Step::Move((2, b"b"), (1, b"f"), true),
+        Step::Find(2, b"b", None),
+        Step::Find(1, b"f", Some(3)),
+        Step::Find(3, b"f", Some(4)),
+        Step::Seen(1, DIR, Some(1), 2),
+        Step::Seen(2, DIR, Some(1), 0),
+        Step::Seen(3, DIR, Some(1), 1),
+        Step::Seen(4, FILE, None, 1),
+        Step::Seen(5, None, None, 0),
+        Step::List(1, &[b"a", b"f"]),
+        Step::Size(6, 4),
+    ];
+    assert_eq!(rt; fails_at(rt.alloc(), &steps)?, None);
     Ok(())
 }
