@@ -158,11 +158,13 @@ fn answers<S: Store>(store: &mut S, alloc: Global, step: Step<'_>) -> Result<boo
     }
 }
 
-/// The place of the first step of a new store that answers otherwise.
+/// The place of the first step of a new store that answers otherwise. A step that is refused memory is
+/// taken once more, and answers then as if it hadn't been.
 fn fails_at(alloc: Global, steps: &[Step<'_>]) -> Result<Option<usize>, NoMemory> {
-    let mut store = MapStore::new(alloc)?;
+    let mut store = MapStore::new(alloc).or_else(|_| MapStore::new(alloc))?;
     for (place, step) in steps.iter().enumerate() {
-        if !answers(&mut store, alloc, *step)? {
+        let first = answers(&mut store, alloc, *step);
+        if !first.or_else(|_| answers(&mut store, alloc, *step))? {
             return Ok(Some(place));
         }
     }
