@@ -1,6 +1,6 @@
 //! The changes of one name: each test in its order, and then what is to be done.
 
-ghost use Rattle.std.specs.Prelude.{◌≡◌, IfOk, true, false};
+ghost use Rattle.std.specs.Prelude.{IfOk};
 ghost use Rattle.dc_plain.specs.Operations.{make, link, symlink, unlink, rmdir};
 ghost use Rattle.dc_plain.specs.Plans.{new_shown, changed, HasSpots};
 ghost use Rattle.dc_plain.specs.Stops.{Finds};

@@ -1,8 +1,7 @@
 ghost use Rattle.std.specs.Prelude.{◌≡◌, Some, IfOk};
-ghost use Rattle.dc_names.specs.Names.{part_shown};
 ghost use Rattle.dc_names.specs.Paths.{path_in};
 ghost use Rattle.dc_plain.specs.LastParts.{last_shown, at_shown};
-ghost use Rattle.dc_plain.specs.Places.{start, last_part, front_of};
+ghost use Rattle.dc_plain.specs.Places.{start, front_of};
 ghost use Rattle.dc_plain.specs.Plans.{spot_shown};
 ghost use Rattle.dc_plain.specs.Refusals.{walk_on, path_or_fault, ended, place_on, spot_on, name_or, name_or_each};
 ghost use Rattle.dc_plain.specs.Resolution.{settled_walk};

@@ -1,4 +1,4 @@
-ghost use Rattle.std.specs.Prelude.{◌≡◌, ℕ, List, Bool, Option, Some, option_map, map, not, ◌&&◌, ◌||◌, if◌then◌else◌, ◌++◌, IfOk, OnOk};
+ghost use Rattle.std.specs.Prelude.{◌≡◌, ℕ, List, Bool, Option, Some, map, not, ◌&&◌, ◌||◌, if◌then◌else◌, ◌++◌, IfOk, OnOk};
 ghost use Rattle.dc_names.specs.Names.{part_shown};
 ghost use Rattle.dc_names.specs.Paths.{Part as SpecPart, parts_of, has_end_slash, begins_with_slash};
 ghost use Rattle.dc_plain.specs.Facts.{Place as SpecPlace};
