@@ -1,5 +1,4 @@
 ghost use Rattle.std.specs.Prelude.{◌≡◌, ◌↔◌, IsTrue, IfOk, OnOk, OnErr};
-ghost use Rattle.dc_plain.specs.IsWellFormed.{IsWellFormed};
 ghost use Rattle.dc_plain.specs.Requests.{answer_of, request_of};
 ghost use Rattle.dc_plain.specs.Runs.{reply_of, tree_after, Alters};
 
@@ -29,12 +28,9 @@ impl PlainTree {
 
     /// Whether a call would change the tree.
     pub fn alters(&self, alloc: Global, call: &Call) -> Result<bool, NoMemory>
-        ensures well { IsWellFormed self.now.tree }
-        ensures alters { IfOk result (λ alters.
+        ensures { IfOk result (λ alters.
             IsTrue alters ↔ Alters self.now.limit self.now.tree (request_of call.now)) }
     {
-        // A field is read, so that the invariant is known.
-        let _ = &self.entries;
         match self.plan(alloc, call) {
             Ok(Plan::Answer(_)) | Err(Stop::Refused(_)) => Ok(false),
             Ok(Plan::Change(_)) => Ok(true),
