@@ -10,6 +10,7 @@ use crate::{Gate, Options, ServeFault};
 use dc_store::MapStore;
 use std::alloc::Global;
 use std::io::{Read, Write};
+use std::thread::Threads;
 
 /// Reads the input whole, then each of its lines, and then answers them phase by phase.
 fn answer_input<R: Read, W: Write, G: Gate>(
@@ -42,7 +43,7 @@ fn answer_input<R: Read, W: Write, G: Gate>(
 /// are written phase by phase, with one flush after the last. `Read` where a read fails or the input
 /// is longer, `Write` where a write fails or takes nothing, or the flush fails; `NoMemory` only where
 /// memory was refused.
-pub fn run<T, R: Read, W: Write, G: Gate>(
+pub fn run<T: Threads + Sync, R: Read, W: Write, G: Gate>(
     _rt: &T,
     alloc: Global,
     reader: &mut R,

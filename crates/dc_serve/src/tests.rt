@@ -6,6 +6,7 @@ use std::io;
 use std::io::{Read, Write};
 use std::sync::atomic::{AtomicU64, Ordering};
 use std::test::Fail;
+use std::thread::Threads;
 
 /// The sizes that the tests use.
 pub const USUAL: Options = Options {
@@ -14,7 +15,7 @@ pub const USUAL: Options = Options {
 };
 
 /// What a run with these sizes answers and writes.
-fn served<T>(
+fn served<T: Threads + Sync>(
     rt: &T,
     alloc: Global,
     sizes: Options,
