@@ -44,7 +44,8 @@ pub trait Finder {
     /// Where a name in a directory leads, or the directory's dot-dot. The root's dot-dot isn't asked.
     fn find(&mut self, dir: u64, part: Part<'_>) -> Result<Option<(u64, Kind)>, Stop>
         requires asked { IsTrue (is_asked dir (part_shown part)) }
-        ensures told { IfOk result (λ found. (said self.new).entry dir (label_of (part_shown part.entry)) ≡ Some found) }
+        ensures told { IfOk result (λ found.
+            (said self.new).entry dir (label_of (part_shown part.entry)) ≡ Some found) }
         ensures kind { IfOk result (λ found. IsTrue (may_be_found (part_shown part.entry) found)) }
         ensures same { OnOk result (has_stopped self.new ≡ has_stopped self.old) }
         ensures becomes { becomes self.old self.new }
@@ -53,7 +54,8 @@ pub trait Finder {
     /// The text of a link that it has told of.
     fn link_text(&mut self, number: u64) -> Result<Self::Text, Stop>
         requires link { IsSaidLink (said self.old) number }
-        ensures told { IfOk result (λ text. (said self.new).text number ≡ Some (Self.Text.bytes text)) }
+        ensures told { IfOk result (λ text.
+            (said self.new).text number ≡ Some (Self.Text.bytes text)) }
         ensures path { IfOk result (λ text. fault_of (Self.Text.bytes text) ≡ None) }
         ensures same { OnOk result (has_stopped self.new ≡ has_stopped self.old) }
         ensures becomes { becomes self.old self.new }

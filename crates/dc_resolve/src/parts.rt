@@ -67,10 +67,13 @@ impl<'p, T: Bytes + Drop> Left<'p, T> {
 
     /// Takes the text off that comes first.
     fn pop(&mut self) -> Option<Cut<T>>
-        ensures none { IfNone result (parts_left self.old ≡ parts_kept self.new.whole (parts_of self.new.path.now)) }
-        ensures some { IfSome result (λ cut. parts_left self.old ≡ parts_in cut ++ parts_left self.new) }
+        ensures none { IfNone result (parts_left self.old
+            ≡ parts_kept self.new.whole (parts_of self.new.path.now)) }
+        ensures some { IfSome result (λ cut.
+            parts_left self.old ≡ parts_in cut ++ parts_left self.new) }
         ensures empty { IfNone result (self.new.texts.items ≡ []) }
-        ensures room { OnSome result (array_vec_len self.new.texts + 1 ≡ array_vec_len self.old.texts) }
+        ensures room { OnSome result (array_vec_len self.new.texts + 1
+            ≡ array_vec_len self.old.texts) }
     {
         self.texts.pop()?
     }

@@ -65,7 +65,8 @@ fn last_of(path: PathText<'_>) -> Option<Part<'_>>
 pub fn place<'p, F: Finder>(finder: &mut F, base: u64, path: PathText<'p>) -> Placed<'p>
     requires fits { EightFit F.Text.row F.Text.Bytes }
     // By all that may be told beside what the finder has said.
-    ensures answer { IfPlaced result (λ placed. (teller : Teller) → Extends (F.said finder.new) teller →
+    ensures answer { IfPlaced result (λ placed.
+        (teller : Teller) → Extends (F.said finder.new) teller →
         place teller base (path_in path.entry.bytes.now) ≡ Some placed) }
     ensures number { IfRefused result (λ number. IsTrue (is_refusal number)) }
     ensures stopped { F.has_stopped finder.new ≡ stopped_after result (F.has_stopped finder.old) }

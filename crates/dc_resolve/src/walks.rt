@@ -219,7 +219,8 @@ pub fn lead<F: Finder>(
 pub fn walk<F: Finder>(finder: &mut F, base: u64, path: PathText<'_>, follow: Follow) -> Walked
     requires fits { EightFit F.Text.row F.Text.Bytes }
     // By all that may be told beside what the finder has said.
-    ensures answer { IfEnded result (λ outcome. (teller : Teller) → Extends (F.said finder.new) teller →
+    ensures answer { IfEnded result (λ outcome.
+        (teller : Teller) → Extends (F.said finder.new) teller →
         walk teller base (path_in path.entry.bytes.now) follow ≡ Some outcome) }
     ensures number { IfRefused result (λ number. IsTrue (is_refusal number)) }
     ensures stopped { F.has_stopped finder.new ≡ stopped_after result (F.has_stopped finder.old) }

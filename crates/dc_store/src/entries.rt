@@ -89,7 +89,8 @@ impl Entries {
 
     /// The names in a directory, by their bytes.
     pub fn list(&self, alloc: Global, dir: u64) -> Result<Vec<Vec<u8>>, NoMemory>
-        ensures { IfOk result (λ names. map (λ name. name.items) names.items ≡ names_by dir self.now) }
+        ensures { IfOk result (λ names.
+            map (λ name. name.items) names.items ≡ names_by dir self.now) }
     {
         let mut names = Vec::new(alloc);
         for key in self.by_key.keys() {
@@ -102,7 +103,8 @@ impl Entries {
 /// Puts the name of a key at the end, where the key is for an entry in a directory.
 fn push_name(names: &mut Vec<Vec<u8>>, alloc: Global, key: &[u8], dir: u64) -> Result<(), NoMemory>
     ensures { OnOk result (map (λ name. name.items) names.new.items
-        ≡ map (λ name. name.items) names.old.items ++ option_to_list (name_held dir key.entry.now)) }
+        ≡ map (λ name. name.items) names.old.items
+        ++ option_to_list (name_held dir key.entry.now)) }
 {
     if let Some(name) = name_in(key, dir) {
         names.push(name.to_vec(alloc)?)?;

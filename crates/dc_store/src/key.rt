@@ -52,7 +52,8 @@ impl Key {
 /// Writes a part over the bytes from a place on.
 fn put_at(bytes: &mut [u8], start: usize, part: &[u8])
     requires { start + length part.now ≤ length bytes.old }
-    ensures { bytes.new ≡ take start bytes.old ++ part.now ++ drop (start + length part.now) bytes.old }
+    ensures { bytes.new
+        ≡ take start bytes.old ++ part.now ++ drop (start + length part.now) bytes.old }
 {
     bytes[start..start + part.len()].copy_from_slice(part);
 }

@@ -61,7 +61,8 @@ impl MapStore {
         requires free { target_of self.old (spot_at dir name.bytes.now) ≡ None }
         requires room { self.old.next < 2 ^ 63 }
         requires fits { CanKeep dir node }
-        ensures ok { OnOk result (self.new ≡ with_new self.old dir name.entry.bytes.now (node_shown node)) }
+        ensures ok { OnOk result (self.new
+            ≡ with_new self.old dir name.entry.bytes.now (node_shown node)) }
         ensures number { IfOk result (λ number. number ≡ self.old.next) }
         ensures err { OnErr result (self.new ≡ self.old) }
     {
@@ -82,7 +83,8 @@ impl MapStore {
         requires directory { IsTrue (is_live_directory self.old dir) }
         requires free { target_of self.old (spot_at dir name.bytes.now) ≡ None }
         requires can { CanBeNamed self.old number }
-        ensures ok { OnOk result (self.new ≡ with_entry_for self.old dir name.entry.bytes.now number) }
+        ensures ok { OnOk result (self.new
+            ≡ with_entry_for self.old dir name.entry.bytes.now number) }
         ensures err { OnErr result (self.new ≡ self.old) }
     {
         self.entries.insert(alloc, dir, name, number)?;
@@ -100,7 +102,8 @@ impl MapStore {
     ) -> Result<(), NoMemory>
         requires { CanMove self.old from old.bytes.now to new.bytes.now }
         ensures ok { OnOk result (IfSome (target_of self.old (spot_at from old.entry.bytes.now))
-            (λ n. self.new ≡ tree_moved self.old from old.entry.bytes.now to new.entry.bytes.now n)) }
+            (λ n. self.new
+            ≡ tree_moved self.old from old.entry.bytes.now to new.entry.bytes.now n)) }
         ensures err { OnErr result (self.new ≡ self.old) }
     {
         let Some(number) = self.entries.get(from, old) else {

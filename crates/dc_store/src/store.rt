@@ -45,7 +45,8 @@ pub trait Store {
     /// The directory that holds a directory's entry. The root holds itself. `None` where no directory
     /// lives under the number.
     fn parent(&self, number: u64) -> Option<u64>
-        ensures parent { result ≡ option_map (λ place. place.0) (entry_of (tree self.now) number Parent) }
+        ensures parent { result
+            ≡ option_map (λ place. place.0) (entry_of (tree self.now) number Parent) }
         ensures directory { IfSome result (λ up. IsTrue (is_live_directory (tree self.now) up)) };
 
     /// The text of a link, which is a path. `None` where no link lives under the number.

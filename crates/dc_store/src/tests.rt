@@ -52,8 +52,10 @@ fn is_apart<S: Store>(store: &S, number: u64, to: u64) -> bool
 
 /// Whether nothing stands at a name, or another inode that gives way.
 fn gives_way<S: Store>(store: &S, to: u64, new: Name<'_>, number: u64) -> bool
-    ensures other { result ≡ true → target_of (S.tree store.now) (spot_at to new.entry.bytes.now) ≢ Some number }
-    ensures gives_way { result ≡ true → IfSome (target_of (S.tree store.now) (spot_at to new.entry.bytes.now))
+    ensures other { result ≡ true →
+        target_of (S.tree store.now) (spot_at to new.entry.bytes.now) ≢ Some number }
+    ensures gives_way { result ≡ true →
+        IfSome (target_of (S.tree store.now) (spot_at to new.entry.bytes.now))
         (λ m. IsTrue (not (is_full_directory (S.tree store.now) m))) }
 {
     match store.find(to, new) {
