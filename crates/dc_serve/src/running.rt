@@ -40,9 +40,9 @@ fn answer_input<R: Read, W: Write, G: Gate>(
 
 /// Answers the commands of the input. The sizes are tested first; then the whole input is read, at
 /// most 1,048,576 bytes by at most 1,048,578 reads, and every line of it before any is run. Replies
-/// are written phase by phase, with one flush after the last. `Read` where a read fails or the input
-/// is longer, `Write` where a write fails or takes nothing, or the flush fails; `NoMemory` only where
-/// memory was refused.
+/// are written phase by phase, with one flush after the last. `Read` where a read fails or the
+/// input is longer, `Write` where a write fails or takes nothing, or the flush fails; `NoMemory`
+/// only where memory was refused; `Spent` never, as no input is long enough.
 pub fn run<T: Threads + Sync, R: Read, W: Write, G: Gate>(
     _rt: &T,
     alloc: Global,

@@ -47,14 +47,19 @@ fn worked_runs(rt: HostRuntime) {
         ),
         (
             16,
-            "0 mkdir /a\n0 mkdir /a/b\n0 cd /a/b\n0 look .\n0 look ..\n0 look ../../..\n0 mkdir c\n0 look /a/b/c/./..\n0 mkdir /a/.\n",
-            "0 ok 2 @0\n0 ok 3 @1\n0 is 3 dir @2\n0 is 3 dir @2\n0 is 2 dir @2\n0 is 1 dir @2\n0 ok 4 @2\n0 is 3 dir @3\n0 no 17 @3\n",
+            "0 mkdir /a\n0 mkdir /a/b\n0 cd /a/b\n0 look .\n0 look ..\n0 look ../../..\n0 mkdir c\n\
+             0 look /a/b/c/./..\n0 mkdir /a/.\n",
+            "0 ok 2 @0\n0 ok 3 @1\n0 is 3 dir @2\n0 is 3 dir @2\n0 is 2 dir @2\n0 is 1 dir @2\n\
+             0 ok 4 @2\n0 is 3 dir @3\n0 no 17 @3\n",
         ),
-        // A phase is served by session; a starting directory is its session's own, and outlives the phase.
+        // A phase is served by session; a starting directory is its session's own, and outlives
+        // the phase.
         (
             16,
-            "1 mkdir /b\n0 mkdir /a\n1 cd /b\n0 cd /a\nsync\nsync\n15 look .\n1 look .\n0 cd /none\n0 look .\n",
-            "0 ok 2 @0\n0 is 2 dir @1\n1 ok 3 @1\n1 is 3 dir @2\n0 no 2 @2\n0 is 2 dir @2\n1 is 3 dir @2\n15 is 1 dir @2\n",
+            "1 mkdir /b\n0 mkdir /a\n1 cd /b\n0 cd /a\nsync\nsync\n15 look .\n1 look .\n0 cd /none\n\
+             0 look .\n",
+            "0 ok 2 @0\n0 is 2 dir @1\n1 ok 3 @1\n1 is 3 dir @2\n0 no 2 @2\n0 is 2 dir @2\n\
+             1 is 3 dir @2\n15 is 1 dir @2\n",
         ),
     ] {
         let sizes = Options { inodes, ..USUAL };
@@ -187,7 +192,8 @@ fn largest_inputs(rt: HostRuntime) -> Result<(), Fail> {
     Ok(())
 }
 
-/// Writes down each call as three digits: the session, the line, and whether it came before or after.
+/// Writes down each call as three digits: the session, the line, and whether it came before or
+/// after.
 #[derive(Drop)]
 struct Recorder {
     calls: AtomicU64,
