@@ -8,8 +8,13 @@ use Rattle.dc_plain.specs.Resolution.{Outcome, resolve, over_parts, with_text, r
 use Rattle.dc_plain.specs.Resolution.Outcome.{Refused}
 use Rattle.dc_plain.specs.Tellers.{Extends}
 use Rattle.dc_resolve.specs.Steps.{outcome_of}
-use Rattle.dc_resolve.specs.Walks.{GoesOn, IsReplaced}
+use Rattle.dc_resolve.specs.Walks.{GoesOn, IsReplaced, LeadsTo}
+use Rattle.dc_resolve.specs.declared.step.End.{End}
 use Rattle.dc_resolve.specs.declared.step.Step.{Step}
+use Rattle.dc_resolve.specs.declared.step.End.TheVariants as ends
+use Rattle.dc_resolve.specs.declared.step.Refusal.TheVariants.{ManyLinks}
+use Rattle.dc_resolve.specs.declared.step.Step.TheVariants.{Ended, AtLink}
+use Rattle.dc_resolve.proofs.Going.{told_still}
 
 -- what comes of a link, where so many may be followed
 unfoldable pub following : Teller → Follow → ℕ → Place → ℕ → List Part → Bool → Option Outcome
@@ -36,6 +41,14 @@ up_to {teller = teller} {how = how} links {place = place} {before = before} {aft
     resolve_is teller how links place before slash ∙ goes.ends teller more (following teller how links)
     ∙ ap (λ s. outcome_of s (λ at link. following teller how links at link after slash)) is
 
+pub ended : (said : Teller) (how : Follow) (links : ℕ) (place : Place) (before after : List Part) (slash : Bool) (step : Step) (end : End)
+    → GoesOn said how slash place before (Break step) after → step ≡ Ended end → LeadsTo said how links place before slash end
+ended said how links place before after slash step end goes is = record { ends = λ teller more. up_to links goes is more }
+
+pub refused : {said : Teller} {how : Follow} {links : ℕ} {place at : Place} {before after : List Part} {slash : Bool} {step : Step} {link : ℕ}
+    → GoesOn said how slash place before (Break step) after → step ≡ AtLink at link → links ≡ 0 → LeadsTo said how links place before slash (ends.Refused ManyLinks)
+refused {how = how} {links = links} {at = at} {after = after} {slash = slash} {link = link} goes is none = record { ends = λ teller more. up_to links goes is more ∙ too_many teller how links at link after slash none }
+
 with_told : (teller : Teller) (how : Follow) (links : ℕ) (at : Place) (link : ℕ) (rest : List Part) (slash : Bool) (text : List ℕ) → 0 < links → teller.text link ≡ Some text
     → following teller how links at link rest slash
     ≡ resolve teller how (links - 1) (if begins_with_slash text then root else at) (parts_of text ++ rest) (slash || is_empty rest && has_end_slash text)
@@ -45,9 +58,16 @@ with_told teller how (suc links) at link rest slash text some e =
     let same : suc links - 1 ≡ links = omega arith in
     rw (same, e) refl
 
--- over a link
-pub over_link : {said teller : Teller} (how : Follow) (links : ℕ) {at : Place} {link : ℕ} {before after : List Part} {slash : Bool} {on : Place × Bool}
+over_link : {said teller : Teller} (how : Follow) (links : ℕ) {at : Place} {link : ℕ} {before after : List Part} {slash : Bool} {on : Place × Bool}
     → 0 < links → IsReplaced said at link before slash on after → Extends said teller → following teller how links at link before slash ≡ resolve teller how (links - 1) on.0 after on.1
 over_link {teller = teller} how links {at = at} {link = link} {before = before} {slash = slash} some put more =
     with_told teller how links at link before slash put.text some (more.text link put.text put.told)
     ∙ (λ i. resolve teller how (links - 1) (sym put.begins i) (sym put.parts i) (sym put.ends i))
+
+-- over a link, and on from there
+pub then_leads : {said later last : Teller} {how : Follow} {links : ℕ} {place at : Place} {link : ℕ} {before rest after : List Part} {slash : Bool} {step : Step} {on : Place × Bool} {end : End}
+    → GoesOn said how slash place before (Break step) rest → step ≡ AtLink at link → 0 < links → IsReplaced later at link rest slash on after → Extends said later → Extends later last
+    → LeadsTo last how (links - 1) on.0 after on.1 end → LeadsTo last how links place before slash end
+then_leads {how = how} {links = links} goes is some put first last next = record {
+  ends = λ teller more. let told = told_still last more in up_to links goes is (told_still first told) ∙ over_link how links some put told ∙ next.ends teller more;
+}

@@ -12,7 +12,7 @@ ghost use Rattle.dc_resolve.specs.Ends.{IfEnded, IfRefused, is_refusal, stopped_
 ghost use Rattle.dc_resolve.specs.Fits.{EightFit};
 ghost use Rattle.dc_resolve.specs.Lefts.{parts_left};
 ghost use Rattle.dc_resolve.specs.Steps.{end_shown, IsSaidFlow, IsSaidStep};
-ghost use Rattle.dc_resolve.specs.Walks.{GoesOn, IsReplaced};
+ghost use Rattle.dc_resolve.specs.Walks.{GoesOn, IsReplaced, LeadsTo};
 
 use crate::left::Left;
 use crate::parts::ask_next;
@@ -57,6 +57,7 @@ fn go_on<F: Finder>(
 }
 
 /// Goes over the parts that are left, up to their end or a link that must be followed.
+#[tactic(auto, using(crate::proofs::Going::then_ends))]
 fn walk_parts<F: Finder>(
     finder: &mut F,
     start: Place,
@@ -123,6 +124,7 @@ fn put_text<F: Finder>(
 
 /// Where the parts that are left lead from a place. A link may lead to itself: each that is followed
 /// leaves one less to follow.
+#[tactic(auto, using(crate::proofs::Following::ended))]
 fn resolve<F: Finder>(
     finder: &mut F,
     start: Place,
@@ -132,8 +134,8 @@ fn resolve<F: Finder>(
     links: usize,
 ) -> Result<End, Stop>
     requires room { array_vec_len left.old.texts + links ≤ 8 }
-    ensures ends { IfOk result (λ end. (teller : Teller) → Extends (F.said finder.new) teller →
-        resolve teller follow links start (parts_left left.old) slash ≡ Some (end_shown end)) }
+    ensures leads { IfOk result (LeadsTo (F.said finder.new) follow links
+        start (parts_left left.old) slash) }
     ensures same { OnOk result (F.has_stopped finder.new ≡ F.has_stopped finder.old) }
     ensures becomes { F.becomes finder.old finder.new }
     ensures stopped { OnErr result (F.has_stopped finder.new ≡ true) }
@@ -161,9 +163,8 @@ fn resolve_path<F: Finder>(
     follow: Follow,
 ) -> Result<End, Stop>
     requires fits { EightFit F.Text.row F.Text.Bytes }
-    ensures ends { IfOk result (λ end. (teller : Teller) → Extends (F.said finder.new) teller →
-        resolve teller follow link_limit place (parts_kept whole (parts_of path.entry.bytes.now)) slash
-        ≡ Some (end_shown end)) }
+    ensures leads { IfOk result (LeadsTo (F.said finder.new) follow link_limit
+        place (parts_kept whole (parts_of path.entry.bytes.now)) slash) }
     ensures same { OnOk result (F.has_stopped finder.new ≡ F.has_stopped finder.old) }
     ensures becomes { F.becomes finder.old finder.new }
     ensures stopped { OnErr result (F.has_stopped finder.new ≡ true) }

@@ -8,5 +8,5 @@ new-left-requires g c = c.requires.fits.left (named_lft 4 0 tt c.lifetimes)
 pub resolve-requires : goal.resolve-requires
 resolve-requires g c = (c.requires.fits.left (named_lft 4 0 tt c.lifetimes), omega (arith, c.new-left.ensures.room))
 
-pub returns-clause-ends : goal.returns-clause-ends
-returns-clause-ends g c = rw c.new-left.ensures.parts at c.resolve.ensures.ends
+pub returns-clause-leads : goal.returns-clause-leads
+returns-clause-leads g c = rw c.new-left.ensures.parts at c.resolve.ensures.leads
