@@ -4,7 +4,7 @@ use Rattle.std.specs.Cmp.{tied_itself}
 use Rattle.std.specs.Ordering.{is_eq}
 use Rattle.std.specs.FinMap.Entries.{put, find-put}
 use Rattle.std.specs.FinMap.Entries.{find as lookup}
-use Rattle.dc_plain.specs.Trees.{Tree, Spot, entry_of, spot_cmp, target_of, how_many, names_of, without_spot, without_number}
+use Rattle.dc_plain.specs.Trees.{Tree, Spot, entry_of, spot_cmp, entry_number, how_many, names_of, without_spot, without_number}
 use Rattle.dc_plain.specs.declared.call.Call.{Call}
 use Rattle.dc_plain.specs.Requests.{Request, Answer, request_of}
 use Rattle.dc_plain.specs.Requests.Answer.{Nothing, Refused}
@@ -28,13 +28,13 @@ use Rattle.dc_ops.specs.declared.steps.Plan.TheVariants as plans
 use Rattle.dc_ops.specs.Plans.{effect, effect_if, CanCarry, Plans, Declines}
 
 -- a new entry makes one entry more
-put_differs : (spot : Spot) (n : ℕ) (t : Tree) → target_of t spot ≡ None → put spot_cmp spot n t.entries ≢ t.entries
+put_differs : (spot : Spot) (n : ℕ) (t : Tree) → entry_number t spot ≡ None → put spot_cmp spot n t.entries ≢ t.entries
 put_differs spot n t free same =
     let more = count-put spot_cmp spot n (λ e. true) t.entries free in
     let still = ap (how_many (λ e. true)) same in
     absurd (omega arith)
 
-added_differs : (t : Tree) (d : ℕ) (name : List ℕ) (new : rust_new.New) → target_of t (spot_at d name) ≡ None → tree_added t d name new ≢ t
+added_differs : (t : Tree) (d : ℕ) (name : List ℕ) (new : rust_new.New) → entry_number t (spot_at d name) ≡ None → tree_added t d name new ≢ t
 added_differs t d name news.Dir free same = put_differs (spot_at d name) t.next t free (ap (λ (u : Tree). u.entries) same)
 added_differs t d name news.File free same = put_differs (spot_at d name) t.next t free (ap (λ (u : Tree). u.entries) same)
 added_differs t d name (news.Link text) free same = put_differs (spot_at d name) t.next t free (ap (λ (u : Tree). u.entries) same)
@@ -44,7 +44,7 @@ no_some : (n : ℕ) → ◌≡◌ {A = Option ℕ} None (Some n) → ⊥
 no_some n e = cc
 
 -- an entry that went is no longer found
-freed : (t : Tree) (spot : Spot) (n : ℕ) → target_of t spot ≡ Some n → without_spot spot t.entries ≢ t.entries
+freed : (t : Tree) (spot : Spot) (n : ℕ) → entry_number t spot ≡ Some n → without_spot spot t.entries ≢ t.entries
 freed t spot n there same =
     let none : lookup spot_cmp spot (without_spot spot t.entries) ≡ None = lookup-take spot_cmp spots_total spot spot t.entries
     ∙ ap (λ o. cond (not (is_eq o)) (lookup spot_cmp spot t.entries) None) (tied_itself spots_total spot) in
@@ -58,17 +58,17 @@ entries_without t d name n = by (names_of (record t { entries = without_spot (sp
     by true = refl
     by false = refl
 
-dropped_differs : (t : Tree) (d : ℕ) (name : List ℕ) (n : ℕ) → target_of t (spot_at d name) ≡ Some n → without_entry t d name n ≢ t
+dropped_differs : (t : Tree) (d : ℕ) (name : List ℕ) (n : ℕ) → entry_number t (spot_at d name) ≡ Some n → without_entry t d name n ≢ t
 dropped_differs t d name n there same = freed t (spot_at d name) n there (sym (entries_without t d name n) ∙ ap (λ (u : Tree). u.entries) same)
 
 -- what moved is found at the new name
-moved_differs : (t : Tree) (from : ℕ) (old : List ℕ) (to : ℕ) (new : List ℕ) (n : ℕ) → target_of t (spot_at to new) ≢ Some n → tree_moved t from old to new n ≢ t
+moved_differs : (t : Tree) (from : ℕ) (old : List ℕ) (to : ℕ) (new : List ℕ) (n : ℕ) → entry_number t (spot_at to new) ≢ Some n → tree_moved t from old to new n ≢ t
 moved_differs t from old to new n other same =
     let spot = spot_at to new in
     let rest : Tree = without_entry_alone (without_there t to new (entry_of t to (Entry new))) from old in
-    let there : target_of (tree_moved t from old to new n) spot ≡ Some n = find-put spot_cmp spots_total spot spot n rest.entries
+    let there : entry_number (tree_moved t from old to new n) spot ≡ Some n = find-put spot_cmp spots_total spot spot n rest.entries
     ∙ ap (λ o. cond (is_eq o) (Some n) (lookup spot_cmp spot rest.entries)) (tied_itself spots_total spot) in
-    other (sym (ap (λ u. target_of u spot) same) ∙ there)
+    other (sym (ap (λ u. entry_number u spot) same) ∙ there)
 
 effect_differs : (plan : rust_plan.Plan) (t : Tree) → CanCarry plan t → (effect plan t).1 ≢ t
 effect_differs (plans.Add d name new number) t can = added_differs t d name.bytes.now new can.1

@@ -1,12 +1,12 @@
 -- What goes with its last name, and what a count says by its kind.
 use Rattle.std.proofs.Common.{◌≡◌, ◌≢◌, ℕ, ◌≤◌, ◌==◌, List, true, false, Option, Some, None, Ok, is_some, option_and_then, refl, ap, sym, ◌∙◌, arith, length, option_map, subst, cond, if◌then◌else◌, [], ◌∷◌, ◌+◌}
-use Rattle.dc_plain.specs.Facts.{Place}
+use Rattle.dc_plain.specs.Facts.{Target}
 use Rattle.dc_plain.specs.Resolution.{is_directory}
 use Rattle.dc_plain.specs.TouchedKeys.{keys_gone, keys_at}
 use Rattle.std.specs.Ordering.{eq_by_cmp}
 use Rattle.std.specs.FinMap.Entries.{find as lookup}
 use Rattle.dc_plain.proofs.Holders.{same_test}
-use Rattle.dc_plain.specs.Trees.{Tree, Spot, spot_cmp, how_many, target_of, Inode, inode_of, place_at, kind_of, names_of, names_in}
+use Rattle.dc_plain.specs.Trees.{Tree, Spot, spot_cmp, how_many, entry_number, Inode, inode_of, target_at, kind_of, names_of, names_in}
 use Rattle.dc_plain.specs.Trees.Inode.{Directory, Regular, Symbolic}
 use Rattle.dc_plain.specs.IsWellFormed.{IsWellFormed}
 use Rattle.dc_plain.specs.Reads.{count_at, stat}
@@ -18,7 +18,7 @@ use Rattle.dc_store.specs.Counts.{count_of}
 use Rattle.dc_ops.specs.Keys.{own_keys}
 
 -- by the inode of a place
-pub by_inode : (P : Place → Option Inode → Type 0) (n : ℕ) (o : Option Inode) (place : Place) → option_map (λ inode. (n, kind_of inode)) o ≡ Some place → ((i : Inode) → P (n, kind_of i) (Some i)) → P place o
+pub by_inode : (P : Target → Option Inode → Type 0) (n : ℕ) (o : Option Inode) (place : Target) → option_map (λ inode. (n, kind_of inode)) o ≡ Some place → ((i : Inode) → P (n, kind_of i) (Some i)) → P place o
 by_inode P n None place e so = absurd cc
 by_inode P n (Some i) place e so = let same : (n, kind_of i) ≡ place = cc in subst (λ p. P p (Some i)) same (so i)
 
@@ -28,14 +28,14 @@ own_key n Directory = refl
 own_key n Regular = refl
 own_key n (Symbolic text) = refl
 
-pub freed_keys : (t : Tree) (place : Place) → place_at t place.0 ≡ Some place → (names_of t place.0 == 1) ≡ true → own_keys place ≡ keys_gone t place.0
+pub freed_keys : (t : Tree) (place : Target) → target_at t place.0 ≡ Some place → (names_of t place.0 == 1) ≡ true → own_keys place ≡ keys_gone t place.0
 freed_keys t place lives one = by_inode (λ p o. own_keys p ≡ keys_at p.0 o) place.0 (inode_of t place.0) place lives (own_key place.0) ∙ rw one refl
 
 -- a directory that has a name has one alone
 is_root : (t : Tree) (n : ℕ) → IsWellFormed t → 1 ≤ names_of t n → n ≢ 1
 is_root t n well named same = let one : 1 ≤ names_of t 1 = subst (λ k. 1 ≤ names_of t k) same named in let none = well.no_entry_leads_to_root in absurd (omega arith)
 
-directory_lives : (t : Tree) (place : Place) → place_at t place.0 ≡ Some place → is_directory place ≡ true → inode_of t place.0 ≡ Some Directory
+directory_lives : (t : Tree) (place : Target) → target_at t place.0 ≡ Some place → is_directory place ≡ true → inode_of t place.0 ≡ Some Directory
 directory_lives t place lives is = by_inode (λ p o. is_directory p ≡ true → o ≡ Some Directory) place.0 (inode_of t place.0) place lives by_kind is
   where
     by_kind : (i : Inode) → is_directory (place.0, kind_of i) ≡ true → Some i ≡ Some Directory
@@ -43,15 +43,15 @@ directory_lives t place lives is = by_inode (λ p o. is_directory p ≡ true →
     by_kind Regular e = absurd cc
     by_kind (Symbolic text) e = absurd cc
 
-pub single : (t : Tree) (place : Place) → IsWellFormed t → place_at t place.0 ≡ Some place → 1 ≤ names_of t place.0 → is_directory place ≡ true → (names_of t place.0 == 1) ≡ true
+pub single : (t : Tree) (place : Target) → IsWellFormed t → target_at t place.0 ≡ Some place → 1 ≤ names_of t place.0 → is_directory place ≡ true → (names_of t place.0 == 1) ≡ true
 single t place well lives named is =
     let alive = well.inodes place.0 Directory (directory_lives t place lives is) in rw (alive.reached.0 (is_root t place.0 well named)) refl
 
 -- a count is of entries or of names, by the kind
-pub names_counted : (t : Tree) (place : Place) → place_at t place.0 ≡ Some place → is_directory place ≡ false → count_of t place.0 ≡ names_of t place.0
+pub names_counted : (t : Tree) (place : Target) → target_at t place.0 ≡ Some place → is_directory place ≡ false → count_of t place.0 ≡ names_of t place.0
 names_counted t place lives is = rw (lives, is) refl
 
-pub entries_counted : (t : Tree) (place : Place) → place_at t place.0 ≡ Some place → is_directory place ≡ true → count_of t place.0 ≡ length (names_in t place.0)
+pub entries_counted : (t : Tree) (place : Target) → target_at t place.0 ≡ Some place → is_directory place ≡ true → count_of t place.0 ≡ length (names_in t place.0)
 entries_counted t place lives is = rw (lives, is) refl
 
 -- what an entry leads to has a name
@@ -64,16 +64,16 @@ named_by spot n (x ∷ xs) e =
     ] e
 
 -- what a stat answers of a place that lives
-pub stat_told : (t : Tree) (base : ℕ) (text : List ℕ) (place : Place) (count : ℕ) → walk_on t base text follow.Yes ≡ Ok place → place_at t place.0 ≡ Some place → count ≡ count_of t place.0
+pub stat_told : (t : Tree) (base : ℕ) (text : List ℕ) (place : Target) (count : ℕ) → walk_on t base text follow.Yes ≡ Ok place → target_at t place.0 ≡ Some place → count ≡ count_of t place.0
     → Counted place.0 place.1 count ≡ answered (stat t base text)
 stat_told t base text place count found lives is =
     let told : count_of t place.0 ≡ count_at t place = rw lives refl in
     ap (Counted place.0 place.1) (is ∙ told) ∙ sym (ap (λ r. answered (r >>= λ place. Ok (Counted place.0 place.1 (count_at t place)))) found)
 
 -- a name that leads to what doesn't live leads nowhere
-pub unheld : (t : Tree) (spot : Spot) (n : ℕ) → target_of t spot ≡ Some n → None ≡ option_map kind_of (inode_of t n) → is_some (option_and_then (place_at t) (target_of t spot)) ≡ false
-unheld t spot n leads dead = ap (λ o. is_some (option_and_then (place_at t) o)) leads ∙ by_node (inode_of t n) dead
+pub unheld : (t : Tree) (spot : Spot) (n : ℕ) → entry_number t spot ≡ Some n → None ≡ option_map kind_of (inode_of t n) → is_some (option_and_then (target_at t) (entry_number t spot)) ≡ false
+unheld t spot n leads dead = ap (λ o. is_some (option_and_then (target_at t) o)) leads ∙ by_node (inode_of t n) dead
   where
-    by_node : (o : Option Inode) → None ≡ option_map kind_of o → is_some {T = Place} (option_map (λ inode. (n, kind_of inode)) o) ≡ false
+    by_node : (o : Option Inode) → None ≡ option_map kind_of o → is_some {T = Target} (option_map (λ inode. (n, kind_of inode)) o) ≡ false
     by_node None e = refl
     by_node (Some i) e = absurd cc

@@ -1,18 +1,18 @@
 -- The directory that holds another, as its dot-dot tells.
 use Rattle.std.proofs.Common.{◌≡◌, ◌≢◌, ℕ, true, Option, Some, None, IsTrue, refl, ap, sym, ◌∙◌, option_map, option_and_then}
-use Rattle.dc_plain.specs.Facts.{Place}
+use Rattle.dc_plain.specs.Facts.{Target}
 use Rattle.dc_plain.specs.Facts.Label.{Parent}
 use Rattle.dc_plain.specs.IsWellFormed.{IsWellFormed}
-use Rattle.dc_plain.specs.Trees.{Tree, Inode, inode_of, place_at, kind_of, entry_of, holder_of, is_live_directory, is_directory_inode}
+use Rattle.dc_plain.specs.Trees.{Tree, Inode, inode_of, target_at, kind_of, entry_of, holder_of, is_live_directory, is_directory_inode}
 use Rattle.dc_plain.proofs.Holders.{other_test, holder-live}
 
-abbrev up : Option Place → Option ℕ
+abbrev up : Option Target → Option ℕ
 up place = option_map (λ place. place.0) place
 
-entry_parent : (t : Tree) (d : ℕ) → IsTrue (is_live_directory t d) → d ≢ 1 → entry_of t d Parent ≡ option_and_then (place_at t) (holder_of t d)
+entry_parent : (t : Tree) (d : ℕ) → IsTrue (is_live_directory t d) → d ≢ 1 → entry_of t d Parent ≡ option_and_then (target_at t) (holder_of t d)
 entry_parent t d live below = let root = other_test d 1 below in rw (live, root) refl
 
-some_by : (t : Tree) (o : Option ℕ) (n : ℕ) → up (option_and_then (place_at t) o) ≡ Some n → o ≡ Some n
+some_by : (t : Tree) (o : Option ℕ) (n : ℕ) → up (option_and_then (target_at t) o) ≡ Some n → o ≡ Some n
 some_by t None n e = cc
 some_by t (Some k) n e = by_inode (inode_of t k) e
   where
@@ -20,7 +20,7 @@ some_by t (Some k) n e = by_inode (inode_of t k) e
     by_inode None e' = absurd cc
     by_inode (Some inode) e' = e'
 
-none_by : (t : Tree) (o : Option ℕ) → ((k : ℕ) → o ≡ Some k → IsTrue (is_live_directory t k)) → up (option_and_then (place_at t) o) ≡ None → o ≡ None
+none_by : (t : Tree) (o : Option ℕ) → ((k : ℕ) → o ≡ Some k → IsTrue (is_live_directory t k)) → up (option_and_then (target_at t) o) ≡ None → o ≡ None
 none_by t None live e = refl
 none_by t (Some k) live e = by_inode (inode_of t k) (live k refl) e
   where

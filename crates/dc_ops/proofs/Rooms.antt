@@ -2,9 +2,9 @@
 use Rattle.std.proofs.Common.{◌≡◌, ℕ, ◌<◌, ◌≤◌, ◌^◌, ◌||◌, ◌==◌, nat_le, length, Bool, true, false, Option, Some, None, is_some, option_map, IsTrue, refl, ap, ◌∙◌, arith}
 use Rattle.std.proofs.lemmas.Bool.Decides.{nat_tests}
 use Rattle.dc_names.specs.declared.kind.Kind.TheVariants.{Dir}
-use Rattle.dc_plain.specs.Facts.{Place}
+use Rattle.dc_plain.specs.Facts.{Target}
 use Rattle.dc_plain.specs.Resolution.{is_directory}
-use Rattle.dc_plain.specs.Trees.{Tree, Inode, inode_of, place_at, kind_of, names_of, is_directory_inode}
+use Rattle.dc_plain.specs.Trees.{Tree, Inode, inode_of, target_at, kind_of, names_of, is_directory_inode}
 use Rattle.dc_plain.specs.Trees.Inode.{Directory, Regular, Symbolic}
 use Rattle.dc_plain.specs.Refusals.{is_full}
 use Rattle.dc_store.specs.Added.{CanAdd, CanBeNamed, number_added}
@@ -40,14 +40,14 @@ number_made t (news.Same m) n e makes = absurd makes
 few_by : (n : ℕ) → nat_le 65000 n ≡ false → n < 65000
 few_by n e = grind (arith, nat_tests)
 
-lives_by : (t : Tree) (n : ℕ) (o : Option Inode) (place : Place) → option_map (λ inode. (n, kind_of inode)) o ≡ Some place → is_directory place ≡ false
+lives_by : (t : Tree) (n : ℕ) (o : Option Inode) (place : Target) → option_map (λ inode. (n, kind_of inode)) o ≡ Some place → is_directory place ≡ false
     → IsTrue (is_some o) × (is_directory_inode o ≡ false)
 lives_by t n None place e file = absurd cc
 lives_by t n (Some Directory) place e file = let same : (n, Dir) ≡ place = cc in let no : is_directory (n, Dir) ≡ false = ap is_directory same ∙ file in absurd cc
 lives_by t n (Some Regular) place e file = (refl, refl)
 lives_by t n (Some (Symbolic text)) place e file = (refl, refl)
 
-pub may_be_named : (t : Tree) (place : Place) → place_at t place.0 ≡ Some place → is_directory place ≡ false → nat_le 65000 (names_of t place.0) ≡ false → CanBeNamed t place.0
+pub may_be_named : (t : Tree) (place : Target) → target_at t place.0 ≡ Some place → is_directory place ≡ false → nat_le 65000 (names_of t place.0) ≡ false → CanBeNamed t place.0
 may_be_named t place lives file few =
     let by = lives_by t place.0 (inode_of t place.0) place lives file in
     record { lives = by.0; no_directory = by.1; few = few_by (names_of t place.0) few }

@@ -1,6 +1,6 @@
 -- What a plan makes of a tree, and which plans are a change's.
 use Rattle.std.specs.Prelude.{◌≡◌, ℕ, List, Option, Some, None, true, false, IsTrue}
-use Rattle.dc_plain.specs.Trees.{Tree, is_live_directory, target_of}
+use Rattle.dc_plain.specs.Trees.{Tree, is_live_directory, entry_number}
 use Rattle.dc_plain.specs.Requests.{Request, Answer}
 use Rattle.dc_plain.specs.Requests.Answer.{Done, Nothing}
 use Rattle.dc_plain.specs.Effects.{without_entry}
@@ -29,15 +29,15 @@ effect_if (Some plan) t = effect plan t
 
 -- an entry may be added: its directory lives, it isn't there, and it leads to the number told
 abbrev pub CanAddAt : Tree → ℕ → List ℕ → rust_new.New → ℕ → Type 0
-CanAddAt t dir name new number = IsTrue (is_live_directory t dir) × (target_of t (spot_at dir name) ≡ None) × CanAdd t new × (number ≡ number_added t new)
+CanAddAt t dir name new number = IsTrue (is_live_directory t dir) × (entry_number t (spot_at dir name) ≡ None) × CanAdd t new × (number ≡ number_added t new)
 
 -- an entry may go: it leads to the number told, which is no directory with entries
 abbrev pub CanDropAt : Tree → ℕ → List ℕ → ℕ → Type 0
-CanDropAt t dir name number = (target_of t (spot_at dir name) ≡ Some number) × (is_full_directory t number ≡ false)
+CanDropAt t dir name number = (entry_number t (spot_at dir name) ≡ Some number) × (is_full_directory t number ≡ false)
 
 -- an entry may move: it leads to the number told, which may stand at the new name
 abbrev pub CanMoveAt : Tree → ℕ → List ℕ → ℕ → List ℕ → ℕ → Type 0
-CanMoveAt t from old to new number = (target_of t (spot_at from old) ≡ Some number) × CanStandAt t to new number
+CanMoveAt t from old to new number = (entry_number t (spot_at from old) ≡ Some number) × CanStandAt t to new number
 
 -- the plan can be carried out on the tree
 abbrev pub CanCarry : rust_plan.Plan → Tree → Type 0

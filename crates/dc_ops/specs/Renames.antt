@@ -1,7 +1,7 @@
 -- A rename once both names are known.
 use Rattle.std.specs.Prelude.{ℕ, List, length, ◌&&◌, Ok, if◌then◌else◌}
 use Rattle.dc_names.specs.declared.name.Name as rust_name
-use Rattle.dc_plain.specs.Facts.{Place, Key}
+use Rattle.dc_plain.specs.Facts.{Target, Key}
 use Rattle.dc_plain.specs.TouchedKeys.{keys_renamed}
 use Rattle.dc_plain.specs.Facts.Label.{Entry}
 use Rattle.dc_plain.specs.Resolution.{is_directory}
@@ -17,7 +17,7 @@ abbrev pub spot_named : ℕ × rust_name.Name → Spot
 spot_named at = spot_at at.0 at.1.bytes.now
 
 -- what was found at the old name gets the new one
-abbrev pub move_to : Tree → Spot → Spot → Place → Change
+abbrev pub move_to : Tree → Spot → Spot → Target → Change
 move_to t from to moved =
     let there = entry_of t to.directory (Entry to.name) in
     if same_inode moved there then Ok (Nothing, t) else do

@@ -2,9 +2,9 @@ ghost use Rattle.std.specs.Prelude.{◌≡◌, ◌≤◌, true, false, None, Som
 ghost use Rattle.dc_plain.specs.Facts.Label.{Entry};
 ghost use Rattle.dc_plain.specs.IsWellFormed.{IsWellFormed};
 ghost use Rattle.dc_plain.specs.Places.Last.{Name as Named};
-ghost use Rattle.dc_plain.specs.Refusals.{is_full, name_or, name_or_each, present, spot_on};
+ghost use Rattle.dc_plain.specs.Refusals.{is_full, name_or, name_or_each, present, where_on};
 ghost use Rattle.dc_plain.specs.Resolution.{is_directory};
-ghost use Rattle.dc_plain.specs.Trees.{entry_of, target_of, place_at, names_of};
+ghost use Rattle.dc_plain.specs.Trees.{entry_of, entry_number, target_at, names_of};
 ghost use Rattle.dc_resolve.specs.Spots.{last_shown};
 ghost use Rattle.dc_store.specs.Spots.{spot_at};
 ghost use Rattle.dc_ops.specs.Wheres.{where_shown, name_shown};
@@ -25,7 +25,7 @@ pub fn refuse(test: bool, number: u64) -> Result<(), u64>
 
 /// Where a text's last part is to be looked up, or the number of its refusal.
 pub fn place_text<'p, S: Store>(store: &S, base: u64, text: &'p [u8]) -> Result<Where<'p>, u64>
-    ensures { where_shown result ≡ spot_on (S.tree store.now) base text.now }
+    ensures { where_shown result ≡ where_on (S.tree store.now) base text.now }
 {
     place_path(store, base, path_of(text)?)
 }
@@ -65,8 +65,8 @@ pub fn present<S: Store>(store: &S, dir: u64, name: Name<'_>) -> Result<(u64, Ki
     ensures found { result
         ≡ present 2 (entry_of (S.tree store.now) dir (Entry name.entry.bytes.now)) }
     ensures target { IfOk result (λ place.
-        target_of (S.tree store.now) (spot_at dir name.entry.bytes.now) ≡ Some place.0) }
-    ensures lives { IfOk result (λ place. place_at (S.tree store.now) place.0 ≡ Some place) }
+        entry_number (S.tree store.now) (spot_at dir name.entry.bytes.now) ≡ Some place.0) }
+    ensures lives { IfOk result (λ place. target_at (S.tree store.now) place.0 ≡ Some place) }
     ensures named { IfOk result (λ place. 1 ≤ names_of (S.tree store.now) place.0) }
     ensures well { IsWellFormed (S.tree store.now) }
 {
@@ -92,7 +92,7 @@ pub fn is_there<S: Store>(store: &S, dir: u64, name: Name<'_>) -> bool
     ensures there { result
         ≡ is_some (entry_of (S.tree store.now) dir (Entry name.entry.bytes.now)) }
     ensures free { result ≡ false →
-        target_of (S.tree store.now) (spot_at dir name.entry.bytes.now) ≡ None }
+        entry_number (S.tree store.now) (spot_at dir name.entry.bytes.now) ≡ None }
     ensures well { IsWellFormed (S.tree store.now) }
 {
     entry(store, dir, name).is_some()

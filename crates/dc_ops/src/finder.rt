@@ -1,7 +1,7 @@
 ghost use Rattle.std.specs.Prelude.{◌≡◌, ◌≤◌, false, refl, Some, option_map, IfSome, IsTrue};
 ghost use Rattle.dc_plain.specs.Facts.Label.{Entry, Parent};
 ghost use Rattle.dc_plain.specs.IsWellFormed.{IsWellFormed};
-ghost use Rattle.dc_plain.specs.Trees.{told_of, entry_of, target_of, place_at, names_of};
+ghost use Rattle.dc_plain.specs.Trees.{told_of, entry_of, entry_number, target_at, names_of};
 ghost use Rattle.dc_store.specs.Spots.{spot_at};
 ghost use Rattle.dc_names.specs.Paths.Part.{DotDot};
 ghost use Rattle.dc_resolve.specs.Asked.{may_be_found};
@@ -20,8 +20,8 @@ pub struct StoreFinder<'a, S: Store> {
 pub fn entry<S: Store>(store: &S, dir: u64, name: Name<'_>) -> Option<(u64, Kind)>
     ensures found { result ≡ entry_of (S.tree store.now) dir (Entry name.entry.bytes.now) }
     ensures target { option_map (λ place. place.0) result
-        ≡ target_of (S.tree store.now) (spot_at dir name.entry.bytes.now) }
-    ensures lives { IfSome result (λ place. place_at (S.tree store.now) place.0 ≡ Some place) }
+        ≡ entry_number (S.tree store.now) (spot_at dir name.entry.bytes.now) }
+    ensures lives { IfSome result (λ place. target_at (S.tree store.now) place.0 ≡ Some place) }
     ensures named { IfSome result (λ place. 1 ≤ names_of (S.tree store.now) place.0) }
     ensures well { IsWellFormed (S.tree store.now) }
 {

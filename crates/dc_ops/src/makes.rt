@@ -2,7 +2,7 @@ ghost use Rattle.std.specs.Prelude.{◌≡◌, ◌∷◌, [], true, nat_le, fals
 ghost use Rattle.dc_plain.specs.Operations.{link, symlink};
 ghost use Rattle.dc_plain.specs.Resolution.{is_directory};
 ghost use Rattle.dc_plain.specs.TouchedKeys.{at_name, entry_key, text_key};
-ghost use Rattle.dc_plain.specs.Trees.{names_of, place_at};
+ghost use Rattle.dc_plain.specs.Trees.{names_of, target_at};
 ghost use Rattle.dc_ops.specs.Keys.{keys_of, keys_made};
 ghost use Rattle.dc_ops.specs.Makes.{MakesInode, HasPath, made_for, may_end_in_slash};
 ghost use Rattle.dc_ops.specs.Plans.{effect, CanCarry};
@@ -113,7 +113,7 @@ pub fn plan_link<'a, S: Store>(
 
 /// Whether a file or link may have no further name.
 fn has_most_names<S: Store>(store: &S, place: (u64, Kind)) -> bool
-    requires lives { place_at (S.tree store.now) place.0 ≡ Some place }
+    requires lives { target_at (S.tree store.now) place.0 ≡ Some place }
     requires file { is_directory place ≡ false }
     ensures { result ≡ nat_le 65000 (names_of (S.tree store.now) place.0) }
 {

@@ -3,8 +3,8 @@ ghost use Rattle.dc_plain.specs.IsWellFormed.{IsWellFormed};
 ghost use Rattle.dc_plain.specs.Operations.{rename, is_beneath, replaceable, same_inode};
 ghost use Rattle.dc_plain.specs.Requests.Request.{Rename};
 ghost use Rattle.dc_plain.specs.Resolution.{is_directory};
-ghost use Rattle.dc_plain.specs.TouchedKeys.{keys_gone, listed, with_target};
-ghost use Rattle.dc_plain.specs.Trees.{is_live_directory, names_of, place_at, target_of};
+ghost use Rattle.dc_plain.specs.TouchedKeys.{keys_gone, listed, with_number};
+ghost use Rattle.dc_plain.specs.Trees.{is_live_directory, names_of, target_at, entry_number};
 ghost use Rattle.dc_ops.specs.Keys.{keys_in, keys_of};
 ghost use Rattle.dc_ops.specs.Plans.{effect_if, CanCarry};
 ghost use Rattle.dc_ops.specs.Renames.{keys_of_move, move_to, spot_named};
@@ -51,8 +51,8 @@ fn plan_move<'a, S: Store>(
     to: (u64, Name<'a>),
     moved: (u64, Kind),
 ) -> Result<Option<Plan<'a>>, u64>
-    requires source { target_of (S.tree store.now) (spot_named from) ≡ Some moved.0 }
-    requires lives { place_at (S.tree store.now) moved.0 ≡ Some moved }
+    requires source { entry_number (S.tree store.now) (spot_named from) ≡ Some moved.0 }
+    requires lives { target_at (S.tree store.now) moved.0 ≡ Some moved }
     requires held { IsTrue (is_live_directory (S.tree store.now) to.0) }
     ensures planned { IfOk result (λ plan.
         move_to (S.tree store.now) (spot_named from.entry) (spot_named to.entry) moved
@@ -91,7 +91,7 @@ fn is_one(moved: (u64, Kind), there: Option<(u64, Kind)>) -> bool
 
 /// Refuses where what stands at the new name may not be replaced.
 fn make_way<S: Store>(store: &S, moved: (u64, Kind), there: Option<(u64, Kind)>) -> Result<(), u64>
-    requires lives { IfSome there (λ place. place_at (S.tree store.now) place.0 ≡ Some place) }
+    requires lives { IfSome there (λ place. target_at (S.tree store.now) place.0 ≡ Some place) }
     ensures ok { OnOk result (replaceable (S.tree store.now) moved there ≡ Ok true) }
     ensures err { IfErr result (λ number. replaceable (S.tree store.now) moved there ≡ Err number) }
 {
@@ -114,11 +114,11 @@ fn turns(moved: (u64, Kind), from: u64, to: u64) -> bool
 
 /// The key of its own that goes with a last name, where something stands there.
 fn freed_there<'a, S: Store>(store: &S, there: Option<(u64, Kind)>) -> Option<Key<'a>>
-    requires lives { IfSome there (λ place. place_at (S.tree store.now) place.0 ≡ Some place) }
+    requires lives { IfSome there (λ place. target_at (S.tree store.now) place.0 ≡ Some place) }
     requires named { IfSome there (λ place. 1 ≤ names_of (S.tree store.now) place.0) }
     requires well { IsWellFormed (S.tree store.now) }
     ensures { keys_in result
-        ≡ with_target (option_map (λ place. place.0) there) (keys_gone (S.tree store.now)) }
+        ≡ with_number (option_map (λ place. place.0) there) (keys_gone (S.tree store.now)) }
 {
     match there {
         Some(place) => freed(store, place),

@@ -4,7 +4,7 @@ ghost use Rattle.dc_plain.specs.IsWellFormed.{IsWellFormed};
 ghost use Rattle.dc_plain.specs.Operations.{unlink, rmdir};
 ghost use Rattle.dc_plain.specs.Resolution.{is_directory};
 ghost use Rattle.dc_plain.specs.TouchedKeys.{at_name, entry_key, keys_taken, keys_gone};
-ghost use Rattle.dc_plain.specs.Trees.{names_in, names_of, place_at};
+ghost use Rattle.dc_plain.specs.Trees.{names_in, names_of, target_at};
 ghost use Rattle.dc_ops.specs.Keys.{keys_in, keys_of};
 ghost use Rattle.dc_ops.specs.Plans.{effect, CanCarry};
 
@@ -62,7 +62,7 @@ pub fn plan_rmdir<'a, S: Store>(store: &S, base: u64, path: &'a [u8]) -> Result<
 
 /// Whether no entry stands in a directory.
 pub fn is_empty<S: Store>(store: &S, place: (u64, Kind)) -> bool
-    requires lives { place_at (S.tree store.now) place.0 ≡ Some place }
+    requires lives { target_at (S.tree store.now) place.0 ≡ Some place }
     requires directory { is_directory place ≡ true }
     ensures { result ≡ is_empty (names_in (S.tree store.now) place.0) }
 {
@@ -71,7 +71,7 @@ pub fn is_empty<S: Store>(store: &S, place: (u64, Kind)) -> bool
 
 /// The key of its own that an inode has, where an entry is its last name.
 pub fn freed<'a, S: Store>(store: &S, place: (u64, Kind)) -> Option<Key<'a>>
-    requires lives { place_at (S.tree store.now) place.0 ≡ Some place }
+    requires lives { target_at (S.tree store.now) place.0 ≡ Some place }
     requires named { 1 ≤ names_of (S.tree store.now) place.0 }
     requires well { IsWellFormed (S.tree store.now) }
     ensures { keys_in result ≡ keys_gone (S.tree store.now) place.0 }
@@ -84,7 +84,7 @@ pub fn freed<'a, S: Store>(store: &S, place: (u64, Kind)) -> Option<Key<'a>>
 
 /// Whether an inode has one name alone, as each directory but the root has.
 fn has_one_name<S: Store>(store: &S, place: (u64, Kind)) -> bool
-    requires lives { place_at (S.tree store.now) place.0 ≡ Some place }
+    requires lives { target_at (S.tree store.now) place.0 ≡ Some place }
     requires named { 1 ≤ names_of (S.tree store.now) place.0 }
     requires well { IsWellFormed (S.tree store.now) }
     ensures { result ≡ (names_of (S.tree store.now) place.0 == 1) }

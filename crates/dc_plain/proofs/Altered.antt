@@ -6,8 +6,8 @@ use Rattle.dc_plain.specs.declared.plan.Change as rust_change
 use Rattle.dc_plain.specs.declared.plan.Change.TheVariants as changes
 use Rattle.dc_plain.specs.declared.plan.Plan as rust_plan
 use Rattle.dc_plain.specs.declared.plan.Plan.TheVariants as plans
-use Rattle.dc_plain.specs.Facts.{Place}
-use Rattle.dc_plain.specs.Trees.{Tree, Spot, spot_cmp, target_of}
+use Rattle.dc_plain.specs.Facts.{Target}
+use Rattle.dc_plain.specs.Trees.{Tree, Spot, spot_cmp, entry_number}
 use Rattle.dc_plain.specs.Effects.{with_entry_for, without_entry, without_entry_alone}
 use Rattle.dc_plain.specs.Operations.{change_of, settled, same_inode}
 use Rattle.dc_plain.specs.Requests.{Request}
@@ -20,33 +20,33 @@ use Rattle.dc_plain.proofs.SameFacts.{tied}
 use Rattle.dc_plain.proofs.Takes.{lookup-take}
 
 -- an entry that was put in leads where it was to lead
-put_target : (t : Tree) (spot : Spot) (n : ℕ) → target_of (with_entry_for t spot.directory spot.name n) spot ≡ Some n
+put_target : (t : Tree) (spot : Spot) (n : ℕ) → entry_number (with_entry_for t spot.directory spot.name n) spot ≡ Some n
 put_target t spot n = find-put spot_cmp spots_total spot spot n t.entries ∙ rw (tied spot.directory spot.name) refl
 
 -- one that was taken leads nowhere
-taken_target : (t : Tree) (spot : Spot) (n : ℕ) → target_of (without_entry t spot.directory spot.name n) spot ≡ None
+taken_target : (t : Tree) (spot : Spot) (n : ℕ) → entry_number (without_entry t spot.directory spot.name n) spot ≡ None
 taken_target t spot n =
     let gone = lookup-take spot_cmp spots_total spot spot t.entries ∙ rw (tied spot.directory spot.name) refl in
-    either_left (λ u. target_of u spot ≡ None) t spot.directory spot.name n gone gone
+    either_left (λ u. entry_number u spot ≡ None) t spot.directory spot.name n gone gone
 
 -- nor does one that leads nowhere where another is taken
-still_free : (t : Tree) (spot other : Spot) → target_of t spot ≡ None → target_of (without_entry_alone t other.directory other.name) spot ≡ None
+still_free : (t : Tree) (spot other : Spot) → entry_number t spot ≡ None → entry_number (without_entry_alone t other.directory other.name) spot ≡ None
 still_free t spot other free =
     lookup-take spot_cmp spots_total other spot t.entries ∙ ap (λ o. cond (not (eq_by_cmp spot_cmp other spot)) o None) free
     ∙ elim (eq_by_cmp spot_cmp other spot) as (λ b. cond {A = Option ℕ} (not b) None None ≡ None) [ true ↦ refl | false ↦ refl ]
 
 -- the new name is free where what stood there went
-pub free_over : (t : Tree) (from to : Spot) (there : Option Place) → LeadsTo t to.directory to.name there
-    → target_of (without_moved t from to there) to ≡ None
+pub free_over : (t : Tree) (from to : Spot) (there : Option Target) → LeadsTo t to.directory to.name there
+    → entry_number (without_moved t from to there) to ≡ None
 free_over t from to None leads = still_free t to from leads
 free_over t from to (Some place) leads = still_free (without_entry t to.directory to.name place.0) to from (taken_target t to place.0)
 
 -- two trees are apart where an entry leads elsewhere
-apart_by : (t u : Tree) (spot : Spot) → target_of u spot ≢ target_of t spot → u ≢ t
-apart_by t u spot other same = other (ap (λ v. target_of v spot) same)
+apart_by : (t u : Tree) (spot : Spot) → entry_number u spot ≢ entry_number t spot → u ≢ t
+apart_by t u spot other same = other (ap (λ v. entry_number v spot) same)
 
 -- the moved inode is another than what stood at the new name
-new_there : (t : Tree) (to : Spot) (moved : Place) (there : Option Place) → LeadsTo t to.directory to.name there → same_inode moved there ≡ false → Some moved.0 ≢ target_of t to
+new_there : (t : Tree) (to : Spot) (moved : Target) (there : Option Target) → LeadsTo t to.directory to.name there → same_inode moved there ≡ false → Some moved.0 ≢ entry_number t to
 new_there t to moved None leads apart same = cc
 new_there t to moved (Some place) leads apart same = let one : moved.0 ≡ place.0 = cc in decided_not moved.0 place.0 apart one
 

@@ -1,6 +1,6 @@
 -- What the steps of a call say where they come to their end.
 use Rattle.std.proofs.Common.{◌≡◌, ℕ, List, Bool, true, false, Option, Some, None, Result, Ok, Err, refl, subst}
-use Rattle.dc_plain.specs.Facts.{Place}
+use Rattle.dc_plain.specs.Facts.{Target}
 use Rattle.dc_plain.specs.Trees.{Tree}
 use Rattle.dc_plain.specs.Requests.{Answer}
 use Rattle.dc_plain.specs.Places.{Last}
@@ -28,7 +28,7 @@ named_each a b c Dot name e = absurd cc
 named_each a b c DotDot name e = absurd cc
 named_each a b c (Name other) name e = cc
 
-pub is_there : (number : ℕ) (found : Option Place) (place : Place) → present number found ≡ Ok place → found ≡ Some place
+pub is_there : (number : ℕ) (found : Option Target) (place : Target) → present number found ≡ Ok place → found ≡ Some place
 is_there number None place e = absurd cc
 is_there number (Some other) place e = cc
 

@@ -4,16 +4,16 @@ use Rattle.std.specs.Prelude.{nat_le}
 use Rattle.std.proofs.lemmas.Bool.Decides.{nat_tests}
 use Rattle.dc_names.specs.Bytes.{is_empty, is_name}
 use Rattle.dc_names.specs.Paths.{Path}
-use Rattle.dc_plain.specs.Facts.{Place}
+use Rattle.dc_plain.specs.Facts.{Target}
 use Rattle.dc_plain.specs.Facts.Label.{Entry}
 use Rattle.dc_plain.specs.Resolution.{is_directory}
-use Rattle.dc_plain.specs.Trees.{Tree, Inode, inode_of, place_at, target_of, entry_of, names_of, names_in, kind_of, is_live_directory, is_directory_inode}
+use Rattle.dc_plain.specs.Trees.{Tree, Inode, inode_of, target_at, entry_number, entry_of, names_of, names_in, kind_of, is_live_directory, is_directory_inode}
 use Rattle.dc_plain.specs.Trees.Inode.{Directory, Regular, Symbolic}
 use Rattle.dc_plain.specs.Requests.{Answer}
 use Rattle.dc_plain.specs.Requests.Answer.{Done, Nothing}
 use Rattle.dc_plain.specs.Places.{Where}
 use Rattle.dc_plain.specs.Places.Last.{Name}
-use Rattle.dc_plain.specs.Refusals.{◌>>=◌, spot_on, place_on, path_or_fault, name_or, name_or_each, present, is_full}
+use Rattle.dc_plain.specs.Refusals.{◌>>=◌, where_on, place_on, path_or_fault, name_or, name_or_each, present, is_full}
 use Rattle.dc_plain.specs.Effects.{with_new, with_entry_for, without_entry}
 use Rattle.dc_plain.specs.Plans.{LeadsTo}
 use Rattle.dc_plain.specs.Operations.{make, link, unlink, rmdir}
@@ -24,8 +24,8 @@ use Rattle.dc_plain.proofs.Chains.{after, after_test, named, named_each, is_ther
 use Rattle.dc_plain.proofs.Spotted.{spot_live, spot_named, place_live, path_named}
 
 -- an entry that is found leads to an inode that lives, of the kind that is told
-pub record Leads (t : Tree) (d : ℕ) (name : List ℕ) (place : Place) : Type 0 where
-  pub target : target_of t (record { directory = d; name = name }) ≡ Some place.0
+pub record Leads (t : Tree) (d : ℕ) (name : List ℕ) (place : Target) : Type 0 where
+  pub target : entry_number t (record { directory = d; name = name }) ≡ Some place.0
   pub inode : Inode
   pub lives : inode_of t place.0 ≡ Some inode
   pub kind : is_directory place ≡ is_directory_inode (Some inode)
@@ -35,27 +35,27 @@ kind_is n Directory = refl
 kind_is n Regular = refl
 kind_is n (Symbolic text) = refl
 
-pub entry-leads : (t : Tree) (d : ℕ) (name : List ℕ) (place : Place) → entry_of t d (Entry name) ≡ Some place → Leads t d name place
-entry-leads t d name place e = by_target (target_of t (record { directory = d; name = name })) refl e
+pub entry-leads : (t : Tree) (d : ℕ) (name : List ℕ) (place : Target) → entry_of t d (Entry name) ≡ Some place → Leads t d name place
+entry-leads t d name place e = by_target (entry_number t (record { directory = d; name = name })) refl e
   where
-    by_inode : (n : ℕ) (i : Option Inode) → target_of t (record { directory = d; name = name }) ≡ Some n → inode_of t n ≡ i → option_map (λ inode. (n, kind_of inode)) i ≡ Some place → Leads t d name place
+    by_inode : (n : ℕ) (i : Option Inode) → entry_number t (record { directory = d; name = name }) ≡ Some n → inode_of t n ≡ i → option_map (λ inode. (n, kind_of inode)) i ≡ Some place → Leads t d name place
     by_inode n None at is e' = cc
     by_inode n (Some i) at is e' =
         let same : (n, kind_of i) ≡ place = cc in
         subst (Leads t d name) same (record { target = at; inode = i; lives = is; kind = kind_is n i })
 
-    by_target : (o : Option ℕ) → target_of t (record { directory = d; name = name }) ≡ o → option_and_then (place_at t) o ≡ Some place → Leads t d name place
+    by_target : (o : Option ℕ) → entry_number t (record { directory = d; name = name }) ≡ o → option_and_then (target_at t) o ≡ Some place → Leads t d name place
     by_target None at e' = cc
     by_target (Some n) at e' = by_inode n (inode_of t n) at refl e'
 
-pub leads_to : (t : Tree) (d : ℕ) (name : List ℕ) → IsWellFormed t → (found : Option Place) → found ≡ entry_of t d (Entry name) → LeadsTo t d name found
+pub leads_to : (t : Tree) (d : ℕ) (name : List ℕ) → IsWellFormed t → (found : Option Target) → found ≡ entry_of t d (Entry name) → LeadsTo t d name found
 leads_to t d name well None e = free_spot t d name well (ap is_some (sym e))
 leads_to t d name well (Some place) e = let leads = entry-leads t d name place (sym e) in leads.target
 
 -- a path ends in a name, to be looked up in this directory
 pub record Ends_in (t : Tree) (base : ℕ) (text : List ℕ) (d : ℕ) (name : List ℕ) : Type 0 where
   pub at : Where
-  pub spot : spot_on t base text ≡ Ok at
+  pub spot : where_on t base text ≡ Ok at
   pub directory : at.directory ≡ d
   pub last : at.last ≡ Name name
 
@@ -66,7 +66,7 @@ pub record Makes (limit : ℕ) (t : Tree) (base : ℕ) (text : List ℕ) (inode 
   pub ends : Ends_in t base text d name
   pub held : IsTrue (is_live_directory t d)
   pub named : IsTrue (is_name name)
-  pub free : target_of t (record { directory = d; name = name }) ≡ None
+  pub free : entry_number t (record { directory = d; name = name }) ≡ None
   pub low : t.next < 2 ^ 63
   pub room : length t.inodes < limit
   pub left : with_new t d name inode ≡ u
@@ -78,7 +78,7 @@ pub record Links (t : Tree) (base : ℕ) (new : List ℕ) (u : Tree) : Type 0 wh
   pub ends : Ends_in t base new d name
   pub held : IsTrue (is_live_directory t d)
   pub named : IsTrue (is_name name)
-  pub free : target_of t (record { directory = d; name = name }) ≡ None
+  pub free : entry_number t (record { directory = d; name = name }) ≡ None
   pub n : ℕ
   pub inode : Inode
   pub lives : inode_of t n ≡ Some inode
@@ -93,7 +93,7 @@ pub record Takes (t : Tree) (base : ℕ) (text : List ℕ) (u : Tree) : Type 0 w
   pub ends : Ends_in t base text d name
   pub n : ℕ
   pub inode : Inode
-  pub leads : target_of t (record { directory = d; name = name }) ≡ Some n
+  pub leads : entry_number t (record { directory = d; name = name }) ≡ Some n
   pub lives : inode_of t n ≡ Some inode
   pub unentered : IsUnentered t n
   pub left : without_entry t d name n ≡ u
@@ -112,12 +112,12 @@ unturned true e = refl
 unturned false e = cc
 
 -- the place of a path that has no fault
-pub spot_of : (t : Tree) (base : ℕ) (text : List ℕ) (path : Path) (at : Where) → path_or_fault text ≡ Ok path → place_on t base path ≡ Ok at → spot_on t base text ≡ Ok at
+pub spot_of : (t : Tree) (base : ℕ) (text : List ℕ) (path : Path) (at : Where) → path_or_fault text ≡ Ok path → place_on t base path ≡ Ok at → where_on t base text ≡ Ok at
 spot_of t base text path at good is = ap (λ r. r >>= λ path. place_on t base path) good ∙ is
 
 pub makes : (limit : ℕ) (t : Tree) (base : ℕ) (text : List ℕ) (may : Bool) (inode : Inode) (done : Answer × Tree) → IsWellFormed t → make limit t base text may inode ≡ Ok done → Makes limit t base text inode done.1
 makes limit t base text may inode done well e =
-    after (spot_on t base text) _ done e (λ at at_is e.
+    after (where_on t base text) _ done e (λ at at_is e.
     after (name_or 17 at.last) _ done e (λ name name_is e.
     after_test (is_some (entry_of t at.directory (Entry name))) 17 _ done e (λ free e.
     after_test (at.slash && not may) 2 _ done e (λ ends e.
@@ -164,7 +164,7 @@ links t base old new done well e =
 
 pub unlinks : (t : Tree) (base : ℕ) (text : List ℕ) (done : Answer × Tree) → IsWellFormed t → unlink t base text ≡ Ok done → Takes t base text done.1
 unlinks t base text done well e =
-    after (spot_on t base text) _ done e (λ at at_is e.
+    after (where_on t base text) _ done e (λ at at_is e.
     after (name_or 1 at.last) _ done e (λ name name_is e.
     after (present 2 (entry_of t at.directory (Entry name))) _ done e (λ place found e.
     after_test (is_directory place) 1 _ done e (λ no_directory e.
@@ -183,7 +183,7 @@ unlinks t base text done well e =
 
 pub rmdirs : (t : Tree) (base : ℕ) (text : List ℕ) (done : Answer × Tree) → IsWellFormed t → rmdir t base text ≡ Ok done → Takes t base text done.1
 rmdirs t base text done well e =
-    after (spot_on t base text) _ done e (λ at at_is e.
+    after (where_on t base text) _ done e (λ at at_is e.
     after (name_or_each 16 22 39 at.last) _ done e (λ name name_is e.
     after (present 2 (entry_of t at.directory (Entry name))) _ done e (λ place found e.
     after_test (not (is_directory place)) 20 _ done e (λ directory e.

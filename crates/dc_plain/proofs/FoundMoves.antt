@@ -5,10 +5,10 @@ use Rattle.std.specs.Ordering.{eq_by_cmp, is_eq}
 use Rattle.std.specs.Cmp.{tied_itself}
 use Rattle.std.specs.FinMap.Entries.{find as lookup}
 use Rattle.dc_names.specs.Bytes.{is_empty, is_name}
-use Rattle.dc_plain.specs.Facts.{Place}
+use Rattle.dc_plain.specs.Facts.{Target}
 use Rattle.dc_plain.specs.Facts.Label.{Entry}
 use Rattle.dc_plain.specs.Resolution.{is_directory}
-use Rattle.dc_plain.specs.Trees.{Tree, Spot, spot_cmp, target_of, entry_of, holder_of, names_in, if_held, is_live_directory, is_directory_inode, without_number, without_spot}
+use Rattle.dc_plain.specs.Trees.{Tree, Spot, spot_cmp, entry_number, entry_of, holder_of, names_in, if_held, is_live_directory, is_directory_inode, without_number, without_spot}
 use Rattle.dc_plain.specs.Requests.{Answer}
 use Rattle.dc_plain.specs.Requests.Answer.{Nothing}
 use Rattle.dc_plain.specs.Refusals.{◌>>=◌, refuse, place_on, path_or_fault, name_or_each, present}
@@ -47,22 +47,22 @@ All-key n spot (x ∷ xs) all v e =
     ] refl e
 
 -- two names of two inodes are two
-other_spot : (t : Tree) (a b : Spot) (m n : ℕ) → target_of t a ≡ Some m → target_of t b ≡ Some n → m ≢ n → (o : Bool) → eq_by_cmp spot_cmp a b ≡ o → o ≡ false
+other_spot : (t : Tree) (a b : Spot) (m n : ℕ) → entry_number t a ≡ Some m → entry_number t b ≡ Some n → m ≢ n → (o : Bool) → eq_by_cmp spot_cmp a b ≡ o → o ≡ false
 other_spot t a b m n is_m is_n apart false e = refl
 other_spot t a b m n is_m is_n apart true e =
     let same = same_spot a b e in
-    let both : Some m ≡ Some n = sym is_m ∙ ap (target_of t) same ∙ is_n in
+    let both : Some m ≡ Some n = sym is_m ∙ ap (entry_number t) same ∙ is_n in
     let one : m ≡ n = cc in absurd (apart one)
 
 -- a directory that isn't above where it is to go
-abbrev IsApart : Tree → ℕ → Place → Type 0
+abbrev IsApart : Tree → ℕ → Target → Type 0
 IsApart t to moved = (is_directory moved && is_beneath (length t.inodes) t to moved.0) ≡ false
 
 apart_by : (directory beneath live : Bool) → directory ≡ live → (directory && beneath) ≡ false → live ≡ true → beneath ≡ false
 apart_by true beneath live is e l = e
 apart_by false beneath live is e l = cc
 
-module _ (t : Tree) (from : ℕ) (old : List ℕ) (to : ℕ) (new : List ℕ) (moved : Place) (well : IsWellFormed t) (source : Leads t from old moved) (held : IsTrue (is_live_directory t to))
+module _ (t : Tree) (from : ℕ) (old : List ℕ) (to : ℕ) (new : List ℕ) (moved : Target) (well : IsWellFormed t) (source : Leads t from old moved) (held : IsTrue (is_live_directory t to))
     (named : IsTrue (is_name new)) (apart : IsApart t to moved) where
   not_beneath : IsTrue (is_live_directory t moved.0) → is_beneath (length t.inodes) t to moved.0 ≡ false
   not_beneath live = apart_by (is_directory moved) (is_beneath (length t.inodes) t to moved.0) (is_live_directory t moved.0) (source.kind ∙ sym (ap is_directory_inode source.lives)) apart live
@@ -77,24 +77,24 @@ module _ (t : Tree) (from : ℕ) (old : List ℕ) (to : ℕ) (new : List ℕ) (m
     apart = λ live. (length t.inodes, not_beneath live);
   }
 
-  module _ (there : Place) (target : target_of t (record { directory = to; name = new }) ≡ Some there.0) (unentered : IsUnentered t there.0) (other : moved.0 ≢ there.0) where
+  module _ (there : Target) (target : entry_number t (record { directory = to; name = new }) ≡ Some there.0) (unentered : IsUnentered t there.0) (other : moved.0 ≢ there.0) where
     not_there : to ≢ there.0
     not_there = All-key there.0 (record { directory = to; name = new }) t.entries unentered there.0 target
 
-    free_now : target_of (without_entry t to new there.0) (record { directory = to; name = new }) ≡ None
+    free_now : entry_number (without_entry t to new there.0) (record { directory = to; name = new }) ≡ None
     free_now =
         let gone : lookup spot_cmp (record { directory = to; name = new }) (without_spot (record { directory = to; name = new }) t.entries) ≡ None =
         lookup-take spot_cmp spots_total (record { directory = to; name = new }) (record { directory = to; name = new }) t.entries
-        ∙ ap (λ o. cond (not (is_eq o)) (target_of t (record { directory = to; name = new })) None) (tied_itself spots_total (record { directory = to; name = new })) in
-        either_left (λ u. target_of u (record { directory = to; name = new }) ≡ None) t to new there.0 gone gone
+        ∙ ap (λ o. cond (not (is_eq o)) (entry_number t (record { directory = to; name = new })) None) (tied_itself spots_total (record { directory = to; name = new })) in
+        either_left (λ u. entry_number u (record { directory = to; name = new }) ≡ None) t to new there.0 gone gone
 
-    source_now : target_of (without_entry t to new there.0) (record { directory = from; name = old }) ≡ Some moved.0
+    source_now : entry_number (without_entry t to new there.0) (record { directory = from; name = old }) ≡ Some moved.0
     source_now =
         let apart_spots = other_spot t (record { directory = to; name = new }) (record { directory = from; name = old }) there.0 moved.0 target source.target (λ same. other (sym same)) _ refl in
         let stays : lookup spot_cmp (record { directory = from; name = old }) (without_spot (record { directory = to; name = new }) t.entries) ≡ Some moved.0 =
         lookup-take spot_cmp spots_total (record { directory = to; name = new }) (record { directory = from; name = old }) t.entries
-        ∙ ap (λ b. cond (not b) (target_of t (record { directory = from; name = old })) None) apart_spots ∙ source.target in
-        either_left (λ u. target_of u (record { directory = from; name = old }) ≡ Some moved.0) t to new there.0 stays stays
+        ∙ ap (λ b. cond (not b) (entry_number t (record { directory = from; name = old })) None) apart_spots ∙ source.target in
+        either_left (λ u. entry_number u (record { directory = from; name = old }) ≡ Some moved.0) t to new there.0 stays stays
 
     held_now : IsTrue (is_live_directory (without_entry t to new there.0) to)
     held_now = ap is_directory_inode (inode-left t to new there.0 to (λ same. not_there (sym same))) ∙ held
@@ -123,15 +123,15 @@ gives_way true false empty b e = absurd cc
 gives_way false true empty b e = absurd cc
 gives_way false false empty b e = inl refl
 
-way-unentered : (t : Tree) (d : ℕ) (name : List ℕ) (moved there : Place) (b : Bool) → IsWellFormed t → Leads t d name there → replaceable t moved (Some there) ≡ Ok b → IsUnentered t there.0
+way-unentered : (t : Tree) (d : ℕ) (name : List ℕ) (moved there : Target) (b : Bool) → IsWellFormed t → Leads t d name there → replaceable t moved (Some there) ≡ Ok b → IsUnentered t there.0
 way-unentered t d name moved there b well leads e = elim (gives_way (is_directory moved) (is_directory there) (is_empty (names_in t there.0)) b e) [
   | inl node ↦ unentered_node t there.0 well (ap is_directory_inode leads.lives ∙ sym leads.kind ∙ node)
   | inr empty ↦ unentered_directory t there.0 empty
 ]
 
 -- the tree as the move finds it
-ready : (t : Tree) (from : ℕ) (old : List ℕ) (to : ℕ) (new : List ℕ) (moved : Place) (b : Bool) → IsWellFormed t → Leads t from old moved → IsTrue (is_live_directory t to) → IsTrue (is_name new)
-    → IsApart t to moved → (there : Option Place) → entry_of t to (Entry new) ≡ there → same_inode moved there ≡ false → replaceable t moved there ≡ Ok b → IsReady (without_there t to new there) from old to new moved.0
+ready : (t : Tree) (from : ℕ) (old : List ℕ) (to : ℕ) (new : List ℕ) (moved : Target) (b : Bool) → IsWellFormed t → Leads t from old moved → IsTrue (is_live_directory t to) → IsTrue (is_name new)
+    → IsApart t to moved → (there : Option Target) → entry_of t to (Entry new) ≡ there → same_inode moved there ≡ false → replaceable t moved there ≡ Ok b → IsReady (without_there t to new there) from old to new moved.0
 ready t from old to new moved b well source held named apart None is other may = ready_alone t from old to new moved well source held named apart is
 ready t from old to new moved b well source held named apart (Some there) is other may =
     let leads = entry-leads t to new there is in
@@ -145,12 +145,12 @@ pub record Moves (t : Tree) (base : ℕ) (old new : List ℕ) (u : Tree) : Type 
   pub to : ℕ
   pub new_name : List ℕ
   pub new_ends : Ends_in t base new to new_name
-  pub moved : Place
+  pub moved : Target
   pub source : Leads t from old_name moved
-  pub there : Option Place
+  pub there : Option Target
   pub at : entry_of t to (Entry new_name) ≡ there
   pub apart : same_inode moved there ≡ false
-  pub unentered : (p : Place) → there ≡ Some p → IsUnentered t p.0
+  pub unentered : (p : Target) → there ≡ Some p → IsUnentered t p.0
   pub ready : IsReady (without_there t to new_name there) from old_name to new_name moved.0
   pub left : moved_to (without_there t to new_name there) from old_name to new_name moved.0 ≡ u
 
@@ -162,9 +162,9 @@ pub record Stays (t : Tree) (base : ℕ) (old new : List ℕ) (u : Tree) : Type 
   pub to : ℕ
   pub new_name : List ℕ
   pub new_ends : Ends_in t base new to new_name
-  pub moved : Place
+  pub moved : Target
   pub source : Leads t from old_name moved
-  pub there : Option Place
+  pub there : Option Target
   pub at : entry_of t to (Entry new_name) ≡ there
   pub same : same_inode moved there ≡ true
   pub left : t ≡ u

@@ -1,6 +1,6 @@
 -- A rename keeps a tree well formed.
 use Rattle.std.proofs.Common.{◌≡◌, inl, inr, ℕ, List, Option, Some, None, Ok, subst}
-use Rattle.dc_plain.specs.Facts.{Place}
+use Rattle.dc_plain.specs.Facts.{Target}
 use Rattle.dc_plain.specs.Trees.{Tree}
 use Rattle.dc_plain.specs.Requests.{Answer}
 use Rattle.dc_plain.specs.Effects.{without_there}
@@ -11,7 +11,7 @@ use Rattle.dc_plain.proofs.Kept.{IsKept}
 use Rattle.dc_plain.proofs.KeptNames.{without_entry-IsWithin}
 use Rattle.dc_plain.proofs.FoundMoves.{renames}
 
-there-within : (limit : ℕ) (t : Tree) (d : ℕ) (name : List ℕ) (there : Option Place) → IsWithin limit t → IsWithin limit (without_there t d name there)
+there-within : (limit : ℕ) (t : Tree) (d : ℕ) (name : List ℕ) (there : Option Target) → IsWithin limit t → IsWithin limit (without_there t d name there)
 there-within limit t d name None within = within
 there-within limit t d name (Some there) within = without_entry-IsWithin limit t d name there.0 within
 

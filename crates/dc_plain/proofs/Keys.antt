@@ -5,7 +5,7 @@ use Rattle.std.specs.FinMap.Entries.{find-put}
 use Rattle.dc_names.specs.declared.kind.Kind.TheVariants.{Dir}
 use Rattle.dc_plain.specs.Facts.{Label}
 use Rattle.dc_plain.specs.Facts.Label.{Entry, Parent, Text}
-use Rattle.dc_plain.specs.Trees.{Tree, Spot, Inode, spot_cmp, inode_of, target_of, place_at, entry_of, text_of, text_in, fact_at, kind_of, is_live_directory, is_directory_inode}
+use Rattle.dc_plain.specs.Trees.{Tree, Spot, Inode, spot_cmp, inode_of, entry_number, target_at, entry_of, text_of, text_in, fact_at, kind_of, is_live_directory, is_directory_inode}
 use Rattle.dc_plain.specs.Trees.Inode.{Directory, Regular, Symbolic}
 use Rattle.dc_plain.specs.Effects.{with_new}
 use Rattle.dc_plain.specs.TouchedKeys.{entry_key, own_keys}
@@ -13,33 +13,33 @@ use Rattle.dc_plain.specs.IsWellFormed.{IsWellFormed, Stands}
 use Rattle.dc_plain.proofs.Made.{spots_total, other_number, inode_new, apart, holder_kept, holder_new, unused, made, some_in, All-lookup, is_directory_in, kept}
 use Rattle.dc_plain.proofs.Puts.{All-weaker}
 use Rattle.dc_plain.proofs.Holders.{holder-live, decided, decided_not}
-use Rattle.dc_plain.proofs.SameFacts.{IsAmong, KeepsOthers, AltersEach, decide, same_key, place-same, text-same, entry-same, parent-same, no_parent, parent-fact, entry-fact, no_entry, tied, entries-differ, texts-differ}
+use Rattle.dc_plain.proofs.SameFacts.{IsAmong, KeepsOthers, AltersEach, decide, same_key, target-same, text-same, entry-same, parent-same, no_parent, parent-fact, entry-fact, no_entry, tied, entries-differ, texts-differ}
 
 pub lives_if : (o : Option Inode) → is_directory_inode o ≡ true → is_some o ≡ true
 lives_if None e = cc
 lives_if (Some i) e = refl
 
 -- what a name leads to lives
-pub target_lives : (t : Tree) → IsWellFormed t → (spot : Spot) (n : ℕ) → target_of t spot ≡ Some n → IsTrue (is_some (inode_of t n))
+pub target_lives : (t : Tree) → IsWellFormed t → (spot : Spot) (n : ℕ) → entry_number t spot ≡ Some n → IsTrue (is_some (inode_of t n))
 target_lives t well spot n e = All-lookup spot_cmp (λ k. IsTrue (is_some (inode_of t k))) spot t.entries (All-weaker (Stands t) (λ s. IsTrue (is_some (inode_of t s.1))) (λ x s. s.leads) t.entries well.entries) n e
 
 module _ (t : Tree) (d : ℕ) (name : List ℕ) (inode : Inode) (well : IsWellFormed t) (in_directory : IsTrue (is_live_directory t d))
-    (free : target_of t (record { directory = d; name = name }) ≡ None) where
+    (free : entry_number t (record { directory = d; name = name }) ≡ None) where
   -- what isn't the new number is as it was
   inode_else : (n : ℕ) → n ≢ t.next → inode_of (with_new t d name inode) n ≡ inode_of t n
   inode_else n other = inode_new t d name inode well in_directory free n ∙ ap (λ b. cond b (Some inode) (inode_of t n)) (other_number n t.next other)
 
-  place_else : (n : ℕ) → IsTrue (is_some (inode_of t n)) → place_at (with_new t d name inode) n ≡ place_at t n
+  place_else : (n : ℕ) → IsTrue (is_some (inode_of t n)) → target_at (with_new t d name inode) n ≡ target_at t n
   place_else n live =
       let i = some_in (inode_of t n) live in
-      place-same t (with_new t d name inode) n (inode_else n (apart t d name inode well in_directory free n i.0 i.1))
+      target-same t (with_new t d name inode) n (inode_else n (apart t d name inode well in_directory free n i.0 i.1))
 
   -- another name leads where it led
   entry_else : (n : ℕ) (other : List ℕ) → eq_by_cmp spot_cmp (record { directory = n; name = other }) (record { directory = d; name = name }) ≡ false
       → entry_of (with_new t d name inode) n (Entry other) ≡ entry_of t n (Entry other)
   entry_else n other apart_from =
       let found = find-put spot_cmp spots_total (record { directory = n; name = other }) (record { directory = d; name = name }) t.next t.entries in
-      entry-same t (with_new t d name inode) n other (found ∙ ap (λ b. cond b (Some t.next) (target_of t (record { directory = n; name = other }))) apart_from)
+      entry-same t (with_new t d name inode) n other (found ∙ ap (λ b. cond b (Some t.next) (entry_number t (record { directory = n; name = other }))) apart_from)
       (λ k e. place_else k (target_lives t well (record { directory = n; name = other }) k e))
 
   -- so does another dot-dot

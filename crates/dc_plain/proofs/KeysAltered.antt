@@ -1,6 +1,6 @@
 -- A call alters the tree where it touches some key.
 use Rattle.std.proofs.Common.{◌≡◌, ◌≢◌, ◌⊎◌, inl, inr, ℕ, List, [], ◌∷◌, Bool, true, false, Option, Some, None, Result, Ok, Err, refl, ap, sym, ◌∙◌}
-use Rattle.dc_plain.specs.Facts.{Key, Place}
+use Rattle.dc_plain.specs.Facts.{Key, Target}
 use Rattle.dc_plain.specs.Facts.Label.{Entry}
 use Rattle.dc_plain.specs.Trees.{Tree, Inode, entry_of, fact_at}
 use Rattle.dc_plain.specs.Trees.Inode.{Directory, Regular, Symbolic}
@@ -42,7 +42,7 @@ make-lists limit t base text may inode done well e =
 take-lists : (t : Tree) (base : ℕ) (text : List ℕ) (u : Tree) → Takes t base text u → at_name t base text (λ d name. entry_key d name ∷ keys_taken t d name) ≢ []
 take-lists t base text u takes = begun (entry_key takes.d takes.name) _ (at_name-is t base text takes.d takes.name (λ d name. entry_key d name ∷ keys_taken t d name) takes.ends)
 
-move-lists : (t : Tree) (from : ℕ) (old : List ℕ) (to : ℕ) (new : List ℕ) (moved : Place) → Leads t from old moved → (there : Option Place) → entry_of t to (Entry new) ≡ there → same_inode moved there ≡ false
+move-lists : (t : Tree) (from : ℕ) (old : List ℕ) (to : ℕ) (new : List ℕ) (moved : Target) → Leads t from old moved → (there : Option Target) → entry_of t to (Entry new) ≡ there → same_inode moved there ≡ false
     → IsReady (without_there t to new there) from old to new moved.0 → keys_renamed t from old to new ≢ []
 move-lists t from old to new moved source None at apart ready = begun (entry_key from old) _ (renamed_keys t from old to new moved.0 None source.target ready.free refl)
 move-lists t from old to new moved source (Some p) at apart ready = let leads = entry-leads t to new p at in begun (entry_key from old) _ (renamed_keys t from old to new moved.0 (Some p.0) source.target leads.target apart)

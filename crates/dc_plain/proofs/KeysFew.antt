@@ -2,15 +2,15 @@
 use Rattle.std.proofs.Common.{ℕ, ◌≤◌, ◌==◌, ◌&&◌, not, List, [], ◌∷◌, ◌++◌, true, false, Option, Some, None, Result, Ok, Err, arith, length, if◌then◌else◌}
 use Rattle.std.proofs.lemmas.List.{length-append}
 use Rattle.dc_plain.specs.Facts.{Key}
-use Rattle.dc_plain.specs.Trees.{Tree, Inode, inode_of, target_of, names_of, is_live_directory}
+use Rattle.dc_plain.specs.Trees.{Tree, Inode, inode_of, entry_number, names_of, is_live_directory}
 use Rattle.dc_plain.specs.Trees.Inode.{Directory, Regular, Symbolic}
 use Rattle.dc_plain.specs.Requests.{Request}
 use Rattle.dc_plain.specs.Requests.Request.{Look, Readlink, Stat, List_names, Mkdir, Create, Hard_link, Symlink, Unlink, Rmdir, Rename}
 use Rattle.dc_plain.specs.Places.{Where, Last}
 use Rattle.dc_plain.specs.Places.Last.{Root, Dot, DotDot, Name}
-use Rattle.dc_plain.specs.Refusals.{spot_on}
+use Rattle.dc_plain.specs.Refusals.{where_on}
 use Rattle.dc_plain.specs.Operations.{Change, change_of}
-use Rattle.dc_plain.specs.TouchedKeys.{entry_key, parent_key, own_keys, keys_at, keys_gone, with_target, keys_taken, keys_moved, keys_renamed, same_target, by_last, by_place, listed, unless_refused}
+use Rattle.dc_plain.specs.TouchedKeys.{entry_key, parent_key, own_keys, keys_at, keys_gone, with_number, keys_taken, keys_moved, keys_renamed, lead_to_one, by_last, by_place, listed, unless_refused}
 use Rattle.dc_plain.specs.Laws.{TouchesFourAtMost}
 
 one_own : (n : ℕ) (inode : Inode) → length (own_keys n inode) ≤ 1
@@ -25,22 +25,22 @@ one_at n (Some inode) = one_own n inode
 one_gone : (t : Tree) (n : ℕ) → length (keys_gone t n) ≤ 1
 one_gone t n = elim (names_of t n == 1) as (λ b. length (if b then keys_at n (inode_of t n) else []) ≤ 1) [ true ↦ one_at n (inode_of t n) | false ↦ omega arith ]
 
-one_by : (o : Option ℕ) (keys : ℕ → List Key) → ((n : ℕ) → length (keys n) ≤ 1) → length (with_target o keys) ≤ 1
+one_by : (o : Option ℕ) (keys : ℕ → List Key) → ((n : ℕ) → length (keys n) ≤ 1) → length (with_number o keys) ≤ 1
 one_by None keys so = omega arith
 one_by (Some n) keys so = so n
 
 one_taken : (t : Tree) (d : ℕ) (name : List ℕ) → length (keys_taken t d name) ≤ 1
-one_taken t d name = one_by (target_of t (record { directory = d; name = name })) (keys_gone t) (one_gone t)
+one_taken t d name = one_by (entry_number t (record { directory = d; name = name })) (keys_gone t) (one_gone t)
 
 one_moved : (t : Tree) (from to n : ℕ) → length (keys_moved t from to n) ≤ 1
 one_moved t from to n = elim (is_live_directory t n && not (from == to)) as (λ b. length (if b then parent_key n ∷ [] else []) ≤ 1) [ true ↦ omega arith | false ↦ omega arith ]
 
 four_renamed : (t : Tree) (from : ℕ) (old : List ℕ) (to : ℕ) (new : List ℕ) → length (keys_renamed t from old to new) ≤ 4
 four_renamed t from old to new =
-    let moved = with_target (target_of t (record { directory = from; name = old })) (keys_moved t from to) in
-    let one = one_by (target_of t (record { directory = from; name = old })) (keys_moved t from to) (one_moved t from to) in
+    let moved = with_number (entry_number t (record { directory = from; name = old })) (keys_moved t from to) in
+    let one = one_by (entry_number t (record { directory = from; name = old })) (keys_moved t from to) (one_moved t from to) in
     let other = one_taken t to new in
-    elim (same_target (target_of t (record { directory = from; name = old })) (target_of t (record { directory = to; name = new }))) as
+    elim (lead_to_one (entry_number t (record { directory = from; name = old })) (entry_number t (record { directory = to; name = new }))) as
     (λ b. length (if b then [] else entry_key from old ∷ entry_key to new ∷ moved ++ keys_taken t to new) ≤ 4) [
       | true ↦ omega arith
       | false ↦ omega (arith, length-append moved (keys_taken t to new))
@@ -61,13 +61,13 @@ listed-few t (Look base path how) = omega arith
 listed-few t (Readlink base path) = omega arith
 listed-few t (Stat base path) = omega arith
 listed-few t (List_names base path) = omega arith
-listed-few t (Mkdir base path) = by_place-few (spot_on t base path) _ (λ d name. omega arith)
-listed-few t (Create base path) = by_place-few (spot_on t base path) _ (λ d name. omega arith)
-listed-few t (Hard_link base old new) = by_place-few (spot_on t base new) _ (λ d name. omega arith)
-listed-few t (Symlink base text path) = by_place-few (spot_on t base path) _ (λ d name. omega arith)
-listed-few t (Unlink base path) = by_place-few (spot_on t base path) _ (λ d name. let one = one_taken t d name in omega arith)
-listed-few t (Rmdir base path) = by_place-few (spot_on t base path) _ (λ d name. let one = one_taken t d name in omega arith)
-listed-few t (Rename base old new) = by_place-few (spot_on t base old) _ (λ from a. by_place-few (spot_on t base new) _ (λ to b. four_renamed t from a to b))
+listed-few t (Mkdir base path) = by_place-few (where_on t base path) _ (λ d name. omega arith)
+listed-few t (Create base path) = by_place-few (where_on t base path) _ (λ d name. omega arith)
+listed-few t (Hard_link base old new) = by_place-few (where_on t base new) _ (λ d name. omega arith)
+listed-few t (Symlink base text path) = by_place-few (where_on t base path) _ (λ d name. omega arith)
+listed-few t (Unlink base path) = by_place-few (where_on t base path) _ (λ d name. let one = one_taken t d name in omega arith)
+listed-few t (Rmdir base path) = by_place-few (where_on t base path) _ (λ d name. let one = one_taken t d name in omega arith)
+listed-few t (Rename base old new) = by_place-few (where_on t base old) _ (λ from a. by_place-few (where_on t base new) _ (λ to b. four_renamed t from a to b))
 
 unless-few : (change : Change) (keys : List Key) → length keys ≤ 4 → length (unless_refused change keys) ≤ 4
 unless-few (Ok done) keys few = few

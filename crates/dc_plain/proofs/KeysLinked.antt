@@ -4,7 +4,7 @@ use Rattle.std.specs.Ordering.{eq_by_cmp}
 use Rattle.std.specs.FinMap.Entries.{find-put}
 use Rattle.dc_plain.specs.Facts.{Label}
 use Rattle.dc_plain.specs.Facts.Label.{Entry, Parent, Text}
-use Rattle.dc_plain.specs.Trees.{Tree, Inode, spot_cmp, inode_of, target_of, fact_at, kind_of, is_live_directory, is_directory_inode}
+use Rattle.dc_plain.specs.Trees.{Tree, Inode, spot_cmp, inode_of, entry_number, fact_at, kind_of, is_live_directory, is_directory_inode}
 use Rattle.dc_plain.specs.Effects.{with_entry_for}
 use Rattle.dc_plain.specs.TouchedKeys.{entry_key}
 use Rattle.dc_plain.specs.IsWellFormed.{IsWellFormed}
@@ -13,9 +13,9 @@ use Rattle.dc_plain.proofs.Linked.{holder_linked}
 use Rattle.dc_plain.proofs.SameFacts.{IsAmong, KeepsOthers, AltersEach, decide, same_key, entry-same, parent-same, entry-fact, no_entry, tied, entries-differ}
 
 module _ (t : Tree) (d : ℕ) (name : List ℕ) (n : ℕ) (inode : Inode) (well : IsWellFormed t) (in_directory : IsTrue (is_live_directory t d))
-    (free : target_of t (record { directory = d; name = name }) ≡ None) (lives : inode_of t n ≡ Some inode) (no_directory : is_directory_inode (Some inode) ≡ false) where
-  linked_target : (q : ℕ) (other : List ℕ) → target_of (with_entry_for t d name n) (record { directory = q; name = other })
-      ≡ cond (eq_by_cmp spot_cmp (record { directory = q; name = other }) (record { directory = d; name = name })) (Some n) (target_of t (record { directory = q; name = other }))
+    (free : entry_number t (record { directory = d; name = name }) ≡ None) (lives : inode_of t n ≡ Some inode) (no_directory : is_directory_inode (Some inode) ≡ false) where
+  linked_target : (q : ℕ) (other : List ℕ) → entry_number (with_entry_for t d name n) (record { directory = q; name = other })
+      ≡ cond (eq_by_cmp spot_cmp (record { directory = q; name = other }) (record { directory = d; name = name })) (Some n) (entry_number t (record { directory = q; name = other }))
   linked_target q other = find-put spot_cmp spots_total (record { directory = q; name = other }) (record { directory = d; name = name }) n t.entries
 
   pub linked-others : KeepsOthers t (with_entry_for t d name n) (entry_key d name ∷ [])

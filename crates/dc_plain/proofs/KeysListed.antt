@@ -1,7 +1,7 @@
 -- A call touches the keys that are listed for it, and no others.
 use Rattle.std.proofs.Common.{◌≡◌, ◌≢◌, inl, inr, ℕ, zero, suc, ◌<◌, Result, get_or, List, [], ◌∷◌, Bool, true, false, Option, Some, None, Ok, Err, refl, ap, sym, ◌∙◌, arith, length, subst}
 use Rattle.std.specs.List.{Contains}
-use Rattle.dc_plain.specs.Facts.{Key, Place}
+use Rattle.dc_plain.specs.Facts.{Key, Target}
 use Rattle.dc_plain.specs.Facts.Label.{Entry}
 use Rattle.dc_plain.specs.Trees.{Tree, Inode, entry_of, kind_of}
 use Rattle.dc_plain.specs.Trees.Inode.{Directory, Regular, Symbolic}
@@ -13,7 +13,7 @@ use Rattle.dc_plain.specs.Reads.{look, readlink, stat, list_names}
 use Rattle.dc_plain.specs.Operations.{make, left_alone, link, rename, change_of, settled, Change, same_inode}
 use Rattle.dc_plain.specs.Runs.{tree_after}
 use Rattle.dc_plain.specs.IsWellFormed.{IsWellFormed}
-use Rattle.dc_plain.specs.TouchedKeys.{entry_key, own_keys, keys_taken, keys_gone, keys_renamed, with_target, by_last, by_place, at_name, listed, unless_refused, keys_touched}
+use Rattle.dc_plain.specs.TouchedKeys.{entry_key, own_keys, keys_taken, keys_gone, keys_renamed, with_number, by_last, by_place, at_name, listed, unless_refused, keys_touched}
 use Rattle.dc_plain.specs.Laws.{TouchesTheListed}
 use Rattle.dc_plain.proofs.Chains.{after, left_with}
 use Rattle.dc_plain.proofs.Found.{Leads, Ends_in, Takes, makes, links, unlinks, rmdirs, entry-leads}
@@ -56,7 +56,7 @@ link-exact t base old new done well e =
 take-exact : (t : Tree) (base : ℕ) (text : List ℕ) (u : Tree) → IsWellFormed t → Takes t base text u → IsExact t (at_name t base text (λ d name. entry_key d name ∷ keys_taken t d name)) u
 take-exact t base text u well takes =
     let taken : entry_key takes.d takes.name ∷ keys_gone t takes.n ≡ at_name t base text (λ d name. entry_key d name ∷ keys_taken t d name) =
-    sym (at_name-is t base text takes.d takes.name (λ d name. entry_key d name ∷ keys_taken t d name) takes.ends ∙ ap (λ o. entry_key takes.d takes.name ∷ with_target o (keys_gone t)) takes.leads) in
+    sym (at_name-is t base text takes.d takes.name (λ d name. entry_key d name ∷ keys_taken t d name) takes.ends ∙ ap (λ o. entry_key takes.d takes.name ∷ with_number o (keys_gone t)) takes.leads) in
     subst (IsExact t (at_name t base text (λ d name. entry_key d name ∷ keys_taken t d name))) takes.left
     (subst (λ keys. IsExact t keys (without_entry t takes.d takes.name takes.n)) taken
     (removed-others t takes.d takes.name takes.n takes.inode well takes.leads takes.unentered takes.lives, removed-each t takes.d takes.name takes.n takes.inode well takes.leads takes.unentered takes.lives))
@@ -66,8 +66,8 @@ reads-exact t (Ok answer) done e = left_with (IsExact t []) answer t done e (una
 reads-exact t (Err number) done e = absurd cc
 
 -- by what stands at the new name
-move-exact : (t : Tree) (from : ℕ) (old : List ℕ) (to : ℕ) (new : List ℕ) (moved : Place) → IsWellFormed t → Leads t from old moved → (there : Option Place) → entry_of t to (Entry new) ≡ there → same_inode moved there ≡ false
-    → ((p : Place) → there ≡ Some p → IsUnentered t p.0) → IsReady (without_there t to new there) from old to new moved.0
+move-exact : (t : Tree) (from : ℕ) (old : List ℕ) (to : ℕ) (new : List ℕ) (moved : Target) → IsWellFormed t → Leads t from old moved → (there : Option Target) → entry_of t to (Entry new) ≡ there → same_inode moved there ≡ false
+    → ((p : Target) → there ≡ Some p → IsUnentered t p.0) → IsReady (without_there t to new there) from old to new moved.0
     → IsExact t (keys_renamed t from old to new) (moved_to (without_there t to new there) from old to new moved.0)
 move-exact t from old to new moved well source None at apart unentered ready =
     subst (λ keys. IsExact t keys (moved_to t from old to new moved.0)) (sym (renamed_keys t from old to new moved.0 None source.target ready.free refl)) (
@@ -80,11 +80,11 @@ move-exact t from old to new moved well source (Some p) at apart unentered ready
     subst (λ keys. IsExact t keys (moved_to (without_entry t to new p.0) from old to new moved.0)) (sym (renamed_keys t from old to new moved.0 (Some p.0) source.target leads.target apart)) (
       over-others t from old to new moved.0 source.inode well source.target source.lives p.0 leads.inode leads.target (unentered p refl) leads.lives other ready,
       renamed-each t from old to new moved.0 source.inode well source.target source.lives (without_entry t to new p.0) ready (inode-left t to new p.0 moved.0 other) (Some p) at
-          (λ e. let pair : ◌≡◌ {A = Place} (moved.0, kind_of source.inode) p = cc in other (sym (ap (λ (q : Place). q.0) pair))) (keys_gone t p.0)
+          (λ e. let pair : ◌≡◌ {A = Target} (moved.0, kind_of source.inode) p = cc in other (sym (ap (λ (q : Target). q.0) pair))) (keys_gone t p.0)
           (gone-each t to new p.0 leads.inode well leads.target (unentered p refl) leads.lives (moved_to (without_entry t to new p.0) from old to new moved.0) refl),
     )
 
-stay-exact : (t : Tree) (from : ℕ) (old : List ℕ) (to : ℕ) (new : List ℕ) (moved : Place) → Leads t from old moved → (there : Option Place) → entry_of t to (Entry new) ≡ there → same_inode moved there ≡ true → IsExact t (keys_renamed t from old to new) t
+stay-exact : (t : Tree) (from : ℕ) (old : List ℕ) (to : ℕ) (new : List ℕ) (moved : Target) → Leads t from old moved → (there : Option Target) → entry_of t to (Entry new) ≡ there → same_inode moved there ≡ true → IsExact t (keys_renamed t from old to new) t
 stay-exact t from old to new moved source None at same = absurd cc
 stay-exact t from old to new moved source (Some p) at same =
     let leads = entry-leads t to new p at in

@@ -6,7 +6,7 @@ use Rattle.std.specs.FinMap.Entries.{find as lookup}
 use Rattle.dc_names.specs.declared.kind.Kind.TheVariants.{Dir}
 use Rattle.dc_plain.specs.Facts.{Label}
 use Rattle.dc_plain.specs.Facts.Label.{Entry, Parent, Text}
-use Rattle.dc_plain.specs.Trees.{Tree, Spot, Inode, spot_cmp, how_many, inode_of, target_of, entry_of, fact_at, kind_of, holder_of, names_of, is_live_directory, without_spot}
+use Rattle.dc_plain.specs.Trees.{Tree, Spot, Inode, spot_cmp, how_many, inode_of, entry_number, entry_of, fact_at, kind_of, holder_of, names_of, is_live_directory, without_spot}
 use Rattle.dc_plain.specs.TouchedKeys.{entry_key, keys_moved}
 use Rattle.dc_plain.proofs.Made.{spots_total}
 use Rattle.dc_plain.proofs.Takes.{lookup-take}
@@ -41,13 +41,13 @@ only_holder spot n (x ∷ xs) found one =
           ] one
     ] refl found
 
-pub holder_is : (t : Tree) (d : ℕ) (name : List ℕ) (n : ℕ) → target_of t (record { directory = d; name = name }) ≡ Some n → names_of t n ≡ 1 → holder_of t n ≡ Some d
+pub holder_is : (t : Tree) (d : ℕ) (name : List ℕ) (n : ℕ) → entry_number t (record { directory = d; name = name }) ≡ Some n → names_of t n ≡ 1 → holder_of t n ≡ Some d
 holder_is t d name n leads one = only_holder (record { directory = d; name = name }) n t.entries leads one
 
 module _ (t : Tree) (from : ℕ) (old : List ℕ) (to : ℕ) (new : List ℕ) (n : ℕ) (inode : Inode) (ready : IsReady t from old to new n) (lives : inode_of t n ≡ Some inode) (other_root : n ≢ 1) where
-  target_moved : (q : ℕ) (other : List ℕ) → target_of (moved_to t from old to new n) (record { directory = q; name = other })
+  target_moved : (q : ℕ) (other : List ℕ) → entry_number (moved_to t from old to new n) (record { directory = q; name = other })
       ≡ cond (eq_by_cmp spot_cmp (record { directory = q; name = other }) (record { directory = to; name = new })) (Some n)
-      (cond (not (eq_by_cmp spot_cmp (record { directory = from; name = old }) (record { directory = q; name = other }))) (target_of t (record { directory = q; name = other })) None)
+      (cond (not (eq_by_cmp spot_cmp (record { directory = from; name = old }) (record { directory = q; name = other }))) (entry_number t (record { directory = q; name = other })) None)
   target_moved q other =
       find-put spot_cmp spots_total (record { directory = q; name = other }) (record { directory = to; name = new }) n (without_spot (record { directory = from; name = old }) t.entries)
       ∙ ap (λ o. cond (eq_by_cmp spot_cmp (record { directory = q; name = other }) (record { directory = to; name = new })) (Some n) o)
@@ -58,7 +58,7 @@ module _ (t : Tree) (from : ℕ) (old : List ℕ) (to : ℕ) (new : List ℕ) (n
   names_apart = elim (decide (eq_by_cmp spot_cmp (record { directory = from; name = old }) (record { directory = to; name = new }))) [
     | inr e ↦ e
     | inl e ↦
-        let both : Some n ≡ None = sym ready.source ∙ ap (target_of t) (same_spot (record { directory = from; name = old }) (record { directory = to; name = new }) e) ∙ ready.free in
+        let both : Some n ≡ None = sym ready.source ∙ ap (entry_number t) (same_spot (record { directory = from; name = old }) (record { directory = to; name = new }) e) ∙ ready.free in
         absurd cc
   ]
 

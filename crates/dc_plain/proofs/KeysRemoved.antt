@@ -5,7 +5,7 @@ use Rattle.std.specs.Ordering.{eq_by_cmp}
 use Rattle.dc_names.specs.declared.kind.Kind.TheVariants.{Dir}
 use Rattle.dc_plain.specs.Facts.{Key, Label}
 use Rattle.dc_plain.specs.Facts.Label.{Entry, Parent, Text}
-use Rattle.dc_plain.specs.Trees.{Tree, Inode, spot_cmp, inode_of, target_of, place_at, entry_of, text_of, text_in, fact_at, kind_of, holder_of, names_of, is_live_directory, is_directory_inode, without_number}
+use Rattle.dc_plain.specs.Trees.{Tree, Inode, spot_cmp, inode_of, entry_number, target_at, entry_of, text_of, text_in, fact_at, kind_of, holder_of, names_of, is_live_directory, is_directory_inode, without_number}
 use Rattle.dc_plain.specs.Trees.Inode.{Directory, Regular, Symbolic}
 use Rattle.dc_plain.specs.Effects.{without_entry}
 use Rattle.dc_plain.specs.TouchedKeys.{entry_key, own_keys, keys_at, keys_gone}
@@ -16,10 +16,10 @@ use Rattle.dc_plain.proofs.Holders.{holder-live, same_test, decided, decided_not
 use Rattle.dc_plain.proofs.Moved.{held_by}
 use Rattle.dc_plain.proofs.Removed.{IsUnentered, left_of, without_entry-IsWellFormed, inode_without, one_less, not_root, not_holder, holder_left, either_left, inode-left}
 use Rattle.dc_plain.proofs.Keys.{target_lives}
-use Rattle.dc_plain.proofs.SameFacts.{IsAmong, KeepsOthers, AltersEach, decide, same_key, place-same, text-same, entry-same, parent-same, no_parent, parent-fact, entry-fact, no_entry, tied, entries-differ, texts-differ}
+use Rattle.dc_plain.proofs.SameFacts.{IsAmong, KeepsOthers, AltersEach, decide, same_key, target-same, text-same, entry-same, parent-same, no_parent, parent-fact, entry-fact, no_entry, tied, entries-differ, texts-differ}
 
 -- with its last name an inode goes, and else it stays
-pub inode-after : (t : Tree) (d : ℕ) (name : List ℕ) (n : ℕ) → IsWellFormed t → target_of t (record { directory = d; name = name }) ≡ Some n → IsUnentered t n → (q : ℕ)
+pub inode-after : (t : Tree) (d : ℕ) (name : List ℕ) (n : ℕ) → IsWellFormed t → entry_number t (record { directory = d; name = name }) ≡ Some n → IsUnentered t n → (q : ℕ)
     → inode_of (without_entry t d name n) q ≡ cond (names_of t n == 1) (cond (n == q) None (inode_of t q)) (inode_of t q)
 inode-after t d name n well leads unentered q =
     let less = one_less t d name n well leads unentered t.inodes in
@@ -37,31 +37,31 @@ fewer true true o i e = cc
 fewer true false o i e = e
 fewer false c o i e = e
 
-module _ (t : Tree) (d : ℕ) (name : List ℕ) (n : ℕ) (inode : Inode) (well : IsWellFormed t) (leads : target_of t (record { directory = d; name = name }) ≡ Some n) (unentered : IsUnentered t n) (lives : inode_of t n ≡ Some inode) where
-  target_left : (q : ℕ) (other : List ℕ) → target_of (without_entry t d name n) (record { directory = q; name = other })
-      ≡ cond (not (eq_by_cmp spot_cmp (record { directory = d; name = name }) (record { directory = q; name = other }))) (target_of t (record { directory = q; name = other })) None
+module _ (t : Tree) (d : ℕ) (name : List ℕ) (n : ℕ) (inode : Inode) (well : IsWellFormed t) (leads : entry_number t (record { directory = d; name = name }) ≡ Some n) (unentered : IsUnentered t n) (lives : inode_of t n ≡ Some inode) where
+  target_left : (q : ℕ) (other : List ℕ) → entry_number (without_entry t d name n) (record { directory = q; name = other })
+      ≡ cond (not (eq_by_cmp spot_cmp (record { directory = d; name = name }) (record { directory = q; name = other }))) (entry_number t (record { directory = q; name = other })) None
   target_left q other =
       let taken = lookup-take spot_cmp spots_total (record { directory = d; name = name }) (record { directory = q; name = other }) t.entries in
-      either_left (λ u. target_of u (record { directory = q; name = other }) ≡ cond (not (eq_by_cmp spot_cmp (record { directory = d; name = name }) (record { directory = q; name = other }))) (target_of t (record { directory = q; name = other })) None) t d name n taken taken
+      either_left (λ u. entry_number u (record { directory = q; name = other }) ≡ cond (not (eq_by_cmp spot_cmp (record { directory = d; name = name }) (record { directory = q; name = other }))) (entry_number t (record { directory = q; name = other })) None) t d name n taken taken
 
   holder_kept : (q : ℕ) → n ≢ q → holder_of (without_entry t d name n) q ≡ holder_of t q
   holder_kept q other = either_left (λ u. holder_of u q ≡ holder_of t q) t d name n (holder_left t d name n well leads unentered (without_number n t.inodes) q other) (holder_left t d name n well leads unentered t.inodes q other)
 
   -- what lives afterwards was so before
-  place_kept : (k : ℕ) → IsTrue (is_some (inode_of (without_entry t d name n) k)) → place_at (without_entry t d name n) k ≡ place_at t k
+  place_kept : (k : ℕ) → IsTrue (is_some (inode_of (without_entry t d name n) k)) → target_at (without_entry t d name n) k ≡ target_at t k
   place_kept k live =
       let i = some_in (inode_of (without_entry t d name n) k) live in
-      place-same t (without_entry t d name n) k (i.1 ∙ sym (fewer (names_of t n == 1) (n == k) (inode_of t k) i.0 (sym (inode-after t d name n well leads unentered k) ∙ i.1)))
+      target-same t (without_entry t d name n) k (i.1 ∙ sym (fewer (names_of t n == 1) (n == k) (inode_of t k) i.0 (sym (inode-after t d name n well leads unentered k) ∙ i.1)))
 
   entry_kept : (q : ℕ) (other : List ℕ) → eq_by_cmp spot_cmp (record { directory = d; name = name }) (record { directory = q; name = other }) ≡ false → entry_of (without_entry t d name n) q (Entry other) ≡ entry_of t q (Entry other)
   entry_kept q other apart =
-      let same = target_left q other ∙ ap (λ b. cond (not b) (target_of t (record { directory = q; name = other })) None) apart in
+      let same = target_left q other ∙ ap (λ b. cond (not b) (entry_number t (record { directory = q; name = other })) None) apart in
       entry-same t (without_entry t d name n) q other same
       (λ k e. place_kept k (target_lives (without_entry t d name n) (without_entry-IsWellFormed t d name n well leads unentered) (record { directory = q; name = other }) k (same ∙ e)))
 
   parent_kept : (q : ℕ) → n ≢ q → entry_of (without_entry t d name n) q Parent ≡ entry_of t q Parent
   parent_kept q other = parent-same t (without_entry t d name n) q (inode-left t d name n q other) (λ live. holder_kept q other)
-      (λ up e. place-same t (without_entry t d name n) up (inode-left t d name n up (not_holder t d name n well leads unentered t.inodes q up e)))
+      (λ up e. target-same t (without_entry t d name n) up (inode-left t d name n up (not_holder t d name n well leads unentered t.inodes q up e)))
 
   gone_is : names_of t n ≡ 1 → keys_gone t n ≡ own_keys n inode
   gone_is one = ap (λ (k : ℕ). if k == 1 then keys_at n (inode_of t n) else []) one ∙ ap (keys_at n) lives

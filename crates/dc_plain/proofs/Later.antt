@@ -5,7 +5,7 @@ use Rattle.dc_names.specs.Paths.{Part, Path, path_in}
 use Rattle.dc_names.specs.declared.kind.Kind.TheVariants.{Dir}
 use Rattle.dc_plain.specs.declared.call.Follow.{Follow}
 use Rattle.dc_plain.specs.declared.call.Follow.TheVariants as follow
-use Rattle.dc_plain.specs.Facts.{Place, Teller}
+use Rattle.dc_plain.specs.Facts.{Target, Teller}
 use Rattle.dc_plain.specs.Facts.Label.{Parent}
 use Rattle.dc_plain.specs.Resolution.{Outcome, Met, root, at_part, with_met, with_text, over_parts, resolve, keeps_link}
 use Rattle.dc_plain.specs.Resolution.Outcome.{Found, Refused}
@@ -18,7 +18,7 @@ use Rattle.dc_plain.proofs.Extensions.{at_part-later}
 abbrev Stays : {X : Type 0} → Option X → Option X → Type 0
 Stays {X} before now = (x : X) → before ≡ Some x → now ≡ Some x
 
-met-stays : (before now : Option Met) (go go' at_link at_link' : Place → Option Outcome) → Stays before now → ((p : Place) → Stays (go p) (go' p)) → ((p : Place) → Stays (at_link p) (at_link' p))
+met-stays : (before now : Option Met) (go go' at_link at_link' : Target → Option Outcome) → Stays before now → ((p : Target) → Stays (go p) (go' p)) → ((p : Target) → Stays (at_link p) (at_link' p))
     → Stays (with_met before go at_link) (with_met now go' at_link')
 met-stays None now go go' at_link at_link' told goes links o e = cc
 met-stays (Some (Goes p)) now go go' at_link at_link' told goes links o e = rw (told (Goes p) refl) (goes p o e)
@@ -29,9 +29,9 @@ either-stays : (b : Bool) (outcome : Outcome) (before now : Option Outcome) → 
 either-stays true outcome before now so o e = e
 either-stays false outcome before now so o e = so o e
 
-over-stays : (a b : Teller) → Extends a b → (how : Follow) (follow_a follow_b : Place → ℕ → List Part → Bool → Option Outcome)
-    → ((p : Place) (link : ℕ) (rest : List Part) (slash : Bool) → Stays (follow_a p link rest slash) (follow_b p link rest slash))
-    → (parts : List Part) (p : Place) (slash : Bool) → Stays (over_parts a how follow_a p parts slash) (over_parts b how follow_b p parts slash)
+over-stays : (a b : Teller) → Extends a b → (how : Follow) (follow_a follow_b : Target → ℕ → List Part → Bool → Option Outcome)
+    → ((p : Target) (link : ℕ) (rest : List Part) (slash : Bool) → Stays (follow_a p link rest slash) (follow_b p link rest slash))
+    → (parts : List Part) (p : Target) (slash : Bool) → Stays (over_parts a how follow_a p parts slash) (over_parts b how follow_b p parts slash)
 over-stays a b more how follow_a follow_b so [] p slash o e = e
 over-stays a b more how follow_a follow_b so (part ∷ rest) p slash o e =
     met-stays (at_part a p part) (at_part b p part) _ _ _ _ (at_part-later more p part) (λ next. over-stays a b more how follow_a follow_b so rest next slash)
@@ -41,7 +41,7 @@ text-stays : (before now : Option (List ℕ)) (go go' : List ℕ → Option Outc
 text-stays None now go go' told goes o e = cc
 text-stays (Some text) now go go' told goes o e = rw (told text refl) (goes text o e)
 
-pub resolve-stays : (a b : Teller) → Extends a b → (how : Follow) (links : ℕ) (from : Place) (parts : List Part) (slash : Bool) → Stays (resolve a how links from parts slash) (resolve b how links from parts slash)
+pub resolve-stays : (a b : Teller) → Extends a b → (how : Follow) (links : ℕ) (from : Target) (parts : List Part) (slash : Bool) → Stays (resolve a how links from parts slash) (resolve b how links from parts slash)
 unfolding resolve
 resolve-stays a b more how zero from parts slash =
     over-stays a b more how (λ p link rest slash. Some (Refused 40)) (λ p link rest slash. Some (Refused 40)) (λ p link rest slash o e. e) parts from slash
@@ -53,10 +53,10 @@ resolve-stays a b more how (suc left) from parts slash =
     (λ p link rest slash. text-stays (a.text link) (b.text link) _ _ (more.text link)
     (λ text. resolve-stays a b more how left (if (path_in text).absolute then root else p) ((path_in text).parts ++ rest) (slash || is_empty rest && (path_in text).slash))) parts from slash
 
-abbrev base_from : ℕ → Option (Option Place) → Option (Option Place)
-base_from base up = option_map {U = Option Place} (option_map {U = Place} (λ (up : Place). (base, Dir))) up
+abbrev base_from : ℕ → Option (Option Target) → Option (Option Target)
+base_from base up = option_map {U = Option Target} (option_map {U = Target} (λ (up : Target). (base, Dir))) up
 
-start-by : (up up' : Option (Option Place)) (base : ℕ) → Stays up up' → Stays (base_from base up) (base_from base up')
+start-by : (up up' : Option (Option Target)) (base : ℕ) → Stays up up' → Stays (base_from base up) (base_from base up')
 start-by None up' base so x e = cc
 start-by (Some found) up' base so x e = rw (so found refl) e
 
@@ -67,7 +67,7 @@ start-stays a b more base path =
       | false ↦ start-by (a.entry base Parent) (b.entry base Parent) base (more.entry base Parent)
     ]
 
-from-start : (before now : Option (Option Place)) (go go' : Place → Option Outcome) → Stays before now → ((p : Place) → Stays (go p) (go' p)) → Stays (with_start before go) (with_start now go')
+from-start : (before now : Option (Option Target)) (go go' : Target → Option Outcome) → Stays before now → ((p : Target) → Stays (go p) (go' p)) → Stays (with_start before go) (with_start now go')
 from-start None now go go' told goes o e = cc
 from-start (Some None) now go go' told goes o e = rw (told None refl) e
 from-start (Some (Some p)) now go go' told goes o e = rw (told (Some p) refl) (goes p o e)

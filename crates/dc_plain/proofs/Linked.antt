@@ -2,7 +2,7 @@
 use Rattle.std.proofs.Common.{◌≡◌, ◌≢◌, ℕ, ◌+◌, ◌≤◌, ◌<◌, ◌==◌, List, Bool, true, false, cond, Some, None, IsTrue, refl, ap, ◌∙◌, arith, option_map, subst}
 use Rattle.std.specs.FinMap.Entries.{is_sorted-put}
 use Rattle.dc_names.specs.Bytes.{is_name}
-use Rattle.dc_plain.specs.Trees.{Tree, Spot, Inode, spot_cmp, inode_of, target_of, names_of, holder_of, is_live_directory, is_directory_inode}
+use Rattle.dc_plain.specs.Trees.{Tree, Spot, Inode, spot_cmp, inode_of, entry_number, names_of, holder_of, is_live_directory, is_directory_inode}
 use Rattle.dc_plain.specs.Trees.Inode.{Directory, Regular, Symbolic}
 use Rattle.dc_plain.specs.Effects.{with_entry_for}
 use Rattle.dc_plain.specs.IsWellFormed.{IsWellFormed, Stands, IsReached}
@@ -11,7 +11,7 @@ use Rattle.dc_plain.proofs.Made.{spots_total, to_test, from_test}
 use Rattle.dc_plain.proofs.Holders.{other_test, decided, holder-live, comes_up-kept}
 
 module _ (t : Tree) (d : ℕ) (name : List ℕ) (n : ℕ) (inode : Inode) (well : IsWellFormed t) (in_directory : IsTrue (is_live_directory t d))
-    (free : target_of t (record { directory = d; name = name }) ≡ None) (lives : inode_of t n ≡ Some inode) (no_directory : is_directory_inode (Some inode) ≡ false) where
+    (free : entry_number t (record { directory = d; name = name }) ≡ None) (lives : inode_of t n ≡ Some inode) (no_directory : is_directory_inode (Some inode) ≡ false) where
   pub names_linked : (q : ℕ) → names_of (with_entry_for t d name n) q ≡ names_of t q + cond (n == q) 1 0
   names_linked q = count-put spot_cmp (record { directory = d; name = name }) n (λ e. e.1 == q) t.entries free
 

@@ -5,36 +5,36 @@ use Rattle.dc_names.specs.Paths.{Part, path_in}
 use Rattle.dc_names.specs.Paths.Part.{Name, Dot, DotDot}
 use Rattle.dc_plain.specs.declared.call.Follow.{Follow}
 use Rattle.dc_plain.specs.declared.call.Follow.TheVariants as follow
-use Rattle.dc_plain.specs.Facts.{Place, Label}
+use Rattle.dc_plain.specs.Facts.{Target, Label}
 use Rattle.dc_plain.specs.Facts.Label.{Entry, Parent, Text}
 use Rattle.dc_plain.specs.Resolution.{Outcome, Met, root, is_directory, is_link, met_by, at_part, with_met, with_text, ending, over_parts, resolve, wants_directory, keeps_link}
 use Rattle.dc_plain.specs.Resolution.Outcome.{Found, Refused}
 use Rattle.dc_plain.specs.Resolution.Met.{Goes, Stops, Meets}
-use Rattle.dc_plain.specs.Trees.{Tree, Inode, inode_of, place_at, entry_of, target_of, holder_of, told_of, text_of, kind_of, is_live_directory}
+use Rattle.dc_plain.specs.Trees.{Tree, Inode, inode_of, target_at, entry_of, entry_number, holder_of, told_of, text_of, kind_of, is_live_directory}
 use Rattle.dc_plain.specs.Trees.Inode.{Directory}
 
 -- a place that is as the tree has it
-abbrev pub Stands_at : Tree → Place → Type 0
-Stands_at t place = place_at t place.0 ≡ Some place
+abbrev pub Stands_at : Tree → Target → Type 0
+Stands_at t place = target_at t place.0 ≡ Some place
 
-number_of : (n : ℕ) (o : Option Inode) (q : Place) → option_map (λ inode. (n, kind_of inode)) o ≡ Some q → n ≡ q.0
+number_of : (n : ℕ) (o : Option Inode) (q : Target) → option_map (λ inode. (n, kind_of inode)) o ≡ Some q → n ≡ q.0
 number_of n None q e = cc
-number_of n (Some inode) q e = let same : (n, kind_of inode) ≡ q = cc in ap (λ (p : Place). p.0) same
+number_of n (Some inode) q e = let same : (n, kind_of inode) ≡ q = cc in ap (λ (p : Target). p.0) same
 
-at_own : (t : Tree) (n : ℕ) (q : Place) → place_at t n ≡ Some q → Stands_at t q
-at_own t n q e = ap (place_at t) (sym (number_of n (inode_of t n) q e)) ∙ e
+at_own : (t : Tree) (n : ℕ) (q : Target) → target_at t n ≡ Some q → Stands_at t q
+at_own t n q e = ap (target_at t) (sym (number_of n (inode_of t n) q e)) ∙ e
 
-by_target : (t : Tree) (o : Option ℕ) (q : Place) → option_and_then (place_at t) o ≡ Some q → Stands_at t q
+by_target : (t : Tree) (o : Option ℕ) (q : Target) → option_and_then (target_at t) o ≡ Some q → Stands_at t q
 by_target t None q e = cc
 by_target t (Some n) q e = at_own t n q e
 
-entry_stands : (t : Tree) → inode_of t 1 ≡ Some Directory → (d : ℕ) (label : Label) (q : Place) → entry_of t d label ≡ Some q → Stands_at t q
-entry_stands t is_root d (Entry name) q e = by_target t (target_of t (record { directory = d; name = name })) q e
+entry_stands : (t : Tree) → inode_of t 1 ≡ Some Directory → (d : ℕ) (label : Label) (q : Target) → entry_of t d label ≡ Some q → Stands_at t q
+entry_stands t is_root d (Entry name) q e = by_target t (entry_number t (record { directory = d; name = name })) q e
 entry_stands t is_root d Text q e = cc
 entry_stands t is_root d Parent q e =
-    elim (is_live_directory t d) as (λ b. cond (not b) None (cond (d == 1) (Some root) (option_and_then (place_at t) (holder_of t d))) ≡ Some q → Stands_at t q) [
+    elim (is_live_directory t d) as (λ b. cond (not b) None (cond (d == 1) (Some root) (option_and_then (target_at t) (holder_of t d))) ≡ Some q → Stands_at t q) [
       | false ↦ λ is. cc
-      | true ↦ elim (d == 1) as (λ b. cond b (Some root) (option_and_then (place_at t) (holder_of t d)) ≡ Some q → Stands_at t q) [
+      | true ↦ elim (d == 1) as (λ b. cond b (Some root) (option_and_then (target_at t) (holder_of t d)) ≡ Some q → Stands_at t q) [
         | true ↦ λ is. let same : root ≡ q = cc in at_own t 1 q (rw is_root (ap Some same))
         | false ↦ λ is. by_target t (holder_of t d) q is
       ]
@@ -46,7 +46,7 @@ Met_stands t (Goes q) = Stands_at t q
 Met_stands t (Stops n) = Unit {0}
 Met_stands t (Meets q) = Stands_at t q
 
-met_by_stands : (t : Tree) (o : Option Place) (met : Met) → ((q : Place) → o ≡ Some q → Stands_at t q) → met_by (Some o) ≡ Some met → Met_stands t met
+met_by_stands : (t : Tree) (o : Option Target) (met : Met) → ((q : Target) → o ≡ Some q → Stands_at t q) → met_by (Some o) ≡ Some met → Met_stands t met
 met_by_stands t None met so e = let same : Stops 2 ≡ met = cc in subst (Met_stands t) same tt
 met_by_stands t (Some q) met so e =
     elim (is_link q) as (λ b. Some (if b then Meets q else Goes q) ≡ Some met → Met_stands t met) [
@@ -54,13 +54,13 @@ met_by_stands t (Some q) met so e =
       | false ↦ λ is. let same : Goes q ≡ met = cc in subst (Met_stands t) same (so q refl)
     ] e
 
-goes_there : (t : Tree) (place : Place) (met : Met) → Stands_at t place → Some (Goes place) ≡ Some met → Met_stands t met
+goes_there : (t : Tree) (place : Target) (met : Met) → Stands_at t place → Some (Goes place) ≡ Some met → Met_stands t met
 goes_there t place met stands e = let same : Goes place ≡ met = cc in subst (Met_stands t) same stands
 
 stops_there : (t : Tree) (met : Met) → Some (Stops 20) ≡ Some met → Met_stands t met
 stops_there t met e = let same : Stops 20 ≡ met = cc in subst (Met_stands t) same tt
 
-met_stands : (t : Tree) → inode_of t 1 ≡ Some Directory → (place : Place) → Stands_at t place → (part : Part) (met : Met) → at_part (told_of t) place part ≡ Some met → Met_stands t met
+met_stands : (t : Tree) → inode_of t 1 ≡ Some Directory → (place : Target) → Stands_at t place → (part : Part) (met : Met) → at_part (told_of t) place part ≡ Some met → Met_stands t met
 met_stands t is_root place stands Dot met e =
     elim (is_directory place) as (λ b. cond (not b) (Some (Stops 20)) (Some (Goes place)) ≡ Some met → Met_stands t met) [
       | false ↦ stops_there t met
@@ -81,7 +81,7 @@ met_stands t is_root place stands DotDot met e =
     ] e
 
 -- where a walk may end
-abbrev pub Ends : Tree → Follow → Place → Type 0
+abbrev pub Ends : Tree → Follow → Target → Type 0
 Ends t how q = Stands_at t q × (wants_directory how ≡ true → is_directory q ≡ true)
 
 wanted_is : (s w d : Bool) → ((s || w) && not d) ≡ false → w ≡ true → d ≡ true
@@ -94,7 +94,7 @@ pub and_last : (a b : Bool) → (a && b) ≡ true → b ≡ true
 and_last true b e = e
 and_last false b e = cc
 
-ends_at : (t : Tree) (how : Follow) (place : Place) (slash : Bool) (q : Place) → Stands_at t place → Some (ending how place slash) ≡ Some (Found q) → Ends t how q
+ends_at : (t : Tree) (how : Follow) (place : Target) (slash : Bool) (q : Target) → Stands_at t place → Some (ending how place slash) ≡ Some (Found q) → Ends t how q
 ends_at t how place slash q stands e =
     elim ((slash || wants_directory how) && not (is_directory place)) as (λ b. ((slash || wants_directory how) && not (is_directory place)) ≡ b
     → Some (if b then Refused 20 else Found place) ≡ Some (Found q) → Ends t how q) [
@@ -111,15 +111,15 @@ kept_link follow.Dir e = cc
 true_not_false : (b : Bool) → b ≡ true → b ≡ false → ⊥
 true_not_false b yes' no' = cc
 
-over_stands : (t : Tree) → inode_of t 1 ≡ Some Directory → (how : Follow) (follow_link : Place → ℕ → List Part → Bool → Option Outcome)
-    → ((place : Place) (link : ℕ) (rest : List Part) (slash : Bool) (q : Place) → Stands_at t place → follow_link place link rest slash ≡ Some (Found q) → Ends t how q)
-    → (parts : List Part) (place : Place) (slash : Bool) (q : Place) → Stands_at t place → over_parts (told_of t) how follow_link place parts slash ≡ Some (Found q) → Ends t how q
+over_stands : (t : Tree) → inode_of t 1 ≡ Some Directory → (how : Follow) (follow_link : Target → ℕ → List Part → Bool → Option Outcome)
+    → ((place : Target) (link : ℕ) (rest : List Part) (slash : Bool) (q : Target) → Stands_at t place → follow_link place link rest slash ≡ Some (Found q) → Ends t how q)
+    → (parts : List Part) (place : Target) (slash : Bool) (q : Target) → Stands_at t place → over_parts (told_of t) how follow_link place parts slash ≡ Some (Found q) → Ends t how q
 over_stands t is_root how follow_link so [] place slash q stands e = ends_at t how place slash q stands e
 over_stands t is_root how follow_link so (part ∷ rest) place slash q stands e =
     by_met (at_part (told_of t) place part) (met_stands t is_root place stands part)
     (λ next. over_stands t is_root how follow_link so rest next slash q) e
   where
-    by_met : (o : Option Met) → ((met : Met) → o ≡ Some met → Met_stands t met) → ((next : Place) → Stands_at t next → over_parts (told_of t) how follow_link next rest slash ≡ Some (Found q) → Ends t how q)
+    by_met : (o : Option Met) → ((met : Met) → o ≡ Some met → Met_stands t met) → ((next : Target) → Stands_at t next → over_parts (told_of t) how follow_link next rest slash ≡ Some (Found q) → Ends t how q)
         → with_met o (λ next. over_parts (told_of t) how follow_link next rest slash)
         (λ link. if is_empty rest && not slash && keeps_link how then Some (Found link) else follow_link place link.0 rest slash) ≡ Some (Found q) → Ends t how q
     by_met None met_so on e' = cc
@@ -137,14 +137,14 @@ over_stands t is_root how follow_link so (part ∷ rest) place slash q stands e 
 pub root_stands : (t : Tree) → inode_of t 1 ≡ Some Directory → Stands_at t root
 root_stands t is_root = rw is_root refl
 
-by_text : (t : Tree) → inode_of t 1 ≡ Some Directory → (how : Follow) (left : ℕ) {k : Place} → ((p : Place) (parts : List Part) (s : Bool) → Stands_at t p → resolve (told_of t) how left p parts s ≡ Some (Found k) → Ends t how k)
-    → (o : Option (List ℕ)) (p : Place) (r : List Part) (s : Bool) (k' : Place) → Stands_at t p
+by_text : (t : Tree) → inode_of t 1 ≡ Some Directory → (how : Follow) (left : ℕ) {k : Target} → ((p : Target) (parts : List Part) (s : Bool) → Stands_at t p → resolve (told_of t) how left p parts s ≡ Some (Found k) → Ends t how k)
+    → (o : Option (List ℕ)) (p : Target) (r : List Part) (s : Bool) (k' : Target) → Stands_at t p
     → with_text o (λ text. resolve (told_of t) how left (if (path_in text).absolute then root else p) ((path_in text).parts ++ r) (s || is_empty r && (path_in text).slash)) ≡ Some (Found k) → Ends t how k
 by_text t is_root how left on None p r s k' st is = cc
 by_text t is_root how left on (Some text) p r s k' st is =
     on (if (path_in text).absolute then root else p) _ _ (elim ((path_in text).absolute) as (λ b. Stands_at t (if b then root else p)) [ true ↦ root_stands t is_root | false ↦ st ]) is
 
-pub resolve_stands : (t : Tree) → inode_of t 1 ≡ Some Directory → (how : Follow) (links : ℕ) (place : Place) (parts : List Part) (slash : Bool) (q : Place)
+pub resolve_stands : (t : Tree) → inode_of t 1 ≡ Some Directory → (how : Follow) (links : ℕ) (place : Target) (parts : List Part) (slash : Bool) (q : Target)
     → Stands_at t place → resolve (told_of t) how links place parts slash ≡ Some (Found q) → Ends t how q
 unfolding resolve
 resolve_stands t is_root how zero place parts slash q stands e =

@@ -12,7 +12,7 @@ use Rattle.std.proofs.lemmas.Cmp.{on_total, then_total}
 use Rattle.std.proofs.lemmas.Bool.Decides.{nat_tests}
 use Rattle.dc_names.specs.Bytes.{is_name}
 use Rattle.dc_names.specs.Paths.{path_of}
-use Rattle.dc_plain.specs.Trees.{entry_of, place_at, Tree, Spot, Inode, spot_cmp, inode_of, target_of, names_of, holder_of, is_live_directory, is_directory_inode}
+use Rattle.dc_plain.specs.Trees.{entry_of, target_at, Tree, Spot, Inode, spot_cmp, inode_of, entry_number, names_of, holder_of, is_live_directory, is_directory_inode}
 use Rattle.dc_plain.specs.Trees.Inode.{Directory, Regular, Symbolic}
 use Rattle.dc_plain.specs.Effects.{with_new}
 use Rattle.dc_plain.specs.IsWellFormed.{IsWellFormed, Stands, Lives, IsReached, comes_up}
@@ -60,7 +60,7 @@ or_right true b h = refl
 or_right false b h = h
 
 module _ (t : Tree) (d : ℕ) (name : List ℕ) (inode : Inode) (well : IsWellFormed t) (in_directory : IsTrue (is_live_directory t d))
-    (free : target_of t (record { directory = d; name = name }) ≡ None) where
+    (free : entry_number t (record { directory = d; name = name }) ≡ None) where
   new : Tree
   new = with_new t d name inode
 
@@ -174,13 +174,13 @@ All-lookup R P q (x ∷ xs) all v e =
       | false ↦ λ is. All-lookup R P q xs all.1 v is
     ] e
 
-pub absent : (t : Tree) (n : ℕ) (i : Inode) → inode_of t n ≡ Some i → is_some (place_at t n) ≡ false → ⊥
-absent t n i e none = let there : is_some (place_at t n) ≡ true = rw e refl in cc
+pub absent : (t : Tree) (n : ℕ) (i : Inode) → inode_of t n ≡ Some i → is_some (target_at t n) ≡ false → ⊥
+absent t n i e none = let there : is_some (target_at t n) ≡ true = rw e refl in cc
 
-pub free_spot : (t : Tree) (d : ℕ) (name : List ℕ) → IsWellFormed t → is_some (entry_of t d (Entry name)) ≡ false → target_of t (record { directory = d; name = name }) ≡ None
-free_spot t d name well none = by_target (target_of t (record { directory = d; name = name })) refl none
+pub free_spot : (t : Tree) (d : ℕ) (name : List ℕ) → IsWellFormed t → is_some (entry_of t d (Entry name)) ≡ false → entry_number t (record { directory = d; name = name }) ≡ None
+free_spot t d name well none = by_target (entry_number t (record { directory = d; name = name })) refl none
   where
-    by_target : (o : Option ℕ) → target_of t (record { directory = d; name = name }) ≡ o → is_some (option_and_then (place_at t) o) ≡ false → o ≡ None
+    by_target : (o : Option ℕ) → entry_number t (record { directory = d; name = name }) ≡ o → is_some (option_and_then (target_at t) o) ≡ false → o ≡ None
     by_target None e none' = refl
     by_target (Some n) e none' =
         let live = All-lookup spot_cmp (λ k. IsTrue (is_some (inode_of t k))) (record { directory = d; name = name }) t.entries (All-weaker (Stands t) (λ s. IsTrue (is_some (inode_of t s.1))) (λ x s. s.leads) t.entries well.entries) n e in

@@ -3,7 +3,7 @@ use Rattle.std.proofs.Common.{◌≡◌, ◌≢◌, ℕ, zero, suc, ◌+◌, ◌
 use Rattle.std.specs.Ordering.{eq_by_cmp}
 use Rattle.std.specs.FinMap.Entries.{is_sorted-put, is_sorted-where_key}
 use Rattle.dc_names.specs.Bytes.{is_name}
-use Rattle.dc_plain.specs.Trees.{Tree, Spot, Inode, spot_cmp, how_many, inode_of, target_of, names_of, holder_of, if_held, is_live_directory, is_directory_inode, without_spot}
+use Rattle.dc_plain.specs.Trees.{Tree, Spot, Inode, spot_cmp, how_many, inode_of, entry_number, names_of, holder_of, if_held, is_live_directory, is_directory_inode, without_spot}
 use Rattle.dc_plain.specs.Trees.Inode.{Directory, Regular, Symbolic}
 use Rattle.dc_plain.specs.Effects.{with_entry_for, without_entry_alone}
 use Rattle.dc_plain.specs.Operations.{is_beneath}
@@ -40,14 +40,14 @@ moved_to t from old to new n = with_entry_for (without_entry_alone t from old) t
 -- what a move needs of the tree
 pub record IsReady (t : Tree) (from : ℕ) (old : List ℕ) (to : ℕ) (new : List ℕ) (n : ℕ) : Type 0 where
   pub well : IsWellFormed t
-  pub source : target_of t (record { directory = from; name = old }) ≡ Some n
-  pub free : target_of t (record { directory = to; name = new }) ≡ None
+  pub source : entry_number t (record { directory = from; name = old }) ≡ Some n
+  pub free : entry_number t (record { directory = to; name = new }) ≡ None
   pub held : IsTrue (is_live_directory t to)
   pub named : IsTrue (is_name new)
   pub apart : IsTrue (is_live_directory t n) → (steps : ℕ) × (is_beneath steps t to n ≡ false)
 
 module _ (t : Tree) (from : ℕ) (old : List ℕ) (to : ℕ) (new : List ℕ) (n : ℕ) (ready : IsReady t from old to new n) where
-  pub still_free : target_of (without_entry_alone t from old) (record { directory = to; name = new }) ≡ None
+  pub still_free : entry_number (without_entry_alone t from old) (record { directory = to; name = new }) ≡ None
   still_free =
       lookup-take spot_cmp spots_total (record { directory = from; name = old }) (record { directory = to; name = new }) t.entries
       ∙ rw (ready.free) (elim (not (eq_by_cmp spot_cmp (record { directory = from; name = old }) (record { directory = to; name = new }))) as (λ b. cond {A = Option ℕ} b None None ≡ None) [ true ↦ refl | false ↦ refl ])

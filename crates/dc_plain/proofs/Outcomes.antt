@@ -5,7 +5,7 @@ use Rattle.dc_names.specs.Paths.{Part, Path, path_in}
 use Rattle.dc_names.specs.Paths.Part.{Name, Dot, DotDot}
 use Rattle.dc_plain.specs.declared.call.Follow.{Follow}
 use Rattle.dc_plain.specs.declared.call.Follow.TheVariants as follow
-use Rattle.dc_plain.specs.Facts.{Place, Teller}
+use Rattle.dc_plain.specs.Facts.{Target, Teller}
 use Rattle.dc_plain.specs.Facts.Label.{Entry, Parent}
 use Rattle.dc_plain.specs.Resolution.{Outcome, Met, root, is_directory, is_link, met_by, at_part, with_met, with_text, ending, over_parts, resolve, wants_directory, keeps_link}
 use Rattle.dc_plain.specs.Resolution.Outcome.{Found, Refused}
@@ -24,7 +24,7 @@ Is_usual_met (Goes q) = Unit {0}
 Is_usual_met (Stops number) = IsTrue (is_walk_refusal number)
 Is_usual_met (Meets q) = Unit {0}
 
-usual_by : (told : Option (Option Place)) (met : Met) → met_by told ≡ Some met → Is_usual_met met
+usual_by : (told : Option (Option Target)) (met : Met) → met_by told ≡ Some met → Is_usual_met met
 usual_by None met e = cc
 usual_by (Some None) met e = let same : Stops 2 ≡ met = cc in subst Is_usual_met same refl
 usual_by (Some (Some q)) met e =
@@ -36,10 +36,10 @@ usual_by (Some (Some q)) met e =
 usual_stop : (met : Met) → Some (Stops 20) ≡ Some met → Is_usual_met met
 usual_stop met e = let same : Stops 20 ≡ met = cc in subst Is_usual_met same refl
 
-usual_going : (q : Place) (met : Met) → Some (Goes q) ≡ Some met → Is_usual_met met
+usual_going : (q : Target) (met : Met) → Some (Goes q) ≡ Some met → Is_usual_met met
 usual_going q met e = let same : Goes q ≡ met = cc in subst Is_usual_met same tt
 
-usual_part : (teller : Teller) (place : Place) (part : Part) (met : Met) → at_part teller place part ≡ Some met → Is_usual_met met
+usual_part : (teller : Teller) (place : Target) (part : Part) (met : Met) → at_part teller place part ≡ Some met → Is_usual_met met
 usual_part teller place part met e =
     elim (is_directory place) as (λ b. (if not b then Some (Stops 20) else elim part [
       | Dot ↦ Some (Goes place)
@@ -62,21 +62,21 @@ usual_part teller place part met e =
       | false ↦ usual_by (teller.entry place.0 Parent) met
     ] is
 
-usual_end : (how : Follow) (place : Place) (slash : Bool) (o : Outcome) → Some (ending how place slash) ≡ Some o → Is_usual o
+usual_end : (how : Follow) (place : Target) (slash : Bool) (o : Outcome) → Some (ending how place slash) ≡ Some o → Is_usual o
 usual_end how place slash o e =
     elim ((slash || wants_directory how) && not (is_directory place)) as (λ b. Some (if b then Refused 20 else Found place) ≡ Some o → Is_usual o) [
       | true ↦ λ is. let same : Refused 20 ≡ o = cc in subst Is_usual same refl
       | false ↦ λ is. let same : Found place ≡ o = cc in subst Is_usual same tt
     ] e
 
-over-usual : (teller : Teller) (how : Follow) (follow_link : Place → ℕ → List Part → Bool → Option Outcome)
-    → ((place : Place) (link : ℕ) (rest : List Part) (slash : Bool) (o : Outcome) → follow_link place link rest slash ≡ Some o → Is_usual o)
-    → (parts : List Part) (place : Place) (slash : Bool) (o : Outcome) → over_parts teller how follow_link place parts slash ≡ Some o → Is_usual o
+over-usual : (teller : Teller) (how : Follow) (follow_link : Target → ℕ → List Part → Bool → Option Outcome)
+    → ((place : Target) (link : ℕ) (rest : List Part) (slash : Bool) (o : Outcome) → follow_link place link rest slash ≡ Some o → Is_usual o)
+    → (parts : List Part) (place : Target) (slash : Bool) (o : Outcome) → over_parts teller how follow_link place parts slash ≡ Some o → Is_usual o
 over-usual teller how follow_link so [] place slash o e = usual_end how place slash o e
 over-usual teller how follow_link so (part ∷ rest) place slash o e =
     by_met (at_part teller place part) (usual_part teller place part) (λ next. over-usual teller how follow_link so rest next slash o) e
   where
-    by_met : (m : Option Met) → ((met : Met) → m ≡ Some met → Is_usual_met met) → ((next : Place) → over_parts teller how follow_link next rest slash ≡ Some o → Is_usual o)
+    by_met : (m : Option Met) → ((met : Met) → m ≡ Some met → Is_usual_met met) → ((next : Target) → over_parts teller how follow_link next rest slash ≡ Some o → Is_usual o)
         → with_met m (λ next. over_parts teller how follow_link next rest slash)
         (λ link. if is_empty rest && not slash && keeps_link how then Some (Found link) else follow_link place link.0 rest slash) ≡ Some o → Is_usual o
     by_met None met_so on e' = cc
@@ -92,7 +92,7 @@ on_text : (P : Outcome → Type 0) (text : Option (List ℕ)) (next : List ℕ �
 on_text P None next o so e = cc
 on_text P (Some bytes) next o so e = so bytes e
 
-pub resolve-usual : (teller : Teller) (how : Follow) (links : ℕ) (from : Place) (parts : List Part) (slash : Bool) (o : Outcome) → resolve teller how links from parts slash ≡ Some o → Is_usual o
+pub resolve-usual : (teller : Teller) (how : Follow) (links : ℕ) (from : Target) (parts : List Part) (slash : Bool) (o : Outcome) → resolve teller how links from parts slash ≡ Some o → Is_usual o
 unfolding resolve
 resolve-usual teller how zero from parts slash o e =
     over-usual teller how (λ place link rest slash. Some (Refused 40)) (λ p l r s k is. let same : Refused 40 ≡ k = cc in subst Is_usual same refl) parts from slash o e
@@ -101,7 +101,7 @@ resolve-usual teller how (suc left) from parts slash o e =
     resolve teller how left (if (path_in text).absolute then root else place) ((path_in text).parts ++ rest) (slash || is_empty rest && (path_in text).slash)))
     (λ p l r s k is. on_text Is_usual (teller.text l) _ k (λ text. resolve-usual teller how left (if (path_in text).absolute then root else p) ((path_in text).parts ++ r) (s || is_empty r && (path_in text).slash) k) is) parts from slash o e
 
-on_start : (from : Option (Option Place)) (go : Place → Option Outcome) (o : Outcome) → ((p : Place) → go p ≡ Some o → Is_usual o) → with_start from go ≡ Some o → Is_usual o
+on_start : (from : Option (Option Target)) (go : Target → Option Outcome) (o : Outcome) → ((p : Target) → go p ≡ Some o → Is_usual o) → with_start from go ≡ Some o → Is_usual o
 on_start None go o so e = cc
 on_start (Some None) go o so e = let same : Refused 2 ≡ o = cc in subst Is_usual same refl
 on_start (Some (Some p)) go o so e = so p e

@@ -2,7 +2,7 @@
 use Rattle.std.proofs.Common.{◌≡◌, ℕ, List, Bool, true, false, Option, Result, Ok, Err, refl, not, ◌&&◌, ◌||◌, is_some, length, if◌then◌else◌}
 use Rattle.std.specs.Prelude.{nat_le}
 use Rattle.dc_names.specs.Bytes.{is_empty}
-use Rattle.dc_plain.specs.Facts.{Place}
+use Rattle.dc_plain.specs.Facts.{Target}
 use Rattle.dc_plain.specs.Facts.Label.{Entry}
 use Rattle.dc_plain.specs.Places.{Where}
 use Rattle.dc_plain.specs.Resolution.{is_directory}
@@ -11,7 +11,7 @@ use Rattle.dc_plain.specs.Trees.Inode.{Directory, Regular, Symbolic}
 use Rattle.dc_plain.specs.Requests.{Answer, Request}
 use Rattle.dc_plain.specs.Requests.Answer.{Done, Nothing, Refused}
 use Rattle.dc_plain.specs.Requests.Request.{Look, Readlink, Stat, List_names, Mkdir, Create, Hard_link, Symlink, Unlink, Rmdir, Rename}
-use Rattle.dc_plain.specs.Refusals.{◌>>=◌, refuse, path_or_fault, place_on, spot_on, name_or, name_or_each, present, is_full}
+use Rattle.dc_plain.specs.Refusals.{◌>>=◌, refuse, path_or_fault, place_on, where_on, name_or, name_or_each, present, is_full}
 use Rattle.dc_plain.specs.Effects.{with_new, with_entry_for, without_entry}
 use Rattle.dc_plain.specs.Plans.{with_moved}
 use Rattle.dc_plain.specs.Reads.{look, readlink, stat, list_names}
@@ -38,7 +38,7 @@ nothing t u number e = let other : Nothing ≡ Refused number = e in absurd cc
 
 make-spares : (limit : ℕ) (t : Tree) (base : ℕ) (text : List ℕ) (may : Bool) (inode : Inode) → Spares t (make limit t base text may inode)
 make-spares limit t base text may inode =
-    step t (spot_on t base text) _ λ at.
+    step t (where_on t base text) _ λ at.
     step t (name_or 17 at.last) _ λ name.
     step t (refuse (is_some (entry_of t at.directory (Entry name))) 17) _ λ free.
     step t (refuse (at.slash && not may) 2) _ λ ends.
@@ -61,7 +61,7 @@ link-spares t base old new =
 
 unlink-spares : (t : Tree) (base : ℕ) (text : List ℕ) → Spares t (unlink t base text)
 unlink-spares t base text =
-    step t (spot_on t base text) _ λ at.
+    step t (where_on t base text) _ λ at.
     step t (name_or 1 at.last) _ λ name.
     step t (present 2 (entry_of t at.directory (Entry name))) _ λ inode.
     step t (refuse (is_directory inode) 1) _ λ no_directory.
@@ -69,13 +69,13 @@ unlink-spares t base text =
 
 rmdir-spares : (t : Tree) (base : ℕ) (text : List ℕ) → Spares t (rmdir t base text)
 rmdir-spares t base text =
-    step t (spot_on t base text) _ λ at.
+    step t (where_on t base text) _ λ at.
     step t (name_or_each 16 22 39 at.last) _ λ name.
     step t (present 2 (entry_of t at.directory (Entry name))) _ λ inode.
     step t (refuse (not (is_directory inode)) 20) _ λ directory.
     step t (refuse (not (is_empty (names_in t inode.0))) 39) _ λ empty. nothing t (without_entry t at.directory name inode.0)
 
-move-spares : (t : Tree) (from to : Where) (old new : List ℕ) (moved : Place) (there : Option Place)
+move-spares : (t : Tree) (from to : Where) (old new : List ℕ) (moved : Target) (there : Option Target)
     → Spares t (do
       apart ← refuse (is_directory moved && is_beneath (length t.inodes) t to.directory moved.0) 22
       may ← replaceable t moved there

@@ -4,7 +4,7 @@ use Rattle.std.specs.Ordering.{nat_cmp, is_eq}
 use Rattle.std.specs.List.{AllByRecursion}
 use Rattle.std.specs.FinMap.Entries.{is_sorted, is_sorted-where_key, find-where_key}
 use Rattle.dc_names.specs.Bytes.{is_empty}
-use Rattle.dc_plain.specs.Trees.{names_in, Tree, Spot, Inode, spot_cmp, inode_of, target_of, names_of, holder_of, is_live_directory, is_directory_inode, without_spot, without_number}
+use Rattle.dc_plain.specs.Trees.{names_in, Tree, Spot, Inode, spot_cmp, inode_of, entry_number, names_of, holder_of, is_live_directory, is_directory_inode, without_spot, without_number}
 use Rattle.dc_plain.specs.Trees.Inode.{Directory, Regular, Symbolic}
 use Rattle.dc_plain.specs.Effects.{without_entry}
 use Rattle.dc_plain.specs.IsWellFormed.{IsWellFormed, Stands, IsReached}
@@ -27,7 +27,7 @@ All-both : {X : Type 0} (P Q : X → Type 0) (xs : List X) → AllByRecursion P 
 All-both P Q [] p q = tt
 All-both P Q (x ∷ xs) p q = ((p.0, q.0), All-both P Q xs p.1 q.1)
 
-module _ (t : Tree) (d : ℕ) (name : List ℕ) (n : ℕ) (well : IsWellFormed t) (leads : target_of t (record { directory = d; name = name }) ≡ Some n) (unentered : IsUnentered t n) (inodes : List (ℕ × Inode)) where
+module _ (t : Tree) (d : ℕ) (name : List ℕ) (n : ℕ) (well : IsWellFormed t) (leads : entry_number t (record { directory = d; name = name }) ≡ Some n) (unentered : IsUnentered t n) (inodes : List (ℕ × Inode)) where
   pub names_left : (q : ℕ) → names_of (left_of t d name inodes) q + cond (n == q) 1 0 ≡ names_of t q
   names_left q = count-take spot_cmp spots_total (record { directory = d; name = name }) (λ (v : ℕ). v == q) n t.entries (to_test _ well.entries_in_order) leads
 
@@ -130,7 +130,7 @@ not_gone : (b : Bool) (o : Option Inode) (i : Inode) → b ≡ true → cond b N
 not_gone true o i e is = cc
 not_gone false o i e is = cc
 
-pub without_entry-IsWellFormed : (t : Tree) (d : ℕ) (name : List ℕ) (n : ℕ) → IsWellFormed t → target_of t (record { directory = d; name = name }) ≡ Some n → IsUnentered t n → IsWellFormed (without_entry t d name n)
+pub without_entry-IsWellFormed : (t : Tree) (d : ℕ) (name : List ℕ) (n : ℕ) → IsWellFormed t → entry_number t (record { directory = d; name = name }) ≡ Some n → IsUnentered t n → IsWellFormed (without_entry t d name n)
 without_entry-IsWellFormed t d name n well leads unentered =
     elim (names_of (left_of t d name t.inodes) n == 0) as (λ b. (names_of (left_of t d name t.inodes) n == 0) ≡ b
     → IsWellFormed (if b then left_of t d name (without_number n t.inodes) else left_of t d name t.inodes)) [

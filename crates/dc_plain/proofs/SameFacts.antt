@@ -8,10 +8,10 @@ use Rattle.std.proofs.lemmas.Map.Lookups.{exact_pairs}
 use Rattle.std.specs.Cmp.Lexicographic.{slice_cmp}
 use Rattle.std.specs.Ordering.{nat_cmp}
 use Rattle.dc_names.specs.declared.kind.Kind.TheVariants.{Dir}
-use Rattle.dc_plain.specs.Facts.{Place, Key, Label}
+use Rattle.dc_plain.specs.Facts.{Target, Key, Label}
 use Rattle.dc_plain.specs.Facts.Label.{Entry, Parent, Text}
 use Rattle.dc_plain.specs.Resolution.{root}
-use Rattle.dc_plain.specs.Trees.{Tree, Spot, Inode, spot_cmp, inode_of, target_of, place_at, entry_of, text_of, text_in, fact_at, kind_of, holder_of, is_live_directory, is_directory_inode}
+use Rattle.dc_plain.specs.Trees.{Tree, Spot, Inode, spot_cmp, inode_of, entry_number, target_at, entry_of, text_of, text_in, fact_at, kind_of, holder_of, is_live_directory, is_directory_inode}
 use Rattle.std.specs.Cmp.{tied_itself}
 use Rattle.dc_plain.proofs.Made.{is_directory_in, spots_total}
 use Rattle.dc_plain.proofs.Holders.{other_test}
@@ -46,30 +46,30 @@ pub same_key : (d q : ℕ) (name other : List ℕ) → eq_by_cmp spot_cmp (recor
     → ◌≡◌ {A = Key} (record { number = q; label = Entry other }) (record { number = d; label = Entry name })
 same_key d q name other e = ap (λ (s : Spot). record { number = s.directory; label = Entry s.name }) (same_spot (record { directory = q; name = other }) (record { directory = d; name = name }) e)
 
-pub place-same : (t u : Tree) (n : ℕ) → inode_of u n ≡ inode_of t n → place_at u n ≡ place_at t n
-place-same t u n e = ap (option_map (λ inode. (n, kind_of inode))) e
+pub target-same : (t u : Tree) (n : ℕ) → inode_of u n ≡ inode_of t n → target_at u n ≡ target_at t n
+target-same t u n e = ap (option_map (λ inode. (n, kind_of inode))) e
 
 pub text-same : (t u : Tree) (n : ℕ) → inode_of u n ≡ inode_of t n → text_of u n ≡ text_of t n
 text-same t u n e = ap (option_and_then text_in) e
 
-onward : (t u : Tree) (o : Option ℕ) → ((n : ℕ) → o ≡ Some n → place_at u n ≡ place_at t n) → option_and_then (place_at u) o ≡ option_and_then (place_at t) o
+onward : (t u : Tree) (o : Option ℕ) → ((n : ℕ) → o ≡ Some n → target_at u n ≡ target_at t n) → option_and_then (target_at u) o ≡ option_and_then (target_at t) o
 onward t u None so = refl
 onward t u (Some n) so = so n refl
 
-pub entry-same : (t u : Tree) (d : ℕ) (name : List ℕ) → target_of u (record { directory = d; name = name }) ≡ target_of t (record { directory = d; name = name })
-    → ((n : ℕ) → target_of t (record { directory = d; name = name }) ≡ Some n → place_at u n ≡ place_at t n) → entry_of u d (Entry name) ≡ entry_of t d (Entry name)
-entry-same t u d name e so = ap (option_and_then (place_at u)) e ∙ onward t u (target_of t (record { directory = d; name = name })) so
+pub entry-same : (t u : Tree) (d : ℕ) (name : List ℕ) → entry_number u (record { directory = d; name = name }) ≡ entry_number t (record { directory = d; name = name })
+    → ((n : ℕ) → entry_number t (record { directory = d; name = name }) ≡ Some n → target_at u n ≡ target_at t n) → entry_of u d (Entry name) ≡ entry_of t d (Entry name)
+entry-same t u d name e so = ap (option_and_then (target_at u)) e ∙ onward t u (entry_number t (record { directory = d; name = name })) so
 
 pub parent-same : (t u : Tree) (n : ℕ) → inode_of u n ≡ inode_of t n → (IsTrue (is_live_directory t n) → holder_of u n ≡ holder_of t n)
-    → ((up : ℕ) → holder_of t n ≡ Some up → place_at u up ≡ place_at t up) → entry_of u n Parent ≡ entry_of t n Parent
+    → ((up : ℕ) → holder_of t n ≡ Some up → target_at u up ≡ target_at t up) → entry_of u n Parent ≡ entry_of t n Parent
 parent-same t u n inodes held so =
-    ap (λ o. if not (is_directory_inode o) then None else if n == 1 then Some root else option_and_then (place_at u) (holder_of u n)) inodes
+    ap (λ o. if not (is_directory_inode o) then None else if n == 1 then Some root else option_and_then (target_at u) (holder_of u n)) inodes
     ∙ by_live (is_live_directory t n) refl
   where
-    by_live : (b : Bool) → is_live_directory t n ≡ b → (if not b then None else if n == 1 then Some root else option_and_then (place_at u) (holder_of u n))
-        ≡ (if not b then None else if n == 1 then Some root else option_and_then (place_at t) (holder_of t n))
+    by_live : (b : Bool) → is_live_directory t n ≡ b → (if not b then None else if n == 1 then Some root else option_and_then (target_at u) (holder_of u n))
+        ≡ (if not b then None else if n == 1 then Some root else option_and_then (target_at t) (holder_of t n))
     by_live false live = refl
-    by_live true live = ap (λ o. if n == 1 then Some root else o) (ap (option_and_then (place_at u)) (held live) ∙ onward t u (holder_of t n) so)
+    by_live true live = ap (λ o. if n == 1 then Some root else o) (ap (option_and_then (target_at u)) (held live) ∙ onward t u (holder_of t n) so)
 
 -- only a directory has a parent
 pub no_parent : (t : Tree) (n : ℕ) → is_live_directory t n ≡ false → entry_of t n Parent ≡ None
@@ -77,24 +77,24 @@ no_parent t n e = rw e refl
 
 pub parent-fact : (t : Tree) (n up : ℕ) → IsTrue (is_live_directory t up) → IsTrue (is_live_directory t n) → n ≢ 1 → holder_of t n ≡ Some up → entry_of t n Parent ≡ Some (up, Dir)
 parent-fact t n up up_live live other held =
-    rw live (rw (other_test n 1 other) (ap (option_and_then (place_at t)) held ∙ ap (option_map (λ inode. (up, kind_of inode))) (is_directory_in (inode_of t up) up_live)))
+    rw live (rw (other_test n 1 other) (ap (option_and_then (target_at t)) held ∙ ap (option_map (λ inode. (up, kind_of inode))) (is_directory_in (inode_of t up) up_live)))
 
-pub entry-fact : (t : Tree) (d : ℕ) (name : List ℕ) (n : ℕ) (inode : Inode) → target_of t (record { directory = d; name = name }) ≡ Some n → inode_of t n ≡ Some inode → entry_of t d (Entry name) ≡ Some (n, kind_of inode)
-entry-fact t d name n inode e is = ap (option_and_then (place_at t)) e ∙ ap (option_map (λ inode. (n, kind_of inode))) is
+pub entry-fact : (t : Tree) (d : ℕ) (name : List ℕ) (n : ℕ) (inode : Inode) → entry_number t (record { directory = d; name = name }) ≡ Some n → inode_of t n ≡ Some inode → entry_of t d (Entry name) ≡ Some (n, kind_of inode)
+entry-fact t d name n inode e is = ap (option_and_then (target_at t)) e ∙ ap (option_map (λ inode. (n, kind_of inode))) is
 
 -- a name with no entry
-pub no_entry : (t : Tree) (d : ℕ) (name : List ℕ) → target_of t (record { directory = d; name = name }) ≡ None → entry_of t d (Entry name) ≡ None
-no_entry t d name e = ap (option_and_then (place_at t)) e
+pub no_entry : (t : Tree) (d : ℕ) (name : List ℕ) → entry_number t (record { directory = d; name = name }) ≡ None → entry_of t d (Entry name) ≡ None
+no_entry t d name e = ap (option_and_then (target_at t)) e
 
 pub tied : (d : ℕ) (name : List ℕ) → eq_by_cmp spot_cmp (record { directory = d; name = name }) (record { directory = d; name = name }) ≡ true
 tied d name = ap is_eq (tied_itself spots_total (record { directory = d; name = name }))
 
 -- by the two facts
-pub entries-differ : (t u : Tree) (key : Key) (d : ℕ) (label : Label) (before after : Option Place) → key ≡ record { number = d; label = label } → fact_at t (record { number = d; label = label }) ≡ (before, None)
+pub entries-differ : (t u : Tree) (key : Key) (d : ℕ) (label : Label) (before after : Option Target) → key ≡ record { number = d; label = label } → fact_at t (record { number = d; label = label }) ≡ (before, None)
     → fact_at u (record { number = d; label = label }) ≡ (after, None) → after ≢ before → fact_at u key ≢ fact_at t key
 entries-differ t u key d label before after is old new apart same =
-    apart (ap (λ (f : Option Place × Option (List ℕ)). f.0) (sym new ∙ sym (ap (fact_at u) is) ∙ same ∙ ap (fact_at t) is ∙ old))
+    apart (ap (λ (f : Option Target × Option (List ℕ)). f.0) (sym new ∙ sym (ap (fact_at u) is) ∙ same ∙ ap (fact_at t) is ∙ old))
 
 pub texts-differ : (t u : Tree) (key : Key) (n : ℕ) (before after : Option (List ℕ)) → key ≡ record { number = n; label = Text } → text_of t n ≡ before → text_of u n ≡ after → after ≢ before → fact_at u key ≢ fact_at t key
 texts-differ t u key n before after is old new apart same =
-    apart (sym new ∙ ap (λ (f : Option Place × Option (List ℕ)). f.1) (sym (ap (fact_at u) is) ∙ same ∙ ap (fact_at t) is) ∙ old)
+    apart (sym new ∙ ap (λ (f : Option Target × Option (List ℕ)). f.1) (sym (ap (fact_at u) is) ∙ same ∙ ap (fact_at t) is) ∙ old)

@@ -9,14 +9,14 @@ use Rattle.dc_names.specs.declared.kind.Kind.TheVariants.{Dir, File, Link}
 use Rattle.dc_names.proofs.Valid.{valid_parts}
 use Rattle.dc_plain.specs.declared.call.Follow.{Follow}
 use Rattle.dc_plain.specs.declared.call.Follow.TheVariants as follow
-use Rattle.dc_plain.specs.Facts.{Place}
+use Rattle.dc_plain.specs.Facts.{Target}
 use Rattle.dc_plain.specs.Facts.Label.{Parent}
 use Rattle.dc_plain.specs.Resolution.{Outcome, root, is_directory, resolve, settled_walk}
 use Rattle.dc_plain.specs.Resolution.Outcome.{Found, Refused}
 use Rattle.dc_plain.specs.Places.{Where, start, with_start, walk, last_part, front_of, placed_by, link_limit}
 use Rattle.dc_plain.specs.Places.Last.{Name, Root}
-use Rattle.dc_plain.specs.Refusals.{spot_on, place_on, path_or_fault, where_of, walk_on, ended}
-use Rattle.dc_plain.specs.Trees.{Tree, Inode, inode_of, place_at, kind_of, entry_of, told_of, is_live_directory, is_directory_inode, holder_of}
+use Rattle.dc_plain.specs.Refusals.{where_on, place_on, path_or_fault, where_of, walk_on, ended}
+use Rattle.dc_plain.specs.Trees.{Tree, Inode, inode_of, target_at, kind_of, entry_of, told_of, is_live_directory, is_directory_inode, holder_of}
 use Rattle.dc_plain.specs.Trees.Inode.{Directory, Regular, Symbolic}
 use Rattle.dc_plain.proofs.Live.{Stands_at, Ends, resolve_stands, root_stands, and_last}
 use Rattle.dc_plain.proofs.Made.{is_directory_in}
@@ -27,17 +27,17 @@ and_first true b e = refl
 and_first false b e = cc
 
 -- a place that stands as a directory is a live directory
-directory_by : (n : ℕ) (o : Option Inode) (q : Place) → option_map (λ inode. (n, kind_of inode)) o ≡ Some q → is_directory q ≡ true → is_directory_inode o ≡ true
+directory_by : (n : ℕ) (o : Option Inode) (q : Target) → option_map (λ inode. (n, kind_of inode)) o ≡ Some q → is_directory q ≡ true → is_directory_inode o ≡ true
 directory_by n None q e is = cc
 directory_by n (Some Directory) q e is = refl
 directory_by n (Some Regular) q e is = let same : (n, File) ≡ q = cc in ap is_directory same ∙ is
 directory_by n (Some (Symbolic text)) q e is = let same : (n, Link) ≡ q = cc in ap is_directory same ∙ is
 
-pub live_at : (t : Tree) (q : Place) → Stands_at t q → is_directory q ≡ true → IsTrue (is_live_directory t q.0)
+pub live_at : (t : Tree) (q : Target) → Stands_at t q → is_directory q ≡ true → IsTrue (is_live_directory t q.0)
 live_at t q stands is = directory_by q.0 (inode_of t q.0) q stands is
 
 -- where a path begins, a directory lives
-start_stands : (t : Tree) → inode_of t 1 ≡ Some Directory → (base : ℕ) (path : Path) (q : Place) → start (told_of t) base path ≡ Some (Some q) → Stands_at t q
+start_stands : (t : Tree) → inode_of t 1 ≡ Some Directory → (base : ℕ) (path : Path) (q : Target) → start (told_of t) base path ≡ Some (Some q) → Stands_at t q
 start_stands t is_root base path q e =
     elim (path.absolute || base == 1) as (λ b. cond b (Some (Some root)) (Some (option_map (λ up. (base, Dir)) (entry_of t base Parent))) ≡ Some (Some q) → Stands_at t q) [
       | true ↦ λ is. let same : root ≡ q = cc in subst (Stands_at t) same (root_stands t is_root)
@@ -45,18 +45,18 @@ start_stands t is_root base path q e =
     ] e
   where
     by_live : (b : Bool) → is_live_directory t base ≡ b
-        → Some (option_map (λ (up : Place). (base, Dir)) (cond (not b) None (cond (base == 1) (Some root) (option_and_then (place_at t) (holder_of t base))))) ≡ Some (Some q) → Stands_at t q
+        → Some (option_map (λ (up : Target). (base, Dir)) (cond (not b) None (cond (base == 1) (Some root) (option_and_then (target_at t) (holder_of t base))))) ≡ Some (Some q) → Stands_at t q
     by_live false live is = cc
     by_live true live is =
-        elim (cond (base == 1) (Some root) (option_and_then (place_at t) (holder_of t base))) as (λ o. Some (option_map (λ (up : Place). (base, Dir)) o) ≡ Some (Some q) → Stands_at t q) [
+        elim (cond (base == 1) (Some root) (option_and_then (target_at t) (holder_of t base))) as (λ o. Some (option_map (λ (up : Target). (base, Dir)) o) ≡ Some (Some q) → Stands_at t q) [
           | None ↦ λ is. cc
           | Some up ↦ λ is. let same : (base, Dir) ≡ q = cc in subst (Stands_at t) same (rw (is_directory_in (inode_of t base) live) refl)
         ] is
 
-front_stands : (t : Tree) → inode_of t 1 ≡ Some Directory → (base : ℕ) (path : Path) (q : Place) → front_of (told_of t) base path ≡ Some (Found q) → Ends t follow.Dir q
+front_stands : (t : Tree) → inode_of t 1 ≡ Some Directory → (base : ℕ) (path : Path) (q : Target) → front_of (told_of t) base path ≡ Some (Found q) → Ends t follow.Dir q
 front_stands t is_root base path q e = by_start (start (told_of t) base path) refl e
   where
-    by_start : (o : Option (Option Place)) → start (told_of t) base path ≡ o
+    by_start : (o : Option (Option Target)) → start (told_of t) base path ≡ o
         → with_start o (λ place. resolve (told_of t) follow.Dir link_limit place (take (length path.parts - 1) path.parts) false) ≡ Some (Found q) → Ends t follow.Dir q
     by_start None is e' = cc
     by_start (Some None) is e' = absurd cc
@@ -76,20 +76,20 @@ place_live t base path at is_root e =
         let same : q.0 ≡ at.directory = cc in
         subst (λ d. IsTrue (is_live_directory t d)) same (live_at t q ends.0 (ends.1 refl))
 
-pub spot_live : (t : Tree) (base : ℕ) (text : List ℕ) (at : Where) → inode_of t 1 ≡ Some Directory → spot_on t base text ≡ Ok at → IsTrue (is_live_directory t at.directory)
+pub spot_live : (t : Tree) (base : ℕ) (text : List ℕ) (at : Where) → inode_of t 1 ≡ Some Directory → where_on t base text ≡ Ok at → IsTrue (is_live_directory t at.directory)
 spot_live t base text at is_root e = after (path_or_fault text) _ at e (λ path good is. place_live t base path at is_root is)
 
 -- where a text leads, something lives
-found_by : (o : Option Outcome) (q : Place) → ended (settled_walk o) ≡ Ok q → o ≡ Some (Found q)
+found_by : (o : Option Outcome) (q : Target) → ended (settled_walk o) ≡ Ok q → o ≡ Some (Found q)
 found_by None q e = absurd cc
 found_by (Some (Found p)) q e = cc
 found_by (Some (Refused number)) q e = absurd cc
 
-pub walk_stands : (t : Tree) → inode_of t 1 ≡ Some Directory → (base : ℕ) (text : List ℕ) (how : Follow) (q : Place) → walk_on t base text how ≡ Ok q → place_at t q.0 ≡ Some q
+pub walk_stands : (t : Tree) → inode_of t 1 ≡ Some Directory → (base : ℕ) (text : List ℕ) (how : Follow) (q : Target) → walk_on t base text how ≡ Ok q → target_at t q.0 ≡ Some q
 walk_stands t is_root base text how q e = after (path_or_fault text) _ q e (λ path good is. by_start path (start (told_of t) base path) refl (found_by (walk (told_of t) base path how) q is))
   where
-    by_start : (path : Path) (o : Option (Option Place)) → start (told_of t) base path ≡ o
-        → with_start o (λ place. resolve (told_of t) how link_limit place path.parts path.slash) ≡ Some (Found q) → place_at t q.0 ≡ Some q
+    by_start : (path : Path) (o : Option (Option Target)) → start (told_of t) base path ≡ o
+        → with_start o (λ place. resolve (told_of t) how link_limit place path.parts path.slash) ≡ Some (Found q) → target_at t q.0 ≡ Some q
     by_start path None is e' = cc
     by_start path (Some None) is e' = absurd cc
     by_start path (Some (Some p)) is e' = (resolve_stands t is_root how link_limit p path.parts path.slash q (start_stands t is_root base path p is) e').0
@@ -155,5 +155,5 @@ path_named t base text path at name good e is =
     let whole : AllByRecursion Is_part path.parts = subst (λ (p : Path). AllByRecursion Is_part p.parts) parsed.1 all in
     named_by (slice_get path.parts (length path.parts - 1)) path.slash (front_of (told_of t) base path) at name (λ part. All-get Is_part path.parts (length path.parts - 1) part whole) e is
 
-pub spot_named : (t : Tree) (base : ℕ) (text : List ℕ) (at : Where) (name : List ℕ) → spot_on t base text ≡ Ok at → at.last ≡ Name name → IsTrue (is_name name)
+pub spot_named : (t : Tree) (base : ℕ) (text : List ℕ) (at : Where) (name : List ℕ) → where_on t base text ≡ Ok at → at.last ≡ Name name → IsTrue (is_name name)
 spot_named t base text at name e is = after (path_or_fault text) _ at e (λ path good placed. path_named t base text path at name good placed is)

@@ -2,7 +2,7 @@
 use Rattle.std.specs.Prelude.{ℕ, ◌+◌, List, ◌==◌, Option, Some, None, if◌then◌else◌}
 use Rattle.std.specs.Ordering.{nat_cmp}
 use Rattle.std.specs.FinMap.Entries.{put}
-use Rattle.dc_plain.specs.Facts.{Place}
+use Rattle.dc_plain.specs.Facts.{Target}
 use Rattle.dc_plain.specs.Trees.{Tree, Inode, spot_cmp, without_spot, without_number, names_of}
 
 -- with an entry more, or with another target of it
@@ -28,6 +28,6 @@ abbrev pub without_entry_alone : Tree → ℕ → List ℕ → Tree
 without_entry_alone t d name = record t { entries = without_spot (record { directory = d; name = name }) t.entries }
 
 -- without what stood there
-abbrev pub without_there : Tree → ℕ → List ℕ → Option Place → Tree
+abbrev pub without_there : Tree → ℕ → List ℕ → Option Target → Tree
 without_there t d name None = t
 without_there t d name (Some place) = without_entry t d name place.0

@@ -1,7 +1,7 @@
 -- What each call answers on a tree, and the tree that it leaves.
 use Rattle.std.specs.Prelude.{ℕ, zero, suc, List, Bool, true, false, not, ◌==◌, ◌&&◌, ◌||◌, nat_le, length, Option, Some, None, is_some, if◌then◌else◌, Result, Ok, Err}
 use Rattle.dc_names.specs.Bytes.{is_empty}
-use Rattle.dc_plain.specs.Facts.{Place}
+use Rattle.dc_plain.specs.Facts.{Target}
 use Rattle.dc_plain.specs.Facts.Label.{Entry}
 use Rattle.dc_plain.specs.Resolution.{is_directory}
 use Rattle.dc_plain.specs.Trees.{Tree, Inode, entry_of, names_of, names_in, holder_of, if_held}
@@ -9,7 +9,7 @@ use Rattle.dc_plain.specs.Trees.Inode.{Directory, Regular, Symbolic}
 use Rattle.dc_plain.specs.Requests.{Request, Answer}
 use Rattle.dc_plain.specs.Requests.Request.{Look, Readlink, Stat, List_names, Mkdir, Create, Hard_link, Symlink, Unlink, Rmdir, Rename}
 use Rattle.dc_plain.specs.Requests.Answer.{Done, Nothing, Refused}
-use Rattle.dc_plain.specs.Refusals.{◌>>=◌, refuse, path_or_fault, place_on, spot_on, name_or, name_or_each, present, is_full}
+use Rattle.dc_plain.specs.Refusals.{◌>>=◌, refuse, path_or_fault, place_on, where_on, name_or, name_or_each, present, is_full}
 use Rattle.dc_plain.specs.Reads.{look, readlink, stat, list_names}
 use Rattle.dc_plain.specs.Effects.{with_new, with_entry_for, without_entry, without_entry_alone, without_there}
 
@@ -20,7 +20,7 @@ Change = Result (Answer × Tree) ℕ
 -- a new inode of this kind, with its entry (mkdir, mknod, symlink)
 abbrev pub make : ℕ → Tree → ℕ → List ℕ → Bool → Inode → Change
 make limit t base text may_end_in_slash inode = do
-  at ← spot_on t base text
+  at ← where_on t base text
   name ← name_or 17 at.last
   free ← refuse (is_some (entry_of t at.directory (Entry name))) 17
   ends ← refuse (at.slash && not may_end_in_slash) 2
@@ -47,7 +47,7 @@ link t base old new = do
 -- a name that is no directory's goes
 abbrev pub unlink : Tree → ℕ → List ℕ → Change
 unlink t base text = do
-  at ← spot_on t base text
+  at ← where_on t base text
   name ← name_or 1 at.last
   inode ← present 2 (entry_of t at.directory (Entry name))
   no_directory ← refuse (is_directory inode) 1
@@ -57,7 +57,7 @@ unlink t base text = do
 -- an empty directory goes
 abbrev pub rmdir : Tree → ℕ → List ℕ → Change
 rmdir t base text = do
-  at ← spot_on t base text
+  at ← where_on t base text
   name ← name_or_each 16 22 39 at.last
   inode ← present 2 (entry_of t at.directory (Entry name))
   directory ← refuse (not (is_directory inode)) 20
@@ -70,14 +70,14 @@ is_beneath zero t d n = true
 is_beneath (suc steps) t d n = d == n || not (d == 1) && if_held (holder_of t d) (λ up. is_beneath steps t up n)
 
 -- what may stand at the new name
-abbrev pub replaceable : Tree → Place → Option Place → Result Bool ℕ
+abbrev pub replaceable : Tree → Target → Option Target → Result Bool ℕ
 replaceable t moved None = Ok true
 replaceable t moved (Some there) =
     if is_directory moved then (if not (is_directory there) then Err 20 else refuse (not (is_empty (names_in t there.0))) 39)
     else refuse (is_directory there) 21
 
 -- whether both names lead to one inode
-abbrev pub same_inode : Place → Option Place → Bool
+abbrev pub same_inode : Target → Option Target → Bool
 same_inode moved None = false
 same_inode moved (Some there) = moved.0 == there.0
 

@@ -5,7 +5,7 @@ use Rattle.dc_names.specs.Paths.Part.{Name as PartName, Dot as PartDot, DotDot a
 use Rattle.dc_names.specs.declared.kind.Kind.TheVariants.{Dir}
 use Rattle.dc_plain.specs.declared.call.Follow.{Follow}
 use Rattle.dc_plain.specs.declared.call.Follow.TheVariants as follow
-use Rattle.dc_plain.specs.Facts.{Place, Teller}
+use Rattle.dc_plain.specs.Facts.{Target, Teller}
 use Rattle.dc_plain.specs.Facts.Label.{Parent}
 use Rattle.dc_plain.specs.Resolution.{Outcome, root, resolve}
 use Rattle.dc_plain.specs.Resolution.Outcome.{Found, Refused}
@@ -15,12 +15,12 @@ abbrev pub link_limit : ℕ
 link_limit = 8
 
 -- where a path begins: `None` where that isn't told, `Some None` where no such directory is
-abbrev pub start : Teller → ℕ → Path → Option (Option Place)
+abbrev pub start : Teller → ℕ → Path → Option (Option Target)
 start teller base path =
     if path.absolute || base == 1 then Some (Some root)
     else option_map (option_map (λ up. (base, Dir))) (teller.entry base Parent)
 
-abbrev pub with_start : Option (Option Place) → (Place → Option Outcome) → Option Outcome
+abbrev pub with_start : Option (Option Target) → (Target → Option Outcome) → Option Outcome
 with_start None go = None
 with_start (Some None) go = Some (Refused 2)
 with_start (Some (Some place)) go = go place

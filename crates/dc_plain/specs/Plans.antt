@@ -7,8 +7,8 @@ use Rattle.dc_plain.specs.declared.plan.Change.TheVariants as changes
 use Rattle.dc_plain.specs.declared.plan.Spot as rust_spot
 use Rattle.dc_plain.specs.declared.plan.Plan as rust_plan
 use Rattle.dc_plain.specs.declared.plan.Plan.TheVariants as plans
-use Rattle.dc_plain.specs.Facts.{Place}
-use Rattle.dc_plain.specs.Trees.{Tree, Spot, Inode, target_of}
+use Rattle.dc_plain.specs.Facts.{Target}
+use Rattle.dc_plain.specs.Trees.{Tree, Spot, Inode, entry_number}
 use Rattle.dc_plain.specs.Trees.Inode.{Directory, Regular, Symbolic}
 use Rattle.dc_plain.specs.Requests.{Request, Answer, answer_of}
 use Rattle.dc_plain.specs.Requests.Answer.{Done, Nothing}
@@ -24,11 +24,11 @@ abbrev pub spot_shown : rust_spot.Spot → Spot
 spot_shown s = record { directory = s.directory; name = s.name.bytes.now }
 
 -- without what stood at the new name, and without the old name
-abbrev pub without_moved : Tree → Spot → Spot → Option Place → Tree
+abbrev pub without_moved : Tree → Spot → Spot → Option Target → Tree
 without_moved t from to there = without_entry_alone (without_there t to.directory to.name there) from.directory from.name
 
 -- and with the inode at the new name
-abbrev pub with_moved : Tree → Place → Spot → Spot → Option Place → Tree
+abbrev pub with_moved : Tree → Target → Spot → Spot → Option Target → Tree
 with_moved t moved from to there = with_entry_for (without_moved t from to there) to.directory to.name moved.0
 
 -- what a change answers, and the tree that it makes
@@ -43,16 +43,16 @@ planned t (plans.Answer reply) = (answer_of reply, t)
 planned t (plans.Change change) = changed t change
 
 -- where an entry was found to lead
-abbrev pub LeadsTo : Tree → ℕ → List ℕ → Option Place → Type 0
+abbrev pub LeadsTo : Tree → ℕ → List ℕ → Option Target → Type 0
 LeadsTo t d name there =
-    let target = target_of t (record { directory = d; name = name }) in
+    let target = entry_number t (record { directory = d; name = name }) in
     MatchOption there (target ≡ None) (λ place. target ≡ Some place.0)
 
 -- where the names of a change lead before it
 abbrev pub HasSpots : Tree → rust_change.Change → Type 0
-HasSpots t (changes.Make spot new) = target_of t (spot_shown spot) ≡ None
-HasSpots t (changes.Link spot number) = target_of t (spot_shown spot) ≡ None
-HasSpots t (changes.Drop spot number) = target_of t (spot_shown spot) ≡ Some number
+HasSpots t (changes.Make spot new) = entry_number t (spot_shown spot) ≡ None
+HasSpots t (changes.Link spot number) = entry_number t (spot_shown spot) ≡ None
+HasSpots t (changes.Drop spot number) = entry_number t (spot_shown spot) ≡ Some number
 HasSpots t (changes.Move moved from to there) = LeadsTo t to.directory to.name.bytes.now there × (same_inode moved there ≡ false)
 
 abbrev pub HasSpotsIfChange : Tree → rust_plan.Plan → Type 0

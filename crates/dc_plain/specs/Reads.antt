@@ -2,7 +2,7 @@
 use Rattle.std.specs.Prelude.{ℕ, List, length, Some, None, if◌then◌else◌, Result, Ok, Err}
 use Rattle.dc_plain.specs.declared.call.Follow.{Follow}
 use Rattle.dc_plain.specs.declared.call.Follow.TheVariants as follow
-use Rattle.dc_plain.specs.Facts.{Place}
+use Rattle.dc_plain.specs.Facts.{Target}
 use Rattle.dc_plain.specs.Resolution.{is_directory}
 use Rattle.dc_plain.specs.Trees.{Tree, text_of, names_of, names_in}
 use Rattle.dc_plain.specs.Requests.{Answer}
@@ -22,7 +22,7 @@ readlink t base text = do
   elim (text_of t place.0) [ None ↦ Err 22 | Some bytes ↦ Ok (Bytes bytes) ]
 
 -- how many names an inode has, or how many entries as a directory
-abbrev pub count_at : Tree → Place → ℕ
+abbrev pub count_at : Tree → Target → ℕ
 count_at t place = if is_directory place then length (names_in t place.0) else names_of t place.0
 
 -- the inode with its count (stat)

@@ -2,7 +2,7 @@
 use Rattle.std.specs.Prelude.{ℕ, ◌^◌, List, Bool, true, false, ◌==◌, ◌||◌, nat_le, length, Option, Some, None, Result, Ok, Err}
 use Rattle.dc_names.specs.Paths.{Path, path_of, fault_number}
 use Rattle.dc_plain.specs.declared.call.Follow.{Follow}
-use Rattle.dc_plain.specs.Facts.{Place}
+use Rattle.dc_plain.specs.Facts.{Target}
 use Rattle.dc_plain.specs.Resolution.{Outcome, settled_walk}
 use Rattle.dc_plain.specs.Resolution.Outcome.{Found, Refused}
 use Rattle.dc_plain.specs.Places.{Last, Where, Placed, walk, place}
@@ -26,12 +26,12 @@ abbrev pub path_or_fault : List ℕ → Result Path ℕ
 path_or_fault text = elim (path_of text) [ Ok path ↦ Ok path | Err fault ↦ Err (fault_number fault) ]
 
 -- what a resolution found, or the number of its refusal
-abbrev pub ended : Outcome → Result Place ℕ
+abbrev pub ended : Outcome → Result Target ℕ
 ended (Found place) = Ok place
 ended (Refused number) = Err number
 
 -- where a text leads, or the number of its refusal
-abbrev pub walk_on : Tree → ℕ → List ℕ → Follow → Result Place ℕ
+abbrev pub walk_on : Tree → ℕ → List ℕ → Follow → Result Target ℕ
 walk_on t base text how = path_or_fault text >>= λ path. ended (settled_walk (walk (told_of t) base path how))
 
 -- where the last part of a path is to be looked up. A tree answers every question, so `None` doesn't come
@@ -45,8 +45,8 @@ abbrev pub place_on : Tree → ℕ → Path → Result Where ℕ
 place_on t base path = where_of (place (told_of t) base path)
 
 -- the same for a text
-abbrev pub spot_on : Tree → ℕ → List ℕ → Result Where ℕ
-spot_on t base text = do
+abbrev pub where_on : Tree → ℕ → List ℕ → Result Where ℕ
+where_on t base text = do
   path ← path_or_fault text
   place_on t base path
 
@@ -65,7 +65,7 @@ name_or_each at_root at_dot at_dot_dot DotDot = Err at_dot_dot
 name_or_each at_root at_dot at_dot_dot (Name name) = Ok name
 
 -- what is there, or else this refusal
-abbrev pub present : ℕ → Option Place → Result Place ℕ
+abbrev pub present : ℕ → Option Target → Result Target ℕ
 present number None = Err number
 present number (Some place) = Ok place
 

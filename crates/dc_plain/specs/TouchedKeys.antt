@@ -2,11 +2,11 @@
 use Rattle.std.specs.Prelude.{ℕ, List, [], ◌∷◌, ◌++◌, Bool, false, not, ◌==◌, ◌&&◌, Option, Some, None, Result, Ok, Err, if◌then◌else◌}
 use Rattle.dc_plain.specs.Facts.{Key}
 use Rattle.dc_plain.specs.Facts.Label.{Entry, Parent, Text}
-use Rattle.dc_plain.specs.Trees.{Tree, Inode, inode_of, target_of, names_of, is_live_directory}
+use Rattle.dc_plain.specs.Trees.{Tree, Inode, inode_of, entry_number, names_of, is_live_directory}
 use Rattle.dc_plain.specs.Trees.Inode.{Directory, Regular, Symbolic}
 use Rattle.dc_plain.specs.Places.{Where, Last}
 use Rattle.dc_plain.specs.Places.Last.{Root, Dot, DotDot, Name}
-use Rattle.dc_plain.specs.Refusals.{spot_on}
+use Rattle.dc_plain.specs.Refusals.{where_on}
 use Rattle.dc_plain.specs.Requests.{Request}
 use Rattle.dc_plain.specs.Requests.Request.{Look, Readlink, Stat, List_names, Mkdir, Create, Hard_link, Symlink, Unlink, Rmdir, Rename}
 use Rattle.dc_plain.specs.Operations.{Change, change_of}
@@ -35,27 +35,27 @@ abbrev pub keys_gone : Tree → ℕ → List Key
 keys_gone t n = if names_of t n == 1 then keys_at n (inode_of t n) else []
 
 -- of the inode of an entry, if it is there
-abbrev pub with_target : Option ℕ → (ℕ → List Key) → List Key
-with_target None keys = []
-with_target (Some n) keys = keys n
+abbrev pub with_number : Option ℕ → (ℕ → List Key) → List Key
+with_number None keys = []
+with_number (Some n) keys = keys n
 
 abbrev pub keys_taken : Tree → ℕ → List ℕ → List Key
-keys_taken t d name = with_target (target_of t (record { directory = d; name = name })) (keys_gone t)
+keys_taken t d name = with_number (entry_number t (record { directory = d; name = name })) (keys_gone t)
 
 -- the dot-dot of a directory that gets another parent
 abbrev pub keys_moved : Tree → ℕ → ℕ → ℕ → List Key
 keys_moved t from to n = if is_live_directory t n && not (from == to) then parent_key n ∷ [] else []
 
-abbrev pub same_target : Option ℕ → Option ℕ → Bool
-same_target (Some m) (Some n) = m == n
-same_target _ _ = false
+abbrev pub lead_to_one : Option ℕ → Option ℕ → Bool
+lead_to_one (Some m) (Some n) = m == n
+lead_to_one _ _ = false
 
 -- both names, the moved directory's dot-dot, and what goes
 abbrev pub keys_renamed : Tree → ℕ → List ℕ → ℕ → List ℕ → List Key
 keys_renamed t from old to new =
-    if same_target (target_of t (record { directory = from; name = old })) (target_of t (record { directory = to; name = new })) then []
+    if lead_to_one (entry_number t (record { directory = from; name = old })) (entry_number t (record { directory = to; name = new })) then []
     else entry_key from old ∷ entry_key to new
-    ∷ with_target (target_of t (record { directory = from; name = old })) (keys_moved t from to) ++ keys_taken t to new
+    ∷ with_number (entry_number t (record { directory = from; name = old })) (keys_moved t from to) ++ keys_taken t to new
 
 -- by the directory and the name in which a path ends
 abbrev pub by_last : Last → (List ℕ → List Key) → List Key
@@ -69,7 +69,7 @@ by_place (Ok at) keys = by_last at.last (keys at.directory)
 by_place (Err number) keys = []
 
 abbrev pub at_name : Tree → ℕ → List ℕ → (ℕ → List ℕ → List Key) → List Key
-at_name t base text keys = by_place (spot_on t base text) keys
+at_name t base text keys = by_place (where_on t base text) keys
 
 -- by the request, where it is not refused
 abbrev pub listed : Tree → Request → List Key

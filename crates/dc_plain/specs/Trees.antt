@@ -7,7 +7,7 @@ use Rattle.std.specs.FinMap.Entries.{where_key}
 use Rattle.std.specs.FinMap.Entries.{find as lookup}
 use Rattle.dc_names.specs.declared.kind.Kind.{Kind}
 use Rattle.dc_names.specs.declared.kind.Kind.TheVariants.{Dir, File, Link}
-use Rattle.dc_plain.specs.Facts.{Place, Label, Teller, Fact, Key}
+use Rattle.dc_plain.specs.Facts.{Target, Label, Teller, Fact, Key}
 use Rattle.dc_plain.specs.Facts.Label.{Entry, Parent, Text}
 use Rattle.dc_plain.specs.Facts.Fact.{Leads, Reads}
 use Rattle.dc_plain.specs.Resolution.{root}
@@ -38,8 +38,8 @@ pub record Tree : Type 0 where
   pub inodes : List (ℕ × Inode)
   pub next : ℕ
 
-abbrev pub target_of : Tree → Spot → Option ℕ
-target_of t spot = lookup spot_cmp spot t.entries
+abbrev pub entry_number : Tree → Spot → Option ℕ
+entry_number t spot = lookup spot_cmp spot t.entries
 
 abbrev pub inode_of : Tree → ℕ → Option Inode
 inode_of t n = lookup nat_cmp n t.inodes
@@ -55,8 +55,8 @@ abbrev pub empty_tree : Tree
 empty_tree = record { entries = []; inodes = (1, Directory) ∷ []; next = 2 }
 
 -- the inode of a number, with its kind
-abbrev pub place_at : Tree → ℕ → Option Place
-place_at t n = option_map (λ inode. (n, kind_of inode)) (inode_of t n)
+abbrev pub target_at : Tree → ℕ → Option Target
+target_at t n = option_map (λ inode. (n, kind_of inode)) (inode_of t n)
 
 abbrev pub is_directory_inode : Option Inode → Bool
 is_directory_inode None = false
@@ -72,12 +72,12 @@ abbrev pub holder_of : Tree → ℕ → Option ℕ
 holder_of t n = option_map (λ e. e.0.directory) (find (λ e. e.1 == n) t.entries)
 
 -- where an entry or a dot-dot leads
-abbrev pub entry_of : Tree → ℕ → Label → Option Place
-entry_of t d (Entry name) = option_and_then (place_at t) (target_of t (record { directory = d; name = name }))
+abbrev pub entry_of : Tree → ℕ → Label → Option Target
+entry_of t d (Entry name) = option_and_then (target_at t) (entry_number t (record { directory = d; name = name }))
 entry_of t d Parent =
     if not (is_live_directory t d) then None
     else if d == 1 then Some root
-    else option_and_then (place_at t) (holder_of t d)
+    else option_and_then (target_at t) (holder_of t d)
 entry_of t d Text = None
 
 abbrev pub text_in : Inode → Option (List ℕ)
@@ -101,12 +101,12 @@ Holds t (Leads d Text target) = ⊥
 Holds t (Reads n text) = text_of t n ≡ Some text
 
 -- what the tree says of a number under a label: where it leads, and for a link's key its text
-abbrev pub fact_of : Tree → ℕ → Label → Option Place × Option (List ℕ)
+abbrev pub fact_of : Tree → ℕ → Label → Option Target × Option (List ℕ)
 fact_of t n (Entry name) = (entry_of t n (Entry name), None)
 fact_of t n Parent = (entry_of t n Parent, None)
 fact_of t n Text = (None, text_of t n)
 
-abbrev pub fact_at : Tree → Key → Option Place × Option (List ℕ)
+abbrev pub fact_at : Tree → Key → Option Target × Option (List ℕ)
 fact_at t key = fact_of t key.number key.label
 
 -- how many items pass a test

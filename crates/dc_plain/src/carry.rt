@@ -6,7 +6,7 @@ ghost use Rattle.dc_plain.specs.Requests.{answer_of};
 
 use crate::counts::leading_to;
 use crate::plan::{Change, New, Spot};
-use crate::resolve::Place;
+use crate::resolve::Target;
 use crate::rows::{Entry, Inode, Node, insert_entry, insert_inode, remove_entry, remove_inode};
 use crate::{PlainTree, Reply};
 use dc_names::NoMemory;
@@ -107,10 +107,10 @@ impl PlainTree {
     fn relocate(
         &mut self,
         alloc: Global,
-        moved: Place,
+        moved: Target,
         from: Spot,
         to: Spot,
-        there: Option<Place>,
+        there: Option<Target>,
     ) -> Result<(), NoMemory>
         requires made { IsMade self.old.limit self.old.tree
             (changed self.old.tree (Change.Move moved from to there)) }
@@ -148,7 +148,7 @@ fn make_way(
     inodes: &mut Vec<Inode>,
     from: Spot,
     to: Spot,
-    there: Option<Place>,
+    there: Option<Target>,
 )
     ensures rows { (next : ℕ) → tree_in entries.new.items inodes.new.items next
         ≡ without_moved (tree_in entries.old.items inodes.old.items next)

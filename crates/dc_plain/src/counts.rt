@@ -7,7 +7,7 @@ ghost use Rattle.dc_plain.specs.Plain.{entry_shown};
 ghost use Rattle.dc_plain.specs.Trees.{how_many, names_in as names_within, names_of as names_of_inode};
 
 use crate::PlainTree;
-use crate::resolve::{Place, is_directory};
+use crate::resolve::{Target, is_directory};
 use crate::rows::Entry;
 use dc_names::NoMemory;
 use std::alloc::Global;
@@ -64,7 +64,7 @@ impl PlainTree {
     }
 
     /// How many names an inode has, or how many entries as a directory.
-    pub(crate) fn count_at(&self, place: Place) -> u64
+    pub(crate) fn count_at(&self, place: Target) -> u64
         ensures { result ≡ count_at self.now.tree place }
     {
         if is_directory(place) {

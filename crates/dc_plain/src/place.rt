@@ -3,14 +3,14 @@ ghost use Rattle.dc_names.specs.Paths.{path_in};
 ghost use Rattle.dc_plain.specs.LastParts.{last_shown, at_shown};
 ghost use Rattle.dc_plain.specs.Places.{start, front_of};
 ghost use Rattle.dc_plain.specs.Plans.{spot_shown};
-ghost use Rattle.dc_plain.specs.Refusals.{walk_on, path_or_fault, ended, place_on, spot_on, name_or, name_or_each};
+ghost use Rattle.dc_plain.specs.Refusals.{walk_on, path_or_fault, ended, place_on, where_on, name_or, name_or_each};
 ghost use Rattle.dc_plain.specs.Resolution.{settled_walk};
 ghost use Rattle.dc_plain.specs.Walks.{walked_shown};
 ghost use Rattle.dc_plain.specs.Stops.{Finds};
 ghost use Rattle.dc_plain.specs.Trees.{told_of};
 
 use crate::plan::Spot;
-use crate::resolve::{Place, ROOT, Walked, parts_in, resolve};
+use crate::resolve::{ROOT, Target, Walked, parts_in, resolve};
 use crate::stop::Stop;
 use crate::{Follow, PlainTree};
 use dc_names::{Kind, Name, Part, PathText, parse};
@@ -79,7 +79,7 @@ pub(crate) fn checked(path: &[u8]) -> Result<PathText<'_>, Stop>
 
 impl PlainTree {
     /// Where a path begins.
-    fn start(&self, base: u64, path: PathText) -> Option<Place>
+    fn start(&self, base: u64, path: PathText) -> Option<Target>
         ensures { Some result ≡ start (told_of self.now.tree) base (path_in path.entry.bytes.now) }
     {
         if path.is_absolute() || base == 1 {
@@ -96,7 +96,7 @@ impl PlainTree {
         base: u64,
         path: &[u8],
         follow: Follow,
-    ) -> Result<Place, Stop>
+    ) -> Result<Target, Stop>
         ensures { Finds result (λ place. place) (walk_on self.now.tree base path.now follow) }
     {
         let path = checked(path)?;
@@ -108,7 +108,7 @@ impl PlainTree {
     }
 
     /// Where all parts of a path but the last lead.
-    fn front<'a>(&'a self, alloc: Global, base: u64, path: PathText<'a>) -> Result<Place, Stop>
+    fn front<'a>(&'a self, alloc: Global, base: u64, path: PathText<'a>) -> Result<Target, Stop>
         ensures { Finds result (λ place. place) (ended (settled_walk
             (front_of (told_of self.now.tree) base (path_in path.entry.bytes.now)))) }
     {
@@ -148,14 +148,14 @@ impl PlainTree {
 
     /// The same for the bytes of a path.
     pub(crate) fn spot<'p>(&self, alloc: Global, base: u64, path: &'p [u8]) -> Result<At<'p>, Stop>
-        ensures { Finds result at_shown (spot_on self.now.tree base path.now) }
+        ensures { Finds result at_shown (where_on self.now.tree base path.now) }
     {
         self.place(alloc, base, checked(path)?)
     }
 }
 
 /// The place that a walk found, or its refusal.
-fn found(walked: Walked) -> Result<Place, Stop>
+fn found(walked: Walked) -> Result<Target, Stop>
     ensures { Finds result (λ place. place) (ended (walked_shown walked)) }
 {
     match walked {

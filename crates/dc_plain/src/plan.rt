@@ -4,7 +4,7 @@ ghost use Rattle.dc_plain.specs.Plans.{planned, HasSpotsIfChange};
 ghost use Rattle.dc_plain.specs.Requests.{request_of};
 ghost use Rattle.dc_plain.specs.Stops.{Finds};
 
-use crate::resolve::Place;
+use crate::resolve::Target;
 use crate::stop::Stop;
 use crate::{Call, PlainTree, Reply};
 use dc_names::{Name, PathText};
@@ -36,10 +36,10 @@ pub(crate) enum Change<'a> {
     Drop(Spot<'a>, u64),
     /// An inode gets another name in place of one of its names, and of what stands there.
     Move {
-        moved: Place,
+        moved: Target,
         from: Spot<'a>,
         to: Spot<'a>,
-        there: Option<Place>,
+        there: Option<Target>,
     },
 }
 

@@ -7,7 +7,7 @@ ghost use Rattle.dc_plain.specs.Stops.{Finds};
 
 use crate::place::checked;
 use crate::plan::{Change, Plan};
-use crate::resolve::{Place, is_directory};
+use crate::resolve::{Target, is_directory};
 use crate::stop::{Stop, present, refuse};
 use crate::{PlainTree, Reply};
 use std::alloc::Global;
@@ -75,7 +75,7 @@ impl PlainTree {
     }
 
     /// Tests what stands at the new name.
-    fn replaceable(&self, moved: Place, there: Option<Place>) -> Result<(), Stop>
+    fn replaceable(&self, moved: Target, there: Option<Target>) -> Result<(), Stop>
         ensures { Finds result (λ _. true) (replaceable self.now.tree moved there) }
     {
         let Some(there) = there else {
@@ -90,7 +90,7 @@ impl PlainTree {
 }
 
 /// Whether both names lead to one inode.
-fn same_inode(moved: Place, there: Option<Place>) -> bool
+fn same_inode(moved: Target, there: Option<Target>) -> bool
     ensures { result ≡ same_inode moved there }
 {
     there.is_some_and(|there| moved.0 == there.0)

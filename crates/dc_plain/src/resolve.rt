@@ -1,7 +1,7 @@
 ghost use Rattle.std.specs.Prelude.{◌≡◌, ℕ, List, Bool, Option, Some, map, not, ◌&&◌, ◌||◌, if◌then◌else◌, ◌++◌, IfOk, OnOk};
 ghost use Rattle.dc_names.specs.Names.{part_shown};
 ghost use Rattle.dc_names.specs.Paths.{Part as SpecPart, parts_of, has_end_slash, begins_with_slash};
-ghost use Rattle.dc_plain.specs.Facts.{Place as SpecPlace};
+ghost use Rattle.dc_plain.specs.Facts.{Target as SpecTarget};
 ghost use Rattle.dc_plain.specs.Resolution.{root, Outcome, resolve, settled_walk, over_parts, at_part, met_by, is_directory, keeps_link, wants_directory, ending};
 ghost use Rattle.dc_plain.specs.Trees.{told_of};
 ghost use Rattle.dc_plain.specs.Walks.{met_shown, outcome_of, stacked, walked_shown};
@@ -11,20 +11,20 @@ use dc_names::{Kind, NoMemory, Part, PathText};
 use std::alloc::Global;
 
 /// An inode with its kind.
-pub type Place = (u64, Kind);
+pub type Target = (u64, Kind);
 
-pub const ROOT: Place = (1, Kind::Dir);
+pub const ROOT: Target = (1, Kind::Dir);
 
 /// Where a walk ends.
 pub(crate) enum Walked {
-    Found(Place),
+    Found(Target),
     Refused(u64),
 }
 
 /// A walk over parts, up to its end or a link that must be followed.
 enum Step {
     Ended(Walked),
-    AtLink(Place, u64),
+    AtLink(Target, u64),
 }
 
 fn keeps_link(follow: Follow) -> bool
@@ -41,12 +41,12 @@ fn wants_directory(follow: Follow) -> bool
 
 /// What a part leads to.
 enum Reached {
-    Goes(Place),
+    Goes(Target),
     Stops(u64),
-    Meets(Place),
+    Meets(Target),
 }
 
-fn on_to(there: Option<Place>) -> Reached
+fn on_to(there: Option<Target>) -> Reached
     ensures { Some (met_shown result) ≡ met_by (Some (there)) }
 {
     let Some(spot) = there else {
@@ -59,7 +59,7 @@ fn on_to(there: Option<Place>) -> Reached
 }
 
 /// From a place, one part on.
-fn at_part(tree: &PlainTree, place: Place, part: Part) -> Reached
+fn at_part(tree: &PlainTree, place: Target, part: Part) -> Reached
     ensures { Some (met_shown result)
         ≡ at_part (told_of tree.now.tree) place (part_shown part.entry) }
 {
@@ -74,14 +74,14 @@ fn at_part(tree: &PlainTree, place: Place, part: Part) -> Reached
     }
 }
 
-pub(crate) fn is_directory(place: Place) -> bool
+pub(crate) fn is_directory(place: Target) -> bool
     ensures { result ≡ is_directory place }
 {
     matches!(place.1, Kind::Dir)
 }
 
 /// Where a walk ends that has no part left.
-fn ending(follow: Follow, place: Place, slash: bool) -> Walked
+fn ending(follow: Follow, place: Target, slash: bool) -> Walked
     ensures { walked_shown result ≡ ending follow place slash }
 {
     if (slash || wants_directory(follow)) && !is_directory(place) {
@@ -102,12 +102,12 @@ fn is_kept(follow: Follow, is_last: bool, slash: bool) -> bool
 #[tactic(auto, using(crate::proofs::Stacks::walk_steps))]
 fn walk_parts(
     tree: &PlainTree,
-    start: Place,
+    start: Target,
     rest: &mut Vec<Part>,
     slash: bool,
     follow: Follow,
 ) -> Step
-    ensures { (follow_link : SpecPlace → ℕ → List SpecPart → Bool → Option Outcome) →
+    ensures { (follow_link : SpecTarget → ℕ → List SpecPart → Bool → Option Outcome) →
         over_parts (told_of tree.now.tree) follow follow_link start (stacked rest.old.items) slash
         ≡ outcome_of result follow_link (stacked rest.new.items) slash }
 {
@@ -154,7 +154,7 @@ fn slash_after(slash: bool, is_last: bool, text: PathText) -> bool
 }
 
 /// Where a text begins that replaces a link in a directory.
-fn base_of(text: PathText, at: Place) -> Place
+fn base_of(text: PathText, at: Target) -> Target
     ensures { result ≡ (if begins_with_slash text.entry.bytes.now then root else at) }
 {
     if text.is_absolute() { ROOT } else { at }
@@ -166,7 +166,7 @@ const MOST_LINKS: u64 = 8;
 pub(crate) fn resolve<'a>(
     alloc: Global,
     tree: &'a PlainTree,
-    start: Place,
+    start: Target,
     parts: Vec<Part<'a>>,
     slash: bool,
     follow: Follow,

@@ -4,7 +4,7 @@ ghost use Rattle.dc_plain.specs.Refusals.{present, refuse};
 ghost use Rattle.dc_plain.specs.Stops.{Finds};
 ghost use Rattle.dc_plain.specs.declared.stop.Stop.TheVariants.{Refused as Refusal, OutOfMemory as NoRoom};
 
-use crate::resolve::Place;
+use crate::resolve::Target;
 use dc_names::{NoMemory, TextFault};
 use std::alloc::AllocError;
 
@@ -51,7 +51,7 @@ pub(crate) fn refuse(test: bool, number: u64) -> Result<(), Stop>
 }
 
 /// What is there, or else this refusal.
-pub(crate) fn present(there: Option<Place>, number: u64) -> Result<Place, Stop>
+pub(crate) fn present(there: Option<Target>, number: u64) -> Result<Target, Stop>
     ensures { Finds result (λ place. place) (present number there) }
 {
     there.ok_or(Stop::Refused(number))

@@ -1,7 +1,7 @@
 -- The first part is taken.
 use Rattle.std.proofs.Common.{◌≡◌, ◌≢◌, suc, ◌-◌, List, [], ◌∷◌, ◌++◌, Bool, true, false, take, length, refl, ap, sym, ◌∙◌, arith, subst}
 use Rattle.dc_names.specs.Paths.{Part}
-use Rattle.dc_plain.specs.Facts.{Place, Teller}
+use Rattle.dc_plain.specs.Facts.{Target, Teller}
 use Rattle.dc_resolve.specs.Cuts.{parts_kept}
 use Rattle.dc_resolve.specs.Steps.{IsTaken}
 use Rattle.dc_resolve.specs.declared.step.Reached.{Reached}
@@ -16,7 +16,7 @@ kept_first false all rest part is some =
     let P : List Part → Type 0 = λ l. take (length l - 1) l ≢ [] in
     ap (λ (l : List Part). take (length l - 1) l) is ∙ kept_front part rest (subst P is some)
 
-module _ {said : Teller} {place : Place} {reached : Reached} where
+module _ {said : Teller} {place : Target} {reached : Reached} where
   -- the same parts, otherwise made
   pub taken_as : {before after old new : List Part} → IsTaken said place old new reached → before ≡ old → after ≡ new → IsTaken said place before after reached
   taken_as taken from to = record {

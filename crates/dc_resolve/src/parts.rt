@@ -8,7 +8,7 @@ ghost use Rattle.dc_resolve.specs.Steps.{IsTaken};
 
 use crate::left::{Cut, Left};
 use crate::part::{has_part, tail};
-use crate::step::{Place, Reached, ask};
+use crate::step::{Reached, Target, ask};
 use crate::{Bytes, Finder, Stop};
 use arrayvec::ArrayVec;
 use dc_names::{PathText, first_part};
@@ -82,7 +82,7 @@ impl<'p, T: Bytes + Drop> Left<'p, T> {
 /// Asks at the first part of some bytes, and answers how many of them are left too.
 fn ask_first<F: Finder>(
     finder: &mut F,
-    place: Place,
+    place: Target,
     bytes: &[u8],
 ) -> Result<(Reached, usize), Stop>
     requires valid { IsTrue (has_parts bytes.now) }
@@ -104,7 +104,7 @@ fn ask_first<F: Finder>(
 /// Asks at the first part that is left.
 pub fn ask_next<F: Finder>(
     finder: &mut F,
-    place: Place,
+    place: Target,
     left: &mut Left<'_, F::Text>,
 ) -> Result<Reached, Stop>
     requires { parts_left left.old ≢ [] }

@@ -1,7 +1,7 @@
 ghost use Rattle.std.specs.Prelude.{◌≡◌, ◌&&◌, ℕ, not, Bool, Option, Some, IfOk, OnOk, OnErr, true, if◌then◌else◌};
 ghost use Rattle.dc_names.specs.Names.{part_shown};
 ghost use Rattle.dc_names.specs.declared.kind.Kind.TheVariants.{Link};
-ghost use Rattle.dc_plain.specs.Facts.{Teller, Place as SpecPlace};
+ghost use Rattle.dc_plain.specs.Facts.{Teller, Target as SpecTarget};
 ghost use Rattle.dc_plain.specs.Resolution.{Outcome, at_part, ending, is_directory, keeps_link, met_by, wants_directory, with_met};
 ghost use Rattle.dc_plain.specs.Resolution.Outcome.{Found};
 ghost use Rattle.dc_resolve.specs.Steps.{met_shown, end_shown, number_of, goes_on, Leads, IfMeets, IsSaidMet, IsSaidFlow};
@@ -12,9 +12,9 @@ use dc_plain::Follow;
 use std::ops::ControlFlow;
 
 /// An inode's number with its kind.
-pub type Place = (u64, Kind);
+pub type Target = (u64, Kind);
 
-pub const ROOT: Place = (1, Kind::Dir);
+pub const ROOT: Target = (1, Kind::Dir);
 
 /// Why a path leads nowhere.
 #[derive(Clone, Copy)]
@@ -42,24 +42,24 @@ impl Refusal {
 
 /// Where a resolution ends.
 pub enum End {
-    Found(Place),
+    Found(Target),
     Refused(Refusal),
 }
 
 /// A walk over parts, up to its end or a link that must be followed.
 pub enum Step {
     Ended(End),
-    AtLink(Place, u64),
+    AtLink(Target, u64),
 }
 
 /// What a part leads to.
 pub enum Reached {
-    Goes(Place),
+    Goes(Target),
     Stops(Refusal),
-    Meets(Place),
+    Meets(Target),
 }
 
-fn on_to(there: Option<Place>) -> Reached
+fn on_to(there: Option<Target>) -> Reached
     ensures met { Some (met_shown result) ≡ met_by (Some there) }
     ensures link { IfMeets result (λ link. there ≡ Some (link.0, Link)) }
 {
@@ -70,14 +70,14 @@ fn on_to(there: Option<Place>) -> Reached
     }
 }
 
-fn is_directory(place: Place) -> bool
+fn is_directory(place: Target) -> bool
     ensures { result ≡ is_directory place }
 {
     matches!(place.1, Kind::Dir)
 }
 
 /// From a place, one part on.
-pub fn ask<F: Finder>(finder: &mut F, place: Place, part: Part<'_>) -> Result<Reached, Stop>
+pub fn ask<F: Finder>(finder: &mut F, place: Target, part: Part<'_>) -> Result<Reached, Stop>
     ensures leads { IfOk result (Leads (F.said finder.new) place (part_shown part.entry)) }
     ensures link { IfOk result (IsSaidMet (F.said finder.new)) }
     ensures same { OnOk result (F.has_stopped finder.new ≡ F.has_stopped finder.old) }
@@ -95,7 +95,7 @@ pub fn ask<F: Finder>(finder: &mut F, place: Place, part: Part<'_>) -> Result<Re
 }
 
 /// Where a resolution ends that has no part left.
-pub fn ending(follow: Follow, place: Place, slash: bool) -> End
+pub fn ending(follow: Follow, place: Target, slash: bool) -> End
     ensures { end_shown result ≡ ending follow place slash }
 {
     if (slash || follow == Follow::Dir) && !is_directory(place) {
@@ -113,8 +113,8 @@ pub fn is_kept(follow: Follow, is_last: bool, slash: bool) -> bool
 }
 
 /// Where a walk goes from a place by what its next part leads to. A link is kept, or stops the walk.
-pub fn after(place: Place, reached: Reached, keeps: bool) -> ControlFlow<Step, Place>
-    ensures goes { (go : SpecPlace → Option Outcome) → (at_link : SpecPlace → ℕ → Option Outcome) →
+pub fn after(place: Target, reached: Reached, keeps: bool) -> ControlFlow<Step, Target>
+    ensures goes { (go : SpecTarget → Option Outcome) → (at_link : SpecTarget → ℕ → Option Outcome) →
         with_met (Some (met_shown reached)) go (λ link.
         if keeps then Some (Found link) else at_link place link.0) ≡ goes_on result go at_link }
     ensures link { (said : Teller) → IsSaidMet said reached → IsSaidFlow said result }

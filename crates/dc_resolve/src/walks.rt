@@ -16,7 +16,7 @@ ghost use Rattle.dc_resolve.specs.Walks.{GoesOn, IsReplaced, LeadsTo};
 
 use crate::left::Left;
 use crate::parts::ask_next;
-use crate::step::{End, Place, ROOT, Refusal, Step, after, ending, is_kept};
+use crate::step::{End, ROOT, Refusal, Step, Target, after, ending, is_kept};
 use crate::{Bytes, Finder, Stop};
 use dc_names::{Kind, Part, PathText};
 use dc_plain::Follow;
@@ -36,11 +36,11 @@ pub enum Walked {
 /// One part on from a place, over the parts that are left.
 fn go_on<F: Finder>(
     finder: &mut F,
-    place: Place,
+    place: Target,
     left: &mut Left<'_, F::Text>,
     slash: bool,
     follow: Follow,
-) -> Result<ControlFlow<Step, Place>, Stop>
+) -> Result<ControlFlow<Step, Target>, Stop>
     requires { parts_left left.old ≢ [] }
     ensures goes { IfOk result (λ flow. GoesOn (F.said finder.new) follow slash
         place (parts_left left.old) flow (parts_left left.new)) }
@@ -60,7 +60,7 @@ fn go_on<F: Finder>(
 #[tactic(auto, using(crate::proofs::Going::then_ends))]
 fn walk_parts<F: Finder>(
     finder: &mut F,
-    start: Place,
+    start: Target,
     left: &mut Left<'_, F::Text>,
     slash: bool,
     follow: Follow,
@@ -91,7 +91,7 @@ fn slash_after(slash: bool, is_last: bool, text: PathText<'_>) -> bool
 }
 
 /// Where a text begins that replaces a link in a directory.
-fn base_of(text: PathText<'_>, at: Place) -> Place
+fn base_of(text: PathText<'_>, at: Target) -> Target
     ensures { result ≡ (if begins_with_slash text.entry.bytes.now then root else at) }
 {
     if text.is_absolute() { ROOT } else { at }
@@ -101,11 +101,11 @@ fn base_of(text: PathText<'_>, at: Place) -> Place
 /// whether a slash ends it.
 fn put_text<F: Finder>(
     finder: &mut F,
-    at: Place,
+    at: Target,
     link: u64,
     left: &mut Left<'_, F::Text>,
     slash: bool,
-) -> Result<(Place, bool), Stop>
+) -> Result<(Target, bool), Stop>
     requires link { IsSaidLink (F.said finder.old) link }
     requires room { array_vec_len left.old.texts < 8 }
     ensures put { IfOk result (λ on. IsReplaced (F.said finder.new) at link
@@ -127,7 +127,7 @@ fn put_text<F: Finder>(
 #[tactic(auto, using(crate::proofs::Following::ended))]
 fn resolve<F: Finder>(
     finder: &mut F,
-    start: Place,
+    start: Target,
     left: &mut Left<'_, F::Text>,
     slash: bool,
     follow: Follow,
@@ -156,7 +156,7 @@ const MOST_LINKS: usize = 8;
 /// Where the parts of a path lead from a place, or all but the last.
 fn resolve_path<F: Finder>(
     finder: &mut F,
-    place: Place,
+    place: Target,
     path: PathText<'_>,
     whole: bool,
     slash: bool,
@@ -174,7 +174,7 @@ fn resolve_path<F: Finder>(
 }
 
 /// Where a path begins, if its starting directory is live.
-fn start<F: Finder>(finder: &mut F, base: u64, path: PathText<'_>) -> Result<Option<Place>, Stop>
+fn start<F: Finder>(finder: &mut F, base: u64, path: PathText<'_>) -> Result<Option<Target>, Stop>
     ensures start { IfOk result (λ found.
         start (F.said finder.new) base (path_in path.entry.bytes.now) ≡ Some found) }
     ensures same { OnOk result (F.has_stopped finder.new ≡ F.has_stopped finder.old) }

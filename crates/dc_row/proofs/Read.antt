@@ -4,7 +4,7 @@ use Rattle.std.proofs.lemmas.Grind.{common_steps}
 use Rattle.std.proofs.lemmas.List.{get_or-take, get_or-drop}
 use Rattle.dc_names.specs.Words.{AreBytes, word_of}
 use Rattle.dc_names.specs.declared.kind.Kind.TheVariants.{Dir, File, Link}
-use Rattle.dc_plain.specs.Facts.{Place, Fact}
+use Rattle.dc_plain.specs.Facts.{Target, Fact}
 use Rattle.dc_plain.specs.Facts.Label.{Entry, Parent, Text}
 use Rattle.dc_plain.specs.Facts.Fact.{Leads, Reads}
 use Rattle.dc_row.specs.Spelling.{Fields, Spells, TellsByte, fields_of, has_spelling, has_room, kind_code, text_word}
@@ -24,7 +24,7 @@ record AreSmall (f : Fields) : Type 0 where
   kind : f.kind ≤ 3
   text : length f.text ≤ ROW_TEXT
 
-kind_small : (target : Option Place) → kind_code target ≤ 3
+kind_small : (target : Option Target) → kind_code target ≤ 3
 kind_small None = omega arith
 kind_small (Some (n, Dir)) = omega arith
 kind_small (Some (n, File)) = omega arith

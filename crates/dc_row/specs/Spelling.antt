@@ -4,17 +4,17 @@ use Rattle.dc_names.specs.Bytes.{is_name}
 use Rattle.dc_names.specs.Paths.{fault_of}
 use Rattle.dc_names.specs.Words.{AreBytes, word_of}
 use Rattle.dc_names.specs.declared.kind.Kind.TheVariants.{Dir, File, Link}
-use Rattle.dc_plain.specs.Facts.{Place, Label, Fact}
+use Rattle.dc_plain.specs.Facts.{Target, Label, Fact}
 use Rattle.dc_plain.specs.Facts.Label.{Entry, Parent, Text}
 use Rattle.dc_plain.specs.Facts.Fact.{Leads, Reads}
 use Rattle.dc_row.specs.declared.TheConstants.{ROW_WORDS, ROW_TEXT}
 
 -- no place 0, a directory 1, a file 2, a link 3
-abbrev pub kind_code : Option Place → ℕ
+abbrev pub kind_code : Option Target → ℕ
 kind_code None = 0
 kind_code (Some place) = elim place.1 [ Dir ↦ 1 | File ↦ 2 | Link ↦ 3 ]
 
-abbrev pub target_number : Option Place → ℕ
+abbrev pub target_number : Option Target → ℕ
 target_number None = 0
 target_number (Some place) = place.0
 
@@ -54,7 +54,7 @@ word_at f i = if i == 1 then head_of f else if i == 2 then f.number else if i ==
 abbrev pub has_room : List ℕ → Bool
 has_room text = not (nat_lt ROW_TEXT (length text))
 
-abbrev pub is_numbered : Option Place → Bool
+abbrev pub is_numbered : Option Target → Bool
 is_numbered None = true
 is_numbered (Some place) = not (place.0 == 0)
 
@@ -86,10 +86,10 @@ TellsRow words result = (fact : Option Fact) → Spells words fact → result �
 
 -- the label, or the target, of any entry that the words spell; a byte of the text that stands in them
 abbrev pub TellsLabel : List ℕ → Option Label → Type 0
-TellsLabel words result = (d : ℕ) (label : Label) (target : Option Place) → Spells words (Some (Leads d label target)) → result ≡ Some label
+TellsLabel words result = (d : ℕ) (label : Label) (target : Option Target) → Spells words (Some (Leads d label target)) → result ≡ Some label
 
-abbrev pub TellsTarget : List ℕ → Option Place → Type 0
-TellsTarget words result = (d : ℕ) (label : Label) (target : Option Place) → Spells words (Some (Leads d label target)) → result ≡ target
+abbrev pub TellsTarget : List ℕ → Option Target → Type 0
+TellsTarget words result = (d : ℕ) (label : Label) (target : Option Target) → Spells words (Some (Leads d label target)) → result ≡ target
 
 abbrev pub TellsByte : List ℕ → ℕ → ℕ → Type 0
 TellsByte words k result = (bytes : List ℕ) → length bytes ≤ 8 → AreBytes bytes → slice_index words (4 + k / 8) ≡ word_of bytes → result ≡ slice_index bytes (k % 8)

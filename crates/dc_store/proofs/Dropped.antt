@@ -10,7 +10,7 @@ use Rattle.dc_plain.proofs.Made.{to_test}
 use Rattle.dc_plain.proofs.Removed.{IsUnentered, left_of, one_less, not_root, holder_left, either_left, unentered_node, unentered_directory, without_entry-IsWellFormed}
 use Rattle.dc_plain.specs.Effects.{without_entry}
 use Rattle.dc_plain.specs.IsWellFormed.{IsWellFormed}
-use Rattle.dc_plain.specs.Trees.{Tree, Spot, spot_cmp, how_many, inode_of, target_of, names_of, names_in, holder_of, is_live_directory, without_spot, without_number}
+use Rattle.dc_plain.specs.Trees.{Tree, Spot, spot_cmp, how_many, inode_of, entry_number, names_of, names_in, holder_of, is_live_directory, without_spot, without_number}
 use Rattle.dc_plain.specs.Trees.Inode.{Directory}
 use Rattle.dc_store.specs.Dropped.{is_full_directory, CanDrop}
 use Rattle.dc_store.specs.Maps.{inode_shown, node_shown, node_at, nodes_after, tree_in}
@@ -38,7 +38,7 @@ unentered t n well can =
     twice false h = cc
 
 -- a directory that is left is another
-other_left : (t : Tree) (d : ℕ) (name : List ℕ) (n : ℕ) → IsWellFormed t → target_of t (spot_at d name) ≡ Some n → IsUnentered t n → (q : ℕ) → inode_of t q ≡ Some Directory
+other_left : (t : Tree) (d : ℕ) (name : List ℕ) (n : ℕ) → IsWellFormed t → entry_number t (spot_at d name) ≡ Some n → IsUnentered t n → (q : ℕ) → inode_of t q ≡ Some Directory
     → inode_of (without_entry t d name n) q ≡ Some Directory → n ≢ q
 other_left t d name n well leads free q before after same =
     let new_well = without_entry-IsWellFormed t d name n well leads free in
@@ -63,7 +63,7 @@ module _ {entries : List (Spot × ℕ)} {nodes : List (ℕ × rust_node.Node)} {
           λ i. record { entries = without_spot (spot_at d name) entries; inodes = nodes_without n nodes in_order i; next = next }
       by_last false = refl
 
-  pub dropped : (n : ℕ) → target_of t (spot_at d name) ≡ Some n → IsTrue (not (is_full_directory t n)) → (fewer : List (ℕ × rust_node.Node)) → fewer ≡ nodes_after (Some n) (without_spot (spot_at d name) entries) nodes
+  pub dropped : (n : ℕ) → entry_number t (spot_at d name) ≡ Some n → IsTrue (not (is_full_directory t n)) → (fewer : List (ℕ × rust_node.Node)) → fewer ≡ nodes_after (Some n) (without_spot (spot_at d name) entries) nodes
       → ((q : ℕ) (node : rust_node.Node) → node_at fewer q ≡ Some node → node_at nodes q ≡ Some node) → Shows (without_spot (spot_at d name) entries) fewer next (without_entry t d name n)
   dropped n leads can fewer cut kept =
       let free = unentered t n now.well can in
@@ -90,10 +90,10 @@ if_some_at P e h = subst (λ o. IfSome o P) (sym e) h
 -- with what the steps of the code answered
 pub after_drop : {entries less : List (Spot × ℕ)} {nodes fewer : List (ℕ × rust_node.Node)} {next : ℕ} {t : Tree} {lost : Option ℕ} (d : ℕ) (name : List ℕ) → Shows entries nodes next t → CanDrop t d name
     → less ≡ without_spot (spot_at d name) entries → lost ≡ find spot_cmp (spot_at d name) entries → fewer ≡ nodes_after lost less nodes
-    → ((q : ℕ) (node : rust_node.Node) → node_at fewer q ≡ Some node → node_at nodes q ≡ Some node) → (n : ℕ) × (target_of t (spot_at d name) ≡ Some n) × Shows less fewer next (without_entry t d name n)
+    → ((q : ℕ) (node : rust_node.Node) → node_at fewer q ≡ Some node → node_at nodes q ≡ Some node) → (n : ℕ) × (entry_number t (spot_at d name) ≡ Some n) × Shows less fewer next (without_entry t d name n)
 after_drop {nodes = nodes} {fewer = fewer} {next = next} {t = t} d name now can taken was cut kept =
-    let (n, leads, may) = is_some_at (target_of t (spot_at d name)) _ can in
-    let lost = was ∙ ap (λ (u : Tree). target_of u (spot_at d name)) now.shows ∙ leads in (
+    let (n, leads, may) = is_some_at (entry_number t (spot_at d name)) _ can in
+    let lost = was ∙ ap (λ (u : Tree). entry_number u (spot_at d name)) now.shows ∙ leads in (
       n,
       leads,
       subst (λ es. Shows es fewer next (without_entry t d name n)) (sym taken) (dropped now d name n leads may fewer (cut ∙ (λ i. nodes_after (lost i) (taken i) nodes)) kept),

@@ -10,7 +10,7 @@ use Rattle.dc_names.specs.Bytes.{is_name}
 use Rattle.dc_names.specs.Paths.{path_in}
 use Rattle.dc_plain.proofs.Made.{IsGood, unused_number, with_new-IsWellFormed, holder_kept, holder_new, same_number, itself}
 use Rattle.dc_plain.specs.Effects.{with_new}
-use Rattle.dc_plain.specs.Trees.{Tree, Spot, spot_cmp, target_of, is_live_directory, holder_of}
+use Rattle.dc_plain.specs.Trees.{Tree, Spot, spot_cmp, entry_number, is_live_directory, holder_of}
 use Rattle.dc_plain.specs.Trees.Inode.{Directory}
 use Rattle.dc_store.specs.Maps.{inode_shown, node_shown, node_at, parent_in, CanKeep}
 use Rattle.dc_store.specs.Spots.{spot_at}
@@ -45,7 +45,7 @@ module _ {entries : List (Spot × ℕ)} {nodes : List (ℕ × rust_node.Node)} {
       let before = gone ∙ ap (remove_entry (is_at (nat_cmp next))) is ∙ remove_inserted nat_cmp_total next node nodes absent in
       subst (λ es. Shows es back next t) (sym still) (subst (λ ns. Shows entries ns next t) (sym before) now)
 
-  module _ (d : ℕ) (name : List ℕ) (node : rust_node.Node) (directory : IsTrue (is_live_directory t d)) (free : target_of t (spot_at d name) ≡ None) (room : t.next < 2 ^ 63)
+  module _ (d : ℕ) (name : List ℕ) (node : rust_node.Node) (directory : IsTrue (is_live_directory t d)) (free : entry_number t (spot_at d name) ≡ None) (room : t.next < 2 ^ 63)
       (named : IsTrue (is_name name)) (can : CanKeep d node) where
     abbrev made : Tree
     made = with_new t d name (node_shown node)

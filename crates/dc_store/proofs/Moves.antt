@@ -19,7 +19,7 @@ use Rattle.dc_plain.specs.Facts.Label.{Entry}
 use Rattle.dc_plain.specs.IsWellFormed.{IsWellFormed, Stands}
 use Rattle.dc_plain.specs.Resolution.{is_directory}
 use Rattle.dc_plain.specs.Operations.{is_beneath}
-use Rattle.dc_plain.specs.Trees.{Tree, Inode, Spot, spot_cmp, how_many, inode_of, target_of, entry_of, place_at, kind_of, names_of, holder_of, is_directory_inode, without_spot}
+use Rattle.dc_plain.specs.Trees.{Tree, Inode, Spot, spot_cmp, how_many, inode_of, entry_number, entry_of, target_at, kind_of, names_of, holder_of, is_directory_inode, without_spot}
 use Rattle.dc_plain.specs.Trees.Inode.{Directory, Regular, Symbolic}
 use Rattle.dc_store.specs.Dropped.{is_full_directory}
 use Rattle.dc_store.specs.Maps.{inode_shown, node_at, nodes_after, parent_in, with_parent}
@@ -37,7 +37,7 @@ kind_is n Regular = refl
 kind_is n (Symbolic text) = refl
 
 -- an entry leads to what lives
-lives_there : (t : Tree) (spot : Spot) (n : ℕ) → IsWellFormed t → target_of t spot ≡ Some n → (i : Inode) × (inode_of t n ≡ Some i)
+lives_there : (t : Tree) (spot : Spot) (n : ℕ) → IsWellFormed t → entry_number t spot ≡ Some n → (i : Inode) × (inode_of t n ≡ Some i)
 lives_there t spot n well e =
     some_in (inode_of t n) (All-lookup spot_cmp (λ k. IsTrue (is_some (inode_of t k))) spot t.entries (All-weaker (Stands t) _ (λ x s. s.leads) t.entries well.entries) n e)
 
@@ -49,7 +49,7 @@ new_parent to up (Some kinds.File) e = absurd cc
 new_parent to up (Some (kinds.Link text)) e = absurd cc
 
 -- what stands at a name isn't the root
-not_root : (t : Tree) (spot : Spot) (n : ℕ) → IsWellFormed t → target_of t spot ≡ Some n → n ≢ 1
+not_root : (t : Tree) (spot : Spot) (n : ℕ) → IsWellFormed t → entry_number t spot ≡ Some n → n ≢ 1
 not_root t spot n well leads same =
     let counted : how_many (λ (x : Spot × ℕ). x.1 == n) (without_spot spot t.entries) + cond (n == n) 1 0 ≡ names_of t n = count-take spot_cmp spots_total spot (λ (v : ℕ). v == n) n t.entries (to_test _ well.entries_in_order) leads in
     let one : how_many (λ (x : Spot × ℕ). x.1 == n) (without_spot spot t.entries) + 1 ≡ names_of t n = sym (ap (λ b. how_many (λ (x : Spot × ℕ). x.1 == n) (without_spot spot t.entries) + cond b 1 0) (same_test n)) ∙ counted in
@@ -81,7 +81,7 @@ module _ (from : ℕ) (old : List ℕ) (to : ℕ) (new : List ℕ) (n : ℕ) whe
   }
 
 module _ (from : ℕ) (old : List ℕ) (to : ℕ) (new : List ℕ) {entries : List (Spot × ℕ)} {nodes : List (ℕ × rust_node.Node)} {next : ℕ} {t : Tree} (now : Shows entries nodes next t) (named : IsTrue (is_name new))
-    (n : ℕ) (leads : target_of t (spot_at from old) ≡ Some n) (can : CanStandAt t to new n) where
+    (n : ℕ) (leads : entry_number t (spot_at from old) ≡ Some n) (can : CanStandAt t to new n) where
   entries_are : entries ≡ t.entries
   entries_are = ap (λ (u : Tree). u.entries) now.shows
 
@@ -93,7 +93,7 @@ module _ (from : ℕ) (old : List ℕ) (to : ℕ) (new : List ℕ) {entries : Li
     where
       by_test : (o : Bool) → eq_by_cmp spot_cmp (spot_at from old) (spot_at to new) ≡ o → o ≡ false
       by_test false e = refl
-      by_test true e = absurd (can.other (ap (target_of t) (sym (same_spot (spot_at from old) (spot_at to new) e)) ∙ leads))
+      by_test true e = absurd (can.other (ap (entry_number t) (sym (same_spot (spot_at from old) (spot_at to new) e)) ∙ leads))
 
   inode : (i : Inode) × (inode_of t n ≡ Some i)
   inode = lives_there t (spot_at from old) n now.well leads
@@ -106,14 +106,14 @@ module _ (from : ℕ) (old : List ℕ) (to : ℕ) (new : List ℕ) {entries : Li
 
   module _ {fewer last : List (ℕ × rust_node.Node)} (shown : map inode_shown last ≡ map inode_shown fewer)
       (set : (q : ℕ) → node_at last q ≡ (if q == n then option_map (with_parent to) (node_at fewer q) else node_at fewer q)) where
-    over_nothing : target_of t (spot_at to new) ≡ None → fewer ≡ nodes → Shows (without_spot (spot_at from old) (put spot_cmp (spot_at to new) n entries)) last next (tree_moved t from old to new n)
+    over_nothing : entry_number t (spot_at to new) ≡ None → fewer ≡ nodes → Shows (without_spot (spot_at from old) (put spot_cmp (spot_at to new) n entries)) last next (tree_moved t from old to new n)
     over_nothing free cut =
-        let ready = ready_alone t from old to new (n, kind_of inode.0) now.well source can.directory named not_above (ap (option_and_then (place_at t)) free) in
-        let nowhere : without_there t to new (entry_of t to (Entry new)) ≡ t = ap (λ o. without_there t to new (option_and_then (place_at t) o)) free in
+        let ready = ready_alone t from old to new (n, kind_of inode.0) now.well source can.directory named not_above (ap (option_and_then (target_at t)) free) in
+        let nowhere : without_there t to new (entry_of t to (Entry new)) ≡ t = ap (λ o. without_there t to new (option_and_then (target_at t) o)) free in
         subst (λ es. Shows es last next (tree_moved t from old to new n)) (sym (moved_alone (spot_at from old) (spot_at to new) n entries in_order spots_apart))
         (subst (λ u. Shows (put spot_cmp (spot_at to new) n (without_spot (spot_at from old) entries)) last next (moved_to u from old to new n)) (sym nowhere) (move_alone from old to new n (subst (λ ns. Shows entries ns next t) (sym cut) now) ready shown set))
 
-    over_other : (m : ℕ) → target_of t (spot_at to new) ≡ Some m → fewer ≡ nodes_after (Some m) (without_spot (spot_at from old) (put spot_cmp (spot_at to new) n entries)) nodes
+    over_other : (m : ℕ) → entry_number t (spot_at to new) ≡ Some m → fewer ≡ nodes_after (Some m) (without_spot (spot_at from old) (put spot_cmp (spot_at to new) n entries)) nodes
         → ((q : ℕ) (node : rust_node.Node) → node_at fewer q ≡ Some node → node_at nodes q ≡ Some node)
         → Shows (without_spot (spot_at from old) (put spot_cmp (spot_at to new) n entries)) last next (tree_moved t from old to new n)
     over_other m there cut kept =
@@ -122,7 +122,7 @@ module _ (from : ℕ) (old : List ℕ) (to : ℕ) (new : List ℕ) {entries : Li
         let ready = ready_after t from old to new (n, kind_of inode.0) now.well source can.directory named not_above (m, kind_of i.0) there (unentered t m now.well gives_way)
         (λ same. can.other (there ∙ ap (λ k. Some k) (sym same))) in
         let gone : without_there t to new (entry_of t to (Entry new)) ≡ without_entry t to new m =
-        ap (λ o. without_there t to new (option_and_then (place_at t) o)) there ∙ ap (λ o. without_there t to new (option_map (λ inode. (m, kind_of inode)) o)) i.1 in
+        ap (λ o. without_there t to new (option_and_then (target_at t) o)) there ∙ ap (λ o. without_there t to new (option_map (λ inode. (m, kind_of inode)) o)) i.1 in
         let rest : without_spot (spot_at to new) entries ≡ (without_entry t to new m).entries =
         ap (without_spot (spot_at to new)) entries_are ∙ sym (either_left (λ u. u.entries ≡ without_spot (spot_at to new) t.entries) t to new m refl refl) in
         let moved = moved_over (spot_at from old) (spot_at to new) n entries in_order spots_apart (from_test _ (is_sorted-where_key spot_cmp _ entries (to_test _ in_order))) in
@@ -134,7 +134,7 @@ module _ (from : ℕ) (old : List ℕ) (to : ℕ) (new : List ℕ) {entries : Li
         (subst (λ u. Shows (put spot_cmp (spot_at to new) n (without_spot (spot_at from old) (without_spot (spot_at to new) entries))) last next (moved_to u from old to new n)) (sym gone)
         (move_alone from old to new n left ready shown set))
 
-    over_any : (o : Option ℕ) → target_of t (spot_at to new) ≡ o → fewer ≡ nodes_after o (without_spot (spot_at from old) (put spot_cmp (spot_at to new) n entries)) nodes
+    over_any : (o : Option ℕ) → entry_number t (spot_at to new) ≡ o → fewer ≡ nodes_after o (without_spot (spot_at from old) (put spot_cmp (spot_at to new) n entries)) nodes
         → ((q : ℕ) (node : rust_node.Node) → node_at fewer q ≡ Some node → node_at nodes q ≡ Some node)
         → Shows (without_spot (spot_at from old) (put spot_cmp (spot_at to new) n entries)) last next (tree_moved t from old to new n)
     over_any None there cut kept = over_nothing there cut
@@ -146,9 +146,9 @@ pub after_move : {entries more less : List (Spot × ℕ)} {nodes fewer last : Li
     → more ≡ put spot_cmp (spot_at to new) n entries → lost ≡ find spot_cmp (spot_at to new) entries → less ≡ without_spot (spot_at from old) more
     → fewer ≡ nodes_after lost less nodes → ((q : ℕ) (node : rust_node.Node) → node_at fewer q ≡ Some node → node_at nodes q ≡ Some node) → map inode_shown last ≡ map inode_shown fewer
     → ((q : ℕ) → node_at last q ≡ (if q == n then option_map (with_parent to) (node_at fewer q) else node_at fewer q))
-    → (target_of t (spot_at from old) ≡ Some n) × Shows less last next (tree_moved t from old to new n)
+    → (entry_number t (spot_at from old) ≡ Some n) × Shows less last next (tree_moved t from old to new n)
 after_move {nodes = nodes} {last = last} {next = next} {t = t} {lost = lost} from old to new n now named can found entered was taken cut kept shown set =
-    let at : (spot : Spot) → target_of t spot ≡ find spot_cmp spot _ = λ spot. ap (λ (u : Tree). target_of u spot) (sym now.shows) in
+    let at : (spot : Spot) → entry_number t spot ≡ find spot_cmp spot _ = λ spot. ap (λ (u : Tree). entry_number u spot) (sym now.shows) in
     let leads = at (spot_at from old) ∙ sym found in
     let may : CanStandAt t to new n = subst (λ o. IsSomeAnd o (CanStandAt t to new)) leads can in
     let less_is = taken ∙ ap (without_spot (spot_at from old)) entered in (

@@ -7,10 +7,10 @@ use Rattle.std.specs.Ordering.{nat_cmp}
 use Rattle.dc_names.specs.Paths.{fault_of, path_in}
 use Rattle.dc_names.specs.declared.fault.TextFault.{TextFault}
 use Rattle.dc_plain.proofs.Made.{is_directory_in}
-use Rattle.dc_plain.specs.Facts.{Place}
+use Rattle.dc_plain.specs.Facts.{Target}
 use Rattle.dc_plain.specs.IsWellFormed.{Stands}
 use Rattle.dc_plain.specs.Resolution.{root}
-use Rattle.dc_plain.specs.Trees.{Tree, Inode, Spot, inode_of, place_at, holder_of, kind_of, is_live_directory, is_directory_inode}
+use Rattle.dc_plain.specs.Trees.{Tree, Inode, Spot, inode_of, target_at, holder_of, kind_of, is_live_directory, is_directory_inode}
 use Rattle.dc_plain.specs.Trees.Inode.{Symbolic}
 use Rattle.dc_store.specs.Maps.{IsNodeAt, inode_shown, node_shown, tree_in, node_at, with_parent, IsSound}
 use Rattle.dc_store.specs.declared.node.Node as rust_node
@@ -22,7 +22,7 @@ copied_mapped f None = refl
 copied_mapped f (Some x) = refl
 
 -- the number of a place
-abbrev pub numbers : Option Place → Option ℕ
+abbrev pub numbers : Option Target → Option ℕ
 numbers = option_map (λ place. place.0)
 
 -- the directory of an entry that is found lives
@@ -52,13 +52,13 @@ module _ (entries : List (Spot × ℕ)) (nodes : List (ℕ × rust_node.Node)) (
   up_lives sound up false e = held_lives t (λ e'. e'.1 == n) t.entries sound.well.entries up e
 
   abbrev up_of : Option Inode → Option ℕ
-  up_of o = numbers (if not (is_directory_inode o) then None else if n == 1 then Some root else option_and_then (place_at t) (holder_of t n))
+  up_of o = numbers (if not (is_directory_inode o) then None else if n == 1 then Some root else option_and_then (target_at t) (holder_of t n))
 
-  up_told : IsSound entries nodes next → (up : ℕ) (b : Bool) → cond b (Some 1) (holder_of t n) ≡ Some up → Some up ≡ numbers (cond b (Some root) (option_and_then (place_at t) (holder_of t n)))
+  up_told : IsSound entries nodes next → (up : ℕ) (b : Bool) → cond b (Some 1) (holder_of t n) ≡ Some up → Some up ≡ numbers (cond b (Some root) (option_and_then (target_at t) (holder_of t n)))
   up_told sound up true e = sym e
   up_told sound up false e =
       let live = held_lives t (λ e'. e'.1 == n) t.entries sound.well.entries up e in
-      ap (λ i. numbers (option_map (λ inode. (up, kind_of inode)) i)) (sym (is_directory_in (inode_of t up) live)) ∙ ap (λ o. numbers (option_and_then (place_at t) o)) (sym e)
+      ap (λ i. numbers (option_map (λ inode. (up, kind_of inode)) i)) (sym (is_directory_in (inode_of t up) live)) ∙ ap (λ o. numbers (option_and_then (target_at t) o)) (sym e)
 
   path_told : (text : List ℕ) (o : Option TextFault) → IsTrue (is_ok (elim o [ None ↦ Ok (path_in text) | Some fault ↦ Err fault ])) → o ≡ None
   path_told text None ok = refl

@@ -3,7 +3,7 @@ use Rattle.std.specs.Prelude.{◌≡◌, ◌≢◌, ℕ, ◌&&◌, List, length,
 use Rattle.dc_plain.specs.Effects.{with_entry_for, without_entry_alone, without_there}
 use Rattle.dc_plain.specs.Facts.Label.{Entry}
 use Rattle.dc_plain.specs.Operations.{is_beneath}
-use Rattle.dc_plain.specs.Trees.{Tree, entry_of, target_of, is_live_directory}
+use Rattle.dc_plain.specs.Trees.{Tree, entry_of, entry_number, is_live_directory}
 use Rattle.dc_store.specs.Dropped.{is_full_directory}
 use Rattle.dc_store.specs.Spots.{spot_at}
 
@@ -12,12 +12,12 @@ use Rattle.dc_store.specs.Spots.{spot_at}
 pub record CanStandAt (t : Tree) (to : ℕ) (new : List ℕ) (n : ℕ) : Type 0 where
   pub directory : IsTrue (is_live_directory t to)
   pub apart : (is_live_directory t n && is_beneath (length t.inodes) t to n) ≡ false
-  pub other : target_of t (spot_at to new) ≢ Some n
-  pub gives_way : IfSome (target_of t (spot_at to new)) (λ m. IsTrue (not (is_full_directory t m)))
+  pub other : entry_number t (spot_at to new) ≢ Some n
+  pub gives_way : IfSome (entry_number t (spot_at to new)) (λ m. IsTrue (not (is_full_directory t m)))
 
 -- the entry is there, and what it leads to may stand at the new name
 abbrev pub CanMove : Tree → ℕ → List ℕ → ℕ → List ℕ → Type 0
-CanMove t from old to new = IsSomeAnd (target_of t (spot_at from old)) (CanStandAt t to new)
+CanMove t from old to new = IsSomeAnd (entry_number t (spot_at from old)) (CanStandAt t to new)
 
 -- n at the new name in place of the old one and of what stood there
 abbrev pub tree_moved : Tree → ℕ → List ℕ → ℕ → List ℕ → ℕ → Tree

@@ -1,7 +1,7 @@
 ghost use Rattle.std.specs.Prelude.{◌≡◌, ◌<◌, ◌^◌, None, option_map, IfSome, IfOk, OnOk, OnErr, IsTrue};
 ghost use Rattle.dc_plain.specs.Effects.{with_new, with_entry_for};
 ghost use Rattle.dc_plain.specs.IsWellFormed.{IsWellFormed};
-ghost use Rattle.dc_plain.specs.Trees.{Tree, empty_tree, inode_of, target_of, is_live_directory};
+ghost use Rattle.dc_plain.specs.Trees.{Tree, empty_tree, inode_of, entry_number, is_live_directory};
 ghost use Rattle.dc_store.specs.Added.{CanBeNamed};
 ghost use Rattle.dc_store.specs.Maps.{tree_in, node_shown, IsNodeAt, CanKeep, IsSound};
 ghost use Rattle.dc_store.specs.Moved.{CanMove, tree_moved};
@@ -58,7 +58,7 @@ impl MapStore {
     /// finds no memory.
     fn make(&mut self, alloc: Global, dir: u64, name: Name<'_>, node: Node) -> Result<u64, NoMemory>
         requires directory { IsTrue (is_live_directory self.old dir) }
-        requires free { target_of self.old (spot_at dir name.bytes.now) ≡ None }
+        requires free { entry_number self.old (spot_at dir name.bytes.now) ≡ None }
         requires room { self.old.next < 2 ^ 63 }
         requires fits { CanKeep dir node }
         ensures ok { OnOk result (self.new
@@ -81,7 +81,7 @@ impl MapStore {
     /// Adds an entry for what lives.
     fn link(&mut self, alloc: Global, dir: u64, name: Name<'_>, number: u64) -> Result<(), NoMemory>
         requires directory { IsTrue (is_live_directory self.old dir) }
-        requires free { target_of self.old (spot_at dir name.bytes.now) ≡ None }
+        requires free { entry_number self.old (spot_at dir name.bytes.now) ≡ None }
         requires can { CanBeNamed self.old number }
         ensures ok { OnOk result (self.new
             ≡ with_entry_for self.old dir name.entry.bytes.now number) }
@@ -101,7 +101,7 @@ impl MapStore {
         new: Name<'_>,
     ) -> Result<(), NoMemory>
         requires { CanMove self.old from old.bytes.now to new.bytes.now }
-        ensures ok { OnOk result (IfSome (target_of self.old (spot_at from old.entry.bytes.now))
+        ensures ok { OnOk result (IfSome (entry_number self.old (spot_at from old.entry.bytes.now))
             (λ n. self.new
             ≡ tree_moved self.old from old.entry.bytes.now to new.entry.bytes.now n)) }
         ensures err { OnErr result (self.new ≡ self.old) }

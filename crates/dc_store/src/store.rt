@@ -3,7 +3,7 @@ ghost use Rattle.dc_names.specs.Paths.{fault_of};
 ghost use Rattle.dc_plain.specs.Effects.{without_entry};
 ghost use Rattle.dc_plain.specs.Facts.Label.{Parent};
 ghost use Rattle.dc_plain.specs.IsWellFormed.{IsWellFormed};
-ghost use Rattle.dc_plain.specs.Trees.{Tree, target_of, inode_of, entry_of, text_of, kind_of, names_in, is_live_directory};
+ghost use Rattle.dc_plain.specs.Trees.{Tree, entry_number, inode_of, entry_of, text_of, kind_of, names_in, is_live_directory};
 ghost use Rattle.dc_store.specs.Added.{CanAdd, tree_added, number_added};
 ghost use Rattle.dc_store.specs.Counts.{count_of};
 ghost use Rattle.dc_store.specs.Dropped.{CanDrop};
@@ -34,7 +34,7 @@ pub trait Store {
     /// The number that a name in a directory leads to. `None` where there is no such entry, or no such
     /// directory.
     fn find(&self, dir: u64, name: Name<'_>) -> Option<u64>
-        ensures target { result ≡ target_of (tree self.now) (spot_at dir name.entry.bytes.now) }
+        ensures target { result ≡ entry_number (tree self.now) (spot_at dir name.entry.bytes.now) }
         ensures well { IsWellFormed (tree self.now) };
 
     /// The kind of an inode. `None` where nothing lives under the number.
@@ -88,7 +88,7 @@ pub trait Store {
         new: New<'_>,
     ) -> Result<u64, NoMemory>
         requires directory { IsTrue (is_live_directory (tree self.old) dir) }
-        requires free { target_of (tree self.old) (spot_at dir name.bytes.now) ≡ None }
+        requires free { entry_number (tree self.old) (spot_at dir name.bytes.now) ≡ None }
         requires can { CanAdd (tree self.old) new }
         ensures ok { OnOk result (tree self.new
             ≡ tree_added (tree self.old) dir name.entry.bytes.now new.entry) }
@@ -99,7 +99,7 @@ pub trait Store {
     /// to where that was its last name. It takes no memory.
     fn drop_entry(&mut self, dir: u64, name: Name<'_>)
         requires { CanDrop (tree self.old) dir name.bytes.now }
-        ensures { IfSome (target_of (tree self.old) (spot_at dir name.entry.bytes.now))
+        ensures { IfSome (entry_number (tree self.old) (spot_at dir name.entry.bytes.now))
             (λ n. tree self.new ≡ without_entry (tree self.old) dir name.entry.bytes.now n) };
 
     /// Moves an entry that is there to another name, in a live directory that isn't beneath what moves:
@@ -113,7 +113,7 @@ pub trait Store {
         new: (u64, Name<'_>),
     ) -> Result<(), NoMemory>
         requires { CanMove (tree self.old) old.0 old.1.bytes.now new.0 new.1.bytes.now }
-        ensures ok { OnOk result (IfSome (target_of (tree self.old) (spot_at old.entry.0 old.entry.1.bytes.now))
+        ensures ok { OnOk result (IfSome (entry_number (tree self.old) (spot_at old.entry.0 old.entry.1.bytes.now))
             (λ n. tree self.new ≡ tree_moved (tree self.old) old.entry.0 old.entry.1.bytes.now
             new.entry.0 new.entry.1.bytes.now n)) }
         ensures err { OnErr result (tree self.new ≡ tree self.old) };

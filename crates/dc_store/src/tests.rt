@@ -1,6 +1,6 @@
 ghost use Rattle.std.specs.Prelude.{◌≡◌, ◌≢◌, ◌&&◌, true, false, length, not, is_some, Some, IfSome, IsTrue};
 ghost use Rattle.dc_plain.specs.Operations.{is_beneath};
-ghost use Rattle.dc_plain.specs.Trees.{target_of, is_live_directory};
+ghost use Rattle.dc_plain.specs.Trees.{entry_number, is_live_directory};
 ghost use Rattle.dc_store.specs.Added.{CanAdd, CanBeNamed};
 ghost use Rattle.dc_store.specs.Dropped.{is_full_directory};
 ghost use Rattle.dc_store.specs.Spots.{spot_at};
@@ -13,7 +13,7 @@ use std::test::Fail;
 /// Whether a name in a directory is free.
 fn is_free<S: Store>(store: &S, dir: u64, name: Name<'_>) -> bool
     ensures { result ≡ (is_live_directory (S.tree store.now) dir
-        && not (is_some (target_of (S.tree store.now) (spot_at dir name.entry.bytes.now)))) }
+        && not (is_some (entry_number (S.tree store.now) (spot_at dir name.entry.bytes.now)))) }
 {
     matches!(store.kind(dir), Some(Kind::Dir)) && store.find(dir, name).is_none()
 }
@@ -53,9 +53,9 @@ fn is_apart<S: Store>(store: &S, number: u64, to: u64) -> bool
 /// Whether nothing stands at a name, or another inode that gives way.
 fn gives_way<S: Store>(store: &S, to: u64, new: Name<'_>, number: u64) -> bool
     ensures other { result ≡ true →
-        target_of (S.tree store.now) (spot_at to new.entry.bytes.now) ≢ Some number }
+        entry_number (S.tree store.now) (spot_at to new.entry.bytes.now) ≢ Some number }
     ensures gives_way { result ≡ true →
-        IfSome (target_of (S.tree store.now) (spot_at to new.entry.bytes.now))
+        IfSome (entry_number (S.tree store.now) (spot_at to new.entry.bytes.now))
         (λ m. IsTrue (not (is_full_directory (S.tree store.now) m))) }
 {
     match store.find(to, new) {

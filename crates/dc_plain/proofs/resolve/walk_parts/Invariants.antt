@@ -1,6 +1,6 @@
 use Rattle.std.proofs.Common.{◌≡◌, ℕ, List, Bool, Option, length}
 use Rattle.dc_names.specs.Paths.{Part}
-use Rattle.dc_plain.specs.Facts.{Place}
+use Rattle.dc_plain.specs.Facts.{Target}
 use Rattle.dc_plain.specs.Resolution.{Outcome, over_parts}
 use Rattle.dc_plain.specs.Trees.{told_of}
 use Rattle.dc_plain.specs.Walks.{stacked}
@@ -8,7 +8,7 @@ use Rattle.dc_plain.proofs.resolve.walk_parts.Given as goal
 
 -- what is left leads where all of it leads
 abbrev pub invariant-parts : goal.invariant-parts
-invariant-parts l = (follow_link : Place → ℕ → List Part → Bool → Option Outcome) →
+invariant-parts l = (follow_link : Target → ℕ → List Part → Bool → Option Outcome) →
     over_parts (told_of l.tree.tree) l.follow follow_link l.place (stacked l.rest.items) l.slash
     ≡ over_parts (told_of l.tree.tree) l.follow follow_link l.fn.start (stacked l.initial.rest.items) l.slash
 
