@@ -10,10 +10,11 @@ use Rattle.std.proofs.lemmas.Map.Keys.{any_passes_from_place}
 use Rattle.std.proofs.lemmas.Map.Made.{is_member-filter}
 use Rattle.dc_plain.specs.Facts.{Key}
 use Rattle.dc_shrink.specs.Listings.{Listing, IsListing, is_in, is_used, last_of, in_bucket}
-use Rattle.dc_index.specs.Slots.{Slot, slot_of, is_free, has_key, is_slot_of, bucket_of, IsIndex}
+use Rattle.dc_index.specs.Slots.{Slot, slot_of, is_free, has_key, is_slot_of, bucket_in, IsIndex}
 use Rattle.dc_index.specs.Slots.Slot.{Free, Retired, Holds}
 use Rattle.dc_index.specs.Choices.{slots_in, AgreeIn, MayTake}
 use Rattle.dc_index.proofs.Keys.{holds_true, holds_itself}
+use Rattle.dc_index.proofs.Kept.{bucket_below, below_of_bucket}
 use Rattle.dc_index.proofs.Places.{position_none}
 
 module _ {slots : List Slot} (is : IsIndex slots) (b : ℕ) (here : b < length slots / 4) where
@@ -33,7 +34,7 @@ module _ {slots : List Slot} (is : IsIndex slots) (b : ℕ) (here : b < length s
       subst (λ (r : ℕ). test (slot_of slots r) ≡ false) whole
       (ap test (sym (slot_at (row % 4) (omega arith))) ∙ position_none test (slots_in slots b) h (row % 4) Free (omega (arith, four_slots)))
 
-module _ {slots : List Slot} (is : IsIndex slots) (key : Key) (b : ℕ) (its : b ≡ bucket_of slots key) (here : b < length slots / 4) where
+module _ {slots : List Slot} (is : IsIndex slots) (key : Key) (b : ℕ) (its : b ≡ bucket_in slots key) (here : b < length slots / 4) where
   pub row_found : (p : ℕ) → position (is_slot_of key) (slots_in slots b) ≡ Some p → (row : ℕ) → (Some (4 * b + p) ≡ Some row) ↔ (slot_of slots row ≡ Holds key)
   row_found p h row = let at : slot_of slots (4 * b + p) ≡ Holds key = holds_true key (slot_of slots (4 * b + p)) (found is b here (is_slot_of key) p h).1 in
       ((λ e. let same : 4 * b + p ≡ row = cc in subst (λ (r : ℕ). slot_of slots r ≡ Holds key) same at), (λ e. ap (λ r. Some r) (is.one (4 * b + p) row key at e)))
@@ -54,7 +55,7 @@ pub if_some : {P : ℕ → Type 0} (o : Option ℕ) → ((row : ℕ) → o ≡ S
 if_some None h = tt
 if_some (Some row) h = h row refl
 
-module _ {slots : List Slot} (is : IsIndex slots) {used : Listing} (valid : IsListing used) (key : Key) (b : ℕ) (its : b ≡ bucket_of slots key) (here : b < length slots / 4) (agree : AgreeIn b slots used) where
+module _ {slots : List Slot} (is : IsIndex slots) {used : Listing} (valid : IsListing used) (key : Key) (b : ℕ) (its : b ≡ bucket_in slots key) (here : b < length slots / 4) (agree : AgreeIn b slots used) where
   free_safe : (row : ℕ) → row / 4 ≡ b → slot_of slots row ≡ Free → MayTake slots used key row
   free_safe row at free = let unused : is_used used row ≡ false = sym (agree row at) ∙ ap has_key free in
       (at ∙ its, no_pins (map.get used.pins row) (or_parts (is_in used.listed row) (is_some (map.get used.pins row)) unused).1, λ e. let two : Free ≡ Retired = sym free ∙ e in cc)
@@ -69,3 +70,8 @@ module _ {slots : List Slot} (is : IsIndex slots) {used : Listing} (valid : IsLi
   choice_safe None h row e = victim_safe row e
   choice_safe (Some p) h row e = let at = found is b here is_free p h in let same : 4 * b + p ≡ row = cc in
       subst (MayTake slots used key) same (free_safe (4 * b + p) (omega (arith, at.0)) (free_true (slot_of slots (4 * b + p)) at.1))
+
+-- a row that may be taken is a row
+pub some_within : {slots : List Slot} → IsIndex slots → (used : Listing) (key : Key) (o : Option ℕ) → IfSome o (MayTake slots used key) → IfSome o (λ row. row < length slots)
+some_within is used key None h = tt
+some_within {slots} is used key (Some row) h = below_of_bucket is row (bucket_in slots key) (bucket_below is key) h.0

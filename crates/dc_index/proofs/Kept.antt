@@ -5,13 +5,13 @@ use Rattle.std.proofs.lemmas.Bool.{cases_eq, cases_lt}
 use Rattle.std.proofs.lemmas.List.{get_or-set_same, get_or-set_other, get_or-replicate, get_or_past, get_or-map, length-set, length-replicate}
 use Rattle.dc_names.specs.Hash.{hash_of}
 use Rattle.dc_plain.specs.Facts.{Key}
-use Rattle.dc_index.specs.Slots.{Slot, slot_of, has_key, cleared, bucket_of, label_bytes, IsIndex}
+use Rattle.dc_index.specs.Slots.{Slot, slot_of, has_key, cleared, bucket_in, label_bytes, IsIndex}
 use Rattle.dc_index.specs.Slots.Slot.{Free, Retired, Holds}
 use Rattle.dc_index.specs.OwnKeys.{slot_shown}
 use Rattle.dc_index.specs.declared.slot.Slot as rust_slot
 use Rattle.dc_index.specs.declared.slot.Slot.TheVariants as slots
 
-same_bucket : (slots : List Slot) (row : ℕ) (slot : Slot) (key : Key) → bucket_of (slice_set slots row slot) key ≡ bucket_of slots key
+same_bucket : (slots : List Slot) (row : ℕ) (slot : Slot) (key : Key) → bucket_in (slice_set slots row slot) key ≡ bucket_in slots key
 same_bucket slots row slot key = ap (λ n. hash_of key.number (label_bytes key.label) % (n / 4)) (length-set slots row slot)
 
 module _ {slots : List Slot} (is : IsIndex slots) (row : ℕ) (below : row < length slots) where
@@ -24,7 +24,7 @@ module _ {slots : List Slot} (is : IsIndex slots) (row : ℕ) (below : row < len
       at (inr ne) = inr (ne, sym (get_or-set_other slots row r slot Free ne) ∙ h)
 
   -- a slot with a key that no other row has, in its bucket, or one without a key
-  pub kept_set : (slot : Slot) → ((key : Key) → slot ≡ Holds key → (row / 4 ≡ bucket_of slots key) × ((r : ℕ) → slot_of slots r ≡ Holds key → ⊥)) → IsIndex (slice_set slots row slot)
+  pub kept_set : (slot : Slot) → ((key : Key) → slot ≡ Holds key → (row / 4 ≡ bucket_in slots key) × ((r : ℕ) → slot_of slots r ≡ Holds key → ⊥)) → IsIndex (slice_set slots row slot)
   kept_set slot fit = record {
     some = rw (length-set slots row slot) is.some;
     short = rw (length-set slots row slot) is.short;
@@ -33,7 +33,7 @@ module _ {slots : List Slot} (is : IsIndex slots) (row : ℕ) (below : row < len
     one = λ r t key h k. one_at r t key (after slot r key h) (after slot t key k);
   }
     where
-      home_at : (r : ℕ) (key : Key) → ((r ≡ row) × (slot ≡ Holds key)) ⊎ ((r ≡ row → ⊥) × (slot_of slots r ≡ Holds key)) → r / 4 ≡ bucket_of slots key
+      home_at : (r : ℕ) (key : Key) → ((r ≡ row) × (slot ≡ Holds key)) ⊎ ((r ≡ row → ⊥) × (slot_of slots r ≡ Holds key)) → r / 4 ≡ bucket_in slots key
       home_at r key (inl e) = ap (λ n. n / 4) e.0 ∙ (fit key e.1).0
       home_at r key (inr e) = is.home r key e.1
 
@@ -46,22 +46,22 @@ module _ {slots : List Slot} (is : IsIndex slots) (row : ℕ) (below : row < len
   pub kept_empty : (slot : Slot) → has_key slot ≡ false → IsIndex (slice_set slots row slot)
   kept_empty slot h = kept_set slot (λ key e. none key (ap has_key (sym e) ∙ h))
     where
-      none : (key : Key) → true ≡ false → (row / 4 ≡ bucket_of slots key) × ((r : ℕ) → slot_of slots r ≡ Holds key → ⊥)
+      none : (key : Key) → true ≡ false → (row / 4 ≡ bucket_in slots key) × ((r : ℕ) → slot_of slots r ≡ Holds key → ⊥)
       none key e = cc
 
   -- a key without a row gets one of its bucket
-  pub kept_key : (key : Key) → row / 4 ≡ bucket_of slots key → ((r : ℕ) → slot_of slots r ≡ Holds key → ⊥) → IsIndex (slice_set slots row (Holds key))
+  pub kept_key : (key : Key) → row / 4 ≡ bucket_in slots key → ((r : ℕ) → slot_of slots r ≡ Holds key → ⊥) → IsIndex (slice_set slots row (Holds key))
   kept_key key here absent = kept_set (Holds key) (λ other e. same other e)
     where
-      same : (other : Key) → Holds key ≡ Holds other → (row / 4 ≡ bucket_of slots other) × ((r : ℕ) → slot_of slots r ≡ Holds other → ⊥)
-      same other e = let k : key ≡ other = cc in subst (λ (q : Key). (row / 4 ≡ bucket_of slots q) × ((r : ℕ) → slot_of slots r ≡ Holds q → ⊥)) k (here, absent)
+      same : (other : Key) → Holds key ≡ Holds other → (row / 4 ≡ bucket_in slots other) × ((r : ℕ) → slot_of slots r ≡ Holds other → ⊥)
+      same other e = let k : key ≡ other = cc in subst (λ (q : Key). (row / 4 ≡ bucket_in slots q) × ((r : ℕ) → slot_of slots r ≡ Holds q → ⊥)) k (here, absent)
 
 pub cleared_empty : (slot : Slot) → has_key (cleared slot) ≡ false
 cleared_empty Free = refl
 cleared_empty Retired = refl
 cleared_empty (Holds key) = refl
 
-pub bucket_below : {slots : List Slot} → IsIndex slots → (key : Key) → bucket_of slots key < length slots / 4
+pub bucket_below : {slots : List Slot} → IsIndex slots → (key : Key) → bucket_in slots key < length slots / 4
 bucket_below {slots} is key = below_some (hash_of key.number (label_bytes key.label)) (length slots / 4) is.some
   where
     below_some : (h n : ℕ) → 0 < n → h % n < n

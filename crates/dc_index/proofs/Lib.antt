@@ -2,5 +2,4 @@ pub mod Keys
 pub mod Places
 pub mod Kept
 pub mod Chosen
-pub mod Keyless
-pub mod Used
+pub mod Rows

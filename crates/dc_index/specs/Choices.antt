@@ -3,7 +3,7 @@ use Rattle.std.specs.Prelude.{◌≡◌, ◌≢◌, ℕ, ◌+◌, ◌*◌, ◌/�
 use Rattle.std.specs.Option.{option_or}
 use Rattle.dc_plain.specs.Facts.{Key}
 use Rattle.dc_shrink.specs.Listings.{Listing, last_of, in_bucket, is_used, pins_of}
-use Rattle.dc_index.specs.Slots.{Slot, slot_of, is_free, has_key, bucket_of}
+use Rattle.dc_index.specs.Slots.{Slot, slot_of, is_free, has_key, bucket_in}
 use Rattle.dc_index.specs.Slots.Slot.{Retired}
 
 abbrev pub slots_in : List Slot → ℕ → List Slot
@@ -15,7 +15,7 @@ first_free slots bucket = option_map (λ place. 4 * bucket + place) (position is
 
 -- the first free row of the key's bucket, or else its least recently used unpinned row
 abbrev pub choice : List Slot → Listing → Key → Option ℕ
-choice slots used key = option_or (first_free slots (bucket_of slots key)) (last_of (filter (in_bucket (bucket_of slots key)) used.listed))
+choice slots used key = option_or (first_free slots (bucket_in slots key)) (last_of (filter (in_bucket (bucket_in slots key)) used.listed))
 
 -- in a bucket each row has a key exactly where it is in use
 abbrev pub AgreeIn : ℕ → List Slot → Listing → Type 0
@@ -23,4 +23,4 @@ AgreeIn bucket slots used = (row : ℕ) → row / 4 ≡ bucket → has_key (slot
 
 -- a row of the key's bucket that is neither pinned nor retired
 abbrev pub MayTake : List Slot → Listing → Key → ℕ → Type 0
-MayTake slots used key row = (row / 4 ≡ bucket_of slots key) × (pins_of used row ≡ 0) × (slot_of slots row ≢ Retired)
+MayTake slots used key row = (row / 4 ≡ bucket_in slots key) × (pins_of used row ≡ 0) × (slot_of slots row ≢ Retired)

@@ -43,8 +43,13 @@ label_bytes (Entry name) = name
 label_bytes Parent = 46 ∷ 46 ∷ []
 label_bytes Text = []
 
-abbrev pub bucket_of : List Slot → Key → ℕ
-bucket_of slots key = hash_of key.number (label_bytes key.label) % (length slots / 4)
+-- the bucket of a key, of so many
+abbrev pub bucket_of : Key → ℕ → ℕ
+bucket_of key buckets = hash_of key.number (label_bytes key.label) % buckets
+
+-- the bucket of a key, of those that the rows make
+abbrev pub bucket_in : List Slot → Key → ℕ
+bucket_in slots key = bucket_of key (length slots / 4)
 
 -- the row that has a key, or none where no row has it
 abbrev pub IsRowOf : List Slot → Key → Option ℕ → Type 0
@@ -55,5 +60,5 @@ pub record IsIndex (slots : List Slot) : Type 0 where
   pub some : 0 < length slots / 4
   pub short : length slots ≤ 4096
   pub fours : 4 * (length slots / 4) ≡ length slots
-  pub home : (row : ℕ) (key : Key) → slot_of slots row ≡ Holds key → row / 4 ≡ bucket_of slots key
+  pub home : (row : ℕ) (key : Key) → slot_of slots row ≡ Holds key → row / 4 ≡ bucket_in slots key
   pub one : (row other : ℕ) (key : Key) → slot_of slots row ≡ Holds key → slot_of slots other ≡ Holds key → row ≡ other

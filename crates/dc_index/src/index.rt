@@ -1,6 +1,6 @@
 ghost use Rattle.std.specs.Prelude.{◌≡◌, ◌<◌, ◌≤◌, ◌*◌, ◌/◌, ◌≢◌, ℕ, OnOk, OnErr, IfOk, IfSome, length, replicate, slice_set, map};
 ghost use Rattle.dc_plain.specs.KeysShown.{key_shown, label_shown};
-ghost use Rattle.dc_index.specs.Slots.{slot_of, cleared, bucket_of, label_bytes, IsIndex, IsRowOf};
+ghost use Rattle.dc_index.specs.Slots.{slot_of, cleared, bucket_of, bucket_in, label_bytes, IsIndex, IsRowOf};
 ghost use Rattle.dc_index.specs.Slots.Slot.{Free as IsFree, Retired as IsRetired, Holds};
 ghost use Rattle.dc_index.specs.OwnKeys.{slot_shown};
 ghost use Rattle.dc_index.specs.Choices.{first_free, slots_in, choice, AgreeIn, MayTake};
@@ -41,22 +41,33 @@ fn label_bytes<'a>(label: &Label<'a>) -> &'a [u8]
     }
 }
 
+/// The bucket of a key among so many, at least one: by the hash of its number and of its label's
+/// bytes, which are a name, the two dots of dot-dot, or none for a text.
+pub fn bucket_of(key: &Key<'_>, buckets: u64) -> u64
+    requires { 0 < buckets }
+    ensures bucket { result ≡ bucket_of (key_shown key.now) buckets }
+    ensures within { result < buckets }
+{
+    hash(key.number, label_bytes(&key.label)) % buckets
+}
+
 impl Index {
     /// No row has a key. There are 1 to 1,024 buckets.
     pub fn new(alloc: Global, buckets: u64) -> Result<Index, NoMemory>
         requires { (0 < buckets) × (buckets ≤ 1024) }
-        ensures { IfOk result (λ index. index ≡ replicate (4 * buckets) IsFree) }
+        ensures new { IfOk result (λ index. index ≡ replicate (4 * buckets) IsFree) }
+        ensures free { IfOk result (λ index. (row : ℕ) → slot_of index row ≡ IsFree) }
     {
         let slots = free_slots(alloc, 4 * buckets)?;
         Ok(Index { slots })
     }
 
-    /// The bucket of a key, by the hash of its number and its label's bytes.
-    fn bucket_of(&self, key: &Key<'_>) -> u64
-        ensures bucket { result ≡ bucket_of self.now (key_shown key.now) }
+    /// The bucket of a key.
+    fn bucket(&self, key: &Key<'_>) -> u64
+        ensures bucket { result ≡ bucket_in self.now (key_shown key.now) }
         ensures within { result < length self.now / 4 }
     {
-        hash(key.number, label_bytes(&key.label)) % (self.slots.len() / 4) as u64
+        bucket_of(key, (self.slots.len() / 4) as u64)
     }
 
     /// The slots of a bucket.
@@ -75,7 +86,7 @@ impl Index {
         ensures row { IsRowOf self.now (key_shown key.now) result }
         ensures valid { IsIndex self.now }
     {
-        let bucket = self.bucket_of(key);
+        let bucket = self.bucket(key);
         let place = place_of_key(self.slots_in(bucket), key)?;
         Some(4 * bucket + place as u64)
     }
@@ -93,17 +104,18 @@ impl Index {
     /// The row for a key that has none: the free row of its bucket with the lowest number, or else
     /// its bucket's least recently used unpinned row, or `None`.
     pub fn choose(&self, shrinker: &Shrinker, key: &Key<'_>) -> Option<u64>
-        requires { AgreeIn (bucket_of self.now (key_shown key.now)) self.now shrinker.now }
+        requires { AgreeIn (bucket_in self.now (key_shown key.now)) self.now shrinker.now }
         ensures choice { result ≡ choice self.now shrinker.now (key_shown key.now) }
         ensures safe { IfSome result (MayTake self.now shrinker.now (key_shown key.now)) }
+        ensures within { IfSome result (λ row. row < length self.now) }
     {
-        let bucket = self.bucket_of(key);
+        let bucket = self.bucket(key);
         self.first_free(bucket).or(shrinker.victim_of(bucket))
     }
 
     /// Gives a key without a row a row of its bucket, which loses the key that it had.
     pub fn set(&mut self, alloc: Global, row: u64, key: &Key<'_>) -> Result<(), NoMemory>
-        requires home { row / 4 ≡ bucket_of self.old (key_shown key.now) }
+        requires home { row / 4 ≡ bucket_in self.old (key_shown key.now) }
         requires unretired { slot_of self.old row ≢ IsRetired }
         requires absent { (other : ℕ) → slot_of self.old other ≢ Holds (key_shown key.now) }
         ensures set { OnOk result (self.new ≡ slice_set self.old row (Holds (key_shown key.now))) }
@@ -114,7 +126,7 @@ impl Index {
         Ok(())
     }
 
-    /// Takes from a row the key that it has, if any.
+    /// Takes from a row the key that it has, if any: then the row is free. A retired row stays so.
     pub fn clear(&mut self, row: u64)
         requires { row < length self.old }
         ensures { self.new ≡ slice_set self.old row (cleared (slot_of self.old row)) }
@@ -123,7 +135,7 @@ impl Index {
         slot.clear();
     }
 
-    /// Takes from a row the key that it has, if any. The row gets no further one.
+    /// Takes from a row the key that it has, if any. The row never gets another.
     pub fn retire(&mut self, row: u64)
         requires { row < length self.old }
         ensures { self.new ≡ slice_set self.old row IsRetired }

@@ -1,11 +1,11 @@
-ghost use Rattle.std.specs.Prelude.{◌≡◌, ◌≢◌, ◌/◌, ℕ, ◌<◌, [], IfOk, OnOk, IsTrue, length, not, replicate, slice_set};
-ghost use Rattle.std.specs.FinMap as map;
+ghost use Rattle.std.specs.Prelude.{◌≡◌, ◌≢◌, ◌*◌, ◌/◌, ℕ, ◌<◌, ◌≤◌, IfOk, OnOk, IsTrue, length, not, true, slice_set};
 ghost use Rattle.dc_plain.specs.KeysShown.{key_shown};
-ghost use Rattle.dc_shrink.specs.Listings.{listing, added, pinned_once, is_used};
-ghost use Rattle.dc_index.specs.Slots.{slot_of, bucket_of, has_key};
+ghost use Rattle.dc_shrink.specs.Listings.{is_used};
+ghost use Rattle.dc_shrink.specs.Uses.{KeepsUse, SetsUse, UsesNone};
+ghost use Rattle.dc_index.specs.Slots.{slot_of, bucket_in, has_key};
 ghost use Rattle.dc_index.specs.Slots.Slot.{Free, Retired, Holds};
 
-use crate::Index;
+use crate::{Index, bucket_of};
 use dc_names::{Name, NoMemory, hash};
 use dc_plain::{Key, Label};
 use dc_shrink::{PinFault, Shrinker};
@@ -15,26 +15,30 @@ use std::test::*;
 // The calls that take memory are made once more where it was refused, if nothing changed by that.
 // So the test passes whichever allocation `rt try --test --fail-alloc N` refuses.
 
-fn new_index_again(alloc: Global) -> Result<Index, NoMemory>
-    ensures { IfOk result (λ index. index ≡ replicate 4096 Free) }
+fn new_index_again(alloc: Global, buckets: u64) -> Result<Index, NoMemory>
+    requires { (0 < buckets) × (buckets ≤ 1024) }
+    ensures rows { IfOk result (λ index. length index ≡ 4 * buckets) }
+    ensures free { IfOk result (λ index. (row : ℕ) → slot_of index row ≡ Free) }
 {
-    match Index::new(alloc, 1024) {
+    match Index::new(alloc, buckets) {
         Ok(made) => Ok(made),
-        Err(NoMemory) => Index::new(alloc, 1024),
+        Err(NoMemory) => Index::new(alloc, buckets),
     }
 }
 
-fn new_shrinker_again(alloc: Global) -> Result<Shrinker, NoMemory>
-    ensures { IfOk result (λ shrinker. shrinker ≡ listing 4096 [] map.empty) }
+fn new_shrinker_again(alloc: Global, rows: u64) -> Result<Shrinker, NoMemory>
+    requires { 0 < rows }
+    ensures rows { IfOk result (λ shrinker. shrinker.rows ≡ rows) }
+    ensures unused { IfOk result UsesNone }
 {
-    match Shrinker::new(alloc, 4096) {
+    match Shrinker::new(alloc, rows) {
         Ok(made) => Ok(made),
-        Err(NoMemory) => Shrinker::new(alloc, 4096),
+        Err(NoMemory) => Shrinker::new(alloc, rows),
     }
 }
 
 fn set_again(index: &mut Index, alloc: Global, row: u64, key: &Key<'_>) -> Result<(), NoMemory>
-    requires home { row / 4 ≡ bucket_of index.old (key_shown key.now) }
+    requires home { row / 4 ≡ bucket_in index.old (key_shown key.now) }
     requires unretired { slot_of index.old row ≢ Retired }
     requires absent { (other : ℕ) → slot_of index.old other ≢ Holds (key_shown key.now) }
     ensures { OnOk result (index.new ≡ slice_set index.old row (Holds (key_shown key.now))) }
@@ -52,9 +56,11 @@ fn set_again(index: &mut Index, alloc: Global, row: u64, key: &Key<'_>) -> Resul
 
 /// The row that a key is to have among free ones, the row that it is to have once that one is
 /// retired, where it is found then, and where after its row was cleared.
-fn rows_of(alloc: Global, key: &Key<'_>) -> Result<[Option<u64>; 4], NoMemory> {
-    let mut index = new_index_again(alloc)?;
-    let shrinker = new_shrinker_again(alloc)?;
+fn rows_of(alloc: Global, buckets: u64, key: &Key<'_>) -> Result<[Option<u64>; 4], NoMemory>
+    requires { (0 < buckets) × (buckets ≤ 1024) }
+{
+    let mut index = new_index_again(alloc, buckets)?;
+    let shrinker = new_shrinker_again(alloc, 4 * buckets)?;
     let Some(first) = index.choose(&shrinker, key) else {
         return Ok([None; 4]);
     };
@@ -77,7 +83,22 @@ fn keys_stand_in_their_bucket(rt: HostRuntime) -> Result<(), Fail> {
         (2, Label::Text, 2076),
     ];
     for (number, label, row) in labels {
-        let rows = rows_of(rt.alloc(), &Key { number, label })?;
+        let rows = rows_of(rt.alloc(), 1024, &Key { number, label })?;
+        assert_eq!(rt; rows, [Some(row), Some(row + 1), Some(row + 1), None]);
+    }
+    Ok(())
+}
+
+#[test]
+fn the_longest_name_has_a_row(rt: HostRuntime) -> Result<(), Fail> {
+    let name = Name::new(&[b'a'; 255]).ok_or("no name")?;
+    let key = Key {
+        number: u64::MAX,
+        label: Label::Name(name),
+    };
+    for buckets in [1, 2, 1023, 1024] {
+        let row = 4 * bucket_of(&key, buckets);
+        let rows = rows_of(rt.alloc(), buckets, &key)?;
         assert_eq!(rt; rows, [Some(row), Some(row + 1), Some(row + 1), None]);
     }
     Ok(())
@@ -95,7 +116,8 @@ struct Rows {
 fn add_again(shrinker: &mut Shrinker, row: u64) -> Result<(), NoMemory>
     requires within { row < shrinker.old.rows }
     requires unused { IsTrue (not (is_used shrinker.old row)) }
-    ensures { OnOk result (shrinker.new ≡ added shrinker.old row) }
+    ensures used { OnOk result (SetsUse row true shrinker.old shrinker.new) }
+    ensures rows { OnOk result (shrinker.new.rows ≡ shrinker.old.rows) }
 {
     let victim = shrinker.victim();
     match shrinker.add(row) {
@@ -111,7 +133,8 @@ fn add_again(shrinker: &mut Shrinker, row: u64) -> Result<(), NoMemory>
 
 fn pin_again(shrinker: &mut Shrinker, row: u64) -> Result<(), PinFault>
     requires { IsTrue (is_used shrinker.old row) }
-    ensures { OnOk result (shrinker.new ≡ pinned_once shrinker.old row) }
+    ensures same_use { KeepsUse shrinker.old shrinker.new }
+    ensures rows { OnOk result (shrinker.new.rows ≡ shrinker.old.rows) }
 {
     let pins = shrinker.pins(row);
     match shrinker.pin(row) {
@@ -135,8 +158,8 @@ fn text_of(number: u64) -> Key<'static> {
 
 impl Rows {
     fn new(alloc: Global) -> Result<Rows, NoMemory> {
-        let index = new_index_again(alloc)?;
-        let shrinker = new_shrinker_again(alloc)?;
+        let index = new_index_again(alloc, 1024)?;
+        let shrinker = new_shrinker_again(alloc, 4096)?;
         Ok(Rows { index, shrinker })
     }
 

@@ -2,5 +2,7 @@ pub mod Words
 pub mod Parts
 pub mod Sessions
 pub mod Lines
+pub mod Numbers
+pub mod Responses
 pub mod ReplyLines
 mod WorkedLines

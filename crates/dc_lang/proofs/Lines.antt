@@ -1,4 +1,4 @@
--- What a line says is what reading computes, and nothing else.
+-- What a line means is what reading computes, and nothing else.
 use Rattle.std.proofs.Common.{◌≡◌, ℕ, ◌==◌, ◌||◌, Bool, true, false, List, [], ◌∷◌, Option, Some, None, Result, Ok, Err, IfOk, IsErrOf, option_map, map, length, refl, sym, ap, ◌∙◌, inl, inr, cond, codes, subst, find}
 use Rattle.std.specs.Fmt.{decimal}
 use Rattle.std.specs.List.{list_any}
@@ -13,9 +13,9 @@ use Rattle.dc_lang.specs.declared.line.LineFault.TheVariants.{Bad, NoMemory}
 use Rattle.dc_lang.specs.declared.line.Verb.{Verb}
 use Rattle.dc_lang.specs.declared.line.Verb.TheVariants as verbs
 use Rattle.dc_lang.specs.Words.{spelled, spaced}
-use Rattle.dc_lang.specs.Commands.{Order, IsOrder, Said, Says, verb_text, word_count, line_text, said_by}
-use Rattle.dc_lang.specs.Commands.Said.{Sync, Orders}
-use Rattle.dc_lang.specs.Reading.{session_in, all_verbs, verb_in, words_in, counted_words, ◌>>=◌, order_in, parts, said_in, Reads}
+use Rattle.dc_lang.specs.Commands.{Order, IsOrder, Meaning, Means, verb_text, word_count, line_text, meaning_of}
+use Rattle.dc_lang.specs.Commands.Meaning.{Sync, Orders}
+use Rattle.dc_lang.specs.Reading.{session_in, all_verbs, verb_in, words_in, counted_words, ◌>>=◌, order_in, parts, meaning_in, Reads}
 use Rattle.dc_lang.proofs.Words.{chosen, words_in-spelled, words_in_spells}
 use Rattle.dc_lang.proofs.Parts.{HasNoSpace, all_spelled, parts-spaced}
 use Rattle.dc_lang.proofs.Sessions.{session_in-decimal, session_in_spells, HasNoSpace-session}
@@ -44,7 +44,7 @@ neither : (a b : Bool) → (a || b) ≡ false → (a ≡ false) × (b ≡ false)
 neither true b e = cc
 neither false b e = (refl, e)
 
-no_space_tested : (text : List ℕ) → list_any (λ b. b == 32) text ≡ false → HasNoSpace text
+pub no_space_tested : (text : List ℕ) → list_any (λ b. b == 32) text ≡ false → HasNoSpace text
 no_space_tested [] e = tt
 no_space_tested (b ∷ text) e =
     let each = neither (b == 32) (list_any (λ c. c == 32) text) e in
@@ -65,7 +65,7 @@ HasNoSpace-verb_text verbs.Unlink = no_space_tested (codes "unlink") refl
 HasNoSpace-verb_text verbs.Rmdir = no_space_tested (codes "rmdir") refl
 HasNoSpace-verb_text verbs.Rename = no_space_tested (codes "rename") refl
 
-found_passes : {A : Type 0} (p : A → Bool) (xs : List A) (x : A) → find p xs ≡ Some x → p x ≡ true
+pub found_passes : {A : Type 0} (p : A → Bool) (xs : List A) (x : A) → find p xs ≡ Some x → p x ≡ true
 found_passes p [] x e = cc
 found_passes p (y ∷ ys) x e = elim (chosen (p y) (Some y) (find p ys) (Some x) e) [
   | inl here ↦ let same : y ≡ x = cc in subst (λ z. p z ≡ true) same here.0
@@ -76,10 +76,10 @@ verb_in_spells : (text : List ℕ) (verb : Verb) → verb_in text ≡ Some verb 
 unfolding verb_in
 verb_in_spells text verb e = (bytes_eq-Decides (verb_text verb) text).0 (found_passes (λ v. bytes_eq (verb_text v) text) all_verbs verb e)
 
-bind_at : {A B : Type 0} (found : Option A) (x : A) (next : A → Option B) (y : Option B) → found ≡ Some x → next x ≡ y → (found >>= next) ≡ y
+pub bind_at : {A B : Type 0} (found : Option A) (x : A) (next : A → Option B) (y : Option B) → found ≡ Some x → next x ≡ y → (found >>= next) ≡ y
 bind_at found x next y e f = ap (λ o. o >>= next) e ∙ f
 
-bind_some : {A B : Type 0} (found : Option A) (next : A → Option B) (y : B) → (found >>= next) ≡ Some y → (x : A) × (found ≡ Some x) × (next x ≡ Some y)
+pub bind_some : {A B : Type 0} (found : Option A) (next : A → Option B) (y : B) → (found >>= next) ≡ Some y → (x : A) × (found ≡ Some x) × (next x ≡ Some y)
 bind_some None next y e = cc
 bind_some (Some x) next y e = (x, refl, e)
 
@@ -136,43 +136,43 @@ no_sync line a b rest e = go (bytes_eq line (codes "sync")) refl
         let is : line ≡ codes "sync" = (bytes_eq-Decides line (codes "sync")).0 same in
         let one : codes "sync" ∷ [] ≡ a ∷ b ∷ rest = ap parts (sym is) ∙ e in cc
 
-pub said_in_from_says : (line : List ℕ) (said : Said) → Says line said → said_in line ≡ Some said
-unfolding said_in
-said_in_from_says line Sync says = ap said_in (sym says.text)
-said_in_from_says line (Orders order) says =
-    let cut : parts line ≡ order_words order = ap parts (sym says.text) ∙ parts_order order says.is in
+pub meaning_in_from_means : (line : List ℕ) (meaning : Meaning) → Means line meaning → meaning_in line ≡ Some meaning
+unfolding meaning_in
+meaning_in_from_means line Sync means = ap meaning_in (sym means.text)
+meaning_in_from_means line (Orders order) means =
+    let cut : parts line ≡ order_words order = ap parts (sym means.text) ∙ parts_order order means.is in
     ap (λ test. cond test (Some Sync) (option_map Orders (order_in (parts line)))) (no_sync line (decimal order.session) (verb_text order.verb) (map spelled order.words) cut)
     ∙ ap (λ texts. option_map Orders (order_in texts)) cut
-    ∙ ap (option_map Orders) (order_in-order_words order says.is)
+    ∙ ap (option_map Orders) (order_in-order_words order means.is)
 
-orders_some : (found : Option Order) (said : Said) → option_map Orders found ≡ Some said → (order : Order) × (found ≡ Some order) × (said ≡ Orders order)
-orders_some None said e = cc
-orders_some (Some order) said e = (order, refl, cc)
+orders_some : (found : Option Order) (meaning : Meaning) → option_map Orders found ≡ Some meaning → (order : Order) × (found ≡ Some order) × (meaning ≡ Orders order)
+orders_some None meaning e = cc
+orders_some (Some order) meaning e = (order, refl, cc)
 
-says_order : (line : List ℕ) (order : Order) → order_in (parts line) ≡ Some order → Says line (Orders order)
-says_order line order e =
+means_order : (line : List ℕ) (order : Order) → order_in (parts line) ≡ Some order → Means line (Orders order)
+means_order line order e =
     let read = order_in_spells (parts line) order e in
     record { is = read.0; text = ap spaced read.1 ∙ join_with_byte-slice_split 32 line }
 
-pub says_from_said_in : (line : List ℕ) (said : Said) → said_in line ≡ Some said → Says line said
-unfolding said_in
-says_from_said_in line said e = elim (chosen (bytes_eq line (codes "sync")) (Some Sync) (option_map Orders (order_in (parts line))) (Some said) e) [
-  | inl sync ↦ (let is : Sync ≡ said = cc in
-      subst (Says line) is (record { is = tt; text = sym ((bytes_eq-Decides line (codes "sync")).0 sync.0) }))
-  | inr other ↦ (let found = orders_some (order_in (parts line)) said other.1 in
-      subst (Says line) (sym found.2) (says_order line found.0 found.1))
+pub means_from_meaning_in : (line : List ℕ) (meaning : Meaning) → meaning_in line ≡ Some meaning → Means line meaning
+unfolding meaning_in
+means_from_meaning_in line meaning e = elim (chosen (bytes_eq line (codes "sync")) (Some Sync) (option_map Orders (order_in (parts line))) (Some meaning) e) [
+  | inl sync ↦ (let is : Sync ≡ meaning = cc in
+      subst (Means line) is (record { is = tt; text = sym ((bytes_eq-Decides line (codes "sync")).0 sync.0) }))
+  | inr other ↦ (let found = orders_some (order_in (parts line)) meaning other.1 in
+      subst (Means line) (sym found.2) (means_order line found.0 found.1))
 ]
 
-pub one_thing : (line : List ℕ) (a b : Said) → Says line a → Says line b → a ≡ b
+pub one_thing : (line : List ℕ) (a b : Meaning) → Means line a → Means line b → a ≡ b
 one_thing line a b first second =
-    let same : Some a ≡ Some b = sym (said_in_from_says line a first) ∙ said_in_from_says line b second in cc
+    let same : Some a ≡ Some b = sym (meaning_in_from_means line a first) ∙ meaning_in_from_means line b second in cc
 
--- what is read is said by the line, and a bad line says nothing
-pub says_what_is_read : (line : List ℕ) (read : Result Line LineFault) → Reads said_by read (said_in line) → IfOk read (λ said. Says line (said_by said))
-says_what_is_read line (Ok said) e = says_from_said_in line (said_by said) e
-says_what_is_read line (Err fault) e = tt
+-- what is read is what the line means, and a bad line means nothing
+pub means_what_is_read : (line : List ℕ) (read : Result Line LineFault) → Reads meaning_of read (meaning_in line) → IfOk read (λ meaning. Means line (meaning_of meaning))
+means_what_is_read line (Ok meaning) e = means_from_meaning_in line (meaning_of meaning) e
+means_what_is_read line (Err fault) e = tt
 
-pub bad_says_nothing : (line : List ℕ) (read : Result Line LineFault) → Reads said_by read (said_in line) → IsErrOf read Bad → (said : Said) → Says line said → ⊥
-bad_says_nothing line (Ok read) e bad said says = cc
-bad_says_nothing line (Err Bad) e bad said says = let none : None ≡ Some said = sym e ∙ said_in_from_says line said says in cc
-bad_says_nothing line (Err NoMemory) e bad said says = cc
+pub bad_means_nothing : (line : List ℕ) (read : Result Line LineFault) → Reads meaning_of read (meaning_in line) → IsErrOf read Bad → (meaning : Meaning) → Means line meaning → ⊥
+bad_means_nothing line (Ok read) e bad meaning means = cc
+bad_means_nothing line (Err Bad) e bad meaning means = let none : None ≡ Some meaning = sym e ∙ meaning_in_from_means line meaning means in cc
+bad_means_nothing line (Err NoMemory) e bad meaning means = cc

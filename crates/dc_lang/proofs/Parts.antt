@@ -31,7 +31,7 @@ HasNoSpace-spelled_bytes : (bytes : List ℕ) → HasNoSpace (flat_map spelled_b
 HasNoSpace-spelled_bytes [] = tt
 HasNoSpace-spelled_bytes (b ∷ bytes) = HasNoSpace-append (spelled_byte b) (flat_map spelled_byte bytes) (HasNoSpace-spelled_byte b) (HasNoSpace-spelled_bytes bytes)
 
-HasNoSpace-spelled : (bytes : List ℕ) → HasNoSpace (spelled bytes)
+pub HasNoSpace-spelled : (bytes : List ℕ) → HasNoSpace (spelled bytes)
 HasNoSpace-spelled [] = (refl, (refl, tt))
 HasNoSpace-spelled (b ∷ bytes) = HasNoSpace-spelled_bytes (b ∷ bytes)
 

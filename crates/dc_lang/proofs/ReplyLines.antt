@@ -1,4 +1,4 @@
--- The line of a reply as it is put together.
+-- The lines of a reply and of a command as they are put together.
 use Rattle.std.proofs.Common.{◌≡◌, ℕ, List, [], ◌∷◌, ◌++◌, sym, ap, ◌∙◌, append_assoc, append-nil}
 use Rattle.std.proofs.lemmas.List.Concat.{flat_map-append}
 use Rattle.dc_lang.specs.Words.{spaced}
@@ -12,3 +12,7 @@ pub reply_line : (first last : List ℕ) (words : List (List ℕ)) → spaced (f
 reply_line first last words =
     ap (λ line. line ++ 10 ∷ []) (spaced-cons first (words ++ last ∷ []) ∙ ap (λ rest. first ++ rest) (flat_map-append (λ word. 32 ∷ word) words (last ∷ [])))
     ∙ simp (append_assoc, append-nil)
+
+pub command_line_is : (first verb : List ℕ) (words : List (List ℕ)) → ((first ++ 32 ∷ []) ++ verb) ++ behind_spaces words ≡ spaced (first ∷ verb ∷ words)
+command_line_is first verb words =
+    append_assoc (first ++ 32 ∷ []) verb (behind_spaces words) ∙ append_assoc first (32 ∷ []) (verb ++ behind_spaces words) ∙ sym (spaced-cons first (verb ∷ words))

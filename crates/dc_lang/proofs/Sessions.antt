@@ -1,5 +1,5 @@
 -- A session is read from its decimal digits, and from nothing else.
-use Rattle.std.proofs.Common.{◌≡◌, ℕ, ◌+◌, ◌/◌, ◌%◌, ◌≤◌, List, [], ◌∷◌, ◌++◌, Some, refl, sym, ap, ◌∙◌, ◌⊎◌, inl, inr, arith, lit<, subst}
+use Rattle.std.proofs.Common.{◌≡◌, ℕ, ◌+◌, ◌/◌, ◌%◌, ◌<◌, ◌≤◌, List, [], ◌∷◌, ◌++◌, Some, refl, sym, ap, ◌∙◌, ◌⊎◌, inl, inr, arith, lit<, subst}
 use Rattle.std.specs.Fmt.{decimal}
 use Rattle.std.proofs.lemmas.Bool.Decides.{nat_tests, leb_tells}
 use Rattle.std.proofs.lemmas.Fmt.{decimal_digit, decimal_step}
@@ -20,14 +20,14 @@ session_digits n h = elim (leb_tells n 9) [
   | inr two ↦ inr (omega arith, two_digits n (omega arith) h)
 ]
 
-pub session_in-decimal : (n : ℕ) → n ≤ 15 → session_in (decimal n) ≡ Some n
-session_in-decimal n h = elim (session_digits n h) [
+pub session_in-decimal : (n : ℕ) → n < 16 → session_in (decimal n) ≡ Some n
+session_in-decimal n h = elim (session_digits n (omega arith)) [
   | inl one ↦ ap session_in one.1 ∙ grind (arith, nat_tests)
   | inr two ↦ ap session_in two.1 ∙ grind (arith, nat_tests)
 ]
 
-pub HasNoSpace-session : (n : ℕ) → n ≤ 15 → HasNoSpace (decimal n)
-HasNoSpace-session n h = elim (session_digits n h) [
+pub HasNoSpace-session : (n : ℕ) → n < 16 → HasNoSpace (decimal n)
+HasNoSpace-session n h = elim (session_digits n (omega arith)) [
   | inl one ↦ subst HasNoSpace (sym one.1) (grind (arith, nat_tests), tt)
   | inr two ↦ subst HasNoSpace (sym two.1) (refl, (grind (arith, nat_tests), tt))
 ]
@@ -38,12 +38,12 @@ one_digit a n e = (grind (arith, nat_tests), grind (arith, nat_tests))
 teen : (a b n : ℕ) → session_in (a ∷ b ∷ []) ≡ Some n → (a ≡ 49) × (10 ≤ n) × (n ≤ 15) × (38 + n ≡ b)
 teen a b n e = (grind (arith, nat_tests), grind (arith, nat_tests), grind (arith, nat_tests), grind (arith, nat_tests))
 
-pub session_in_spells : (text : List ℕ) (n : ℕ) → session_in text ≡ Some n → (n ≤ 15) × (decimal n ≡ text)
+pub session_in_spells : (text : List ℕ) (n : ℕ) → session_in text ≡ Some n → (n < 16) × (decimal n ≡ text)
 session_in_spells [] n e = cc
 session_in_spells (a ∷ []) n e =
     let digit = one_digit a n e in
     (omega arith, decimal_digit n (omega arith) ∙ ap (λ d. d ∷ []) digit.1)
 session_in_spells (a ∷ b ∷ []) n e =
     let digits = teen a b n e in
-    (digits.2, two_digits n digits.1 digits.2 ∙ cc)
+    (omega arith, two_digits n digits.1 digits.2 ∙ cc)
 session_in_spells (a ∷ b ∷ c ∷ text) n e = cc

@@ -1,6 +1,7 @@
 -- The lines of commands, and the calls that they ask for.
-use Rattle.std.specs.Prelude.{◌≡◌, ℕ, ◌≤◌, List, [], ◌∷◌, map, length, slice_get, codes, decimal, Some, None}
+use Rattle.std.specs.Prelude.{◌≡◌, ℕ, ◌<◌, List, [], ◌∷◌, map, length, slice_get, codes, decimal, Some, None}
 use Rattle.dc_lang.specs.Words.{spelled, spaced}
+use Rattle.dc_lang.specs.declared.TheConstants.{SESSIONS}
 use Rattle.dc_lang.specs.declared.line.Verb.{Verb}
 use Rattle.dc_lang.specs.declared.line.Verb.TheVariants as verbs
 use Rattle.dc_lang.specs.declared.line.Command as rust_command
@@ -16,10 +17,10 @@ pub record Order : Type 0 where
   pub verb : Verb
   pub words : List (List ℕ)
 
--- what a line says
-pub data Said : Type 0 where
-  Sync : Said
-  Orders : Order → Said
+-- what a line means
+pub data Meaning : Type 0 where
+  Sync : Meaning
+  Orders : Order → Meaning
 
 abbrev pub verb_text : Verb → List ℕ
 verb_text verbs.Look = codes "look"
@@ -52,24 +53,24 @@ word_count verbs.Unlink = 1
 word_count verbs.Rmdir = 1
 word_count verbs.Rename = 2
 
--- sessions are 0 to 15, and each verb has its number of words
+-- sessions are those below SESSIONS, and each verb has its number of words
 pub record IsOrder (order : Order) : Type 0 where
-  pub session : order.session ≤ 15
+  pub session : order.session < SESSIONS
   pub words : length order.words ≡ word_count order.verb
 
-abbrev pub IsSaid : Said → Type 0
-IsSaid Sync = Unit {0}
-IsSaid (Orders order) = IsOrder order
+abbrev pub IsMeaning : Meaning → Type 0
+IsMeaning Sync = Unit {0}
+IsMeaning (Orders order) = IsOrder order
 
--- the line of what is said, without its newline
-abbrev pub line_text : Said → List ℕ
+-- the line of a meaning, without its newline
+abbrev pub line_text : Meaning → List ℕ
 line_text Sync = codes "sync"
 line_text (Orders order) = spaced (decimal order.session ∷ verb_text order.verb ∷ map spelled order.words)
 
--- a line says this
-pub record Says (line : List ℕ) (said : Said) : Type 0 where
-  pub is : IsSaid said
-  pub text : line_text said ≡ line
+-- a line means this
+pub record Means (line : List ℕ) (meaning : Meaning) : Type 0 where
+  pub is : IsMeaning meaning
+  pub text : line_text meaning ≡ line
 
 -- the word at a place, or none
 abbrev pub word_at : ℕ → Order → List ℕ
@@ -98,6 +99,6 @@ request_from base order = asked base order order.verb
 abbrev pub order_of : rust_command.Command → Order
 order_of command = record { session = command.session; verb = command.verb; words = map (λ word. word.items) command.words.items }
 
-abbrev pub said_by : rust_line.Line → Said
-said_by lines.Sync = Sync
-said_by (lines.Command command) = Orders (order_of command)
+abbrev pub meaning_of : rust_line.Line → Meaning
+meaning_of lines.Sync = Sync
+meaning_of (lines.Command command) = Orders (order_of command)

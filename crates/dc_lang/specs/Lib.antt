@@ -3,4 +3,5 @@ pub mod Words
 pub mod Commands
 pub mod Reading
 pub mod Replies
+pub mod Responses
 pub mod Writing

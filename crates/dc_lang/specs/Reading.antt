@@ -1,4 +1,4 @@
--- Reading a line: what it says, or that it is no line of the grammar.
+-- Reading a line: what it means, or that it is no line of the grammar.
 use Rattle.std.specs.Prelude.{◌≡◌, ℕ, ◌-◌, ◌==◌, ◌&&◌, ◌||◌, nat_le, if◌then◌else◌, List, [], ◌∷◌, Option, Some, None, option_map, option_and_then, Result, Ok, Err, length, codes, find}
 use Rattle.std.specs.List.{slice_split}
 use Rattle.std.specs.Str.{bytes_eq}
@@ -6,8 +6,8 @@ use Rattle.dc_lang.specs.declared.line.Verb.{Verb}
 use Rattle.dc_lang.specs.declared.line.Verb.TheVariants as verbs
 use Rattle.dc_lang.specs.declared.line.LineFault.{LineFault}
 use Rattle.dc_lang.specs.declared.line.LineFault.TheVariants.{Bad, NoMemory}
-use Rattle.dc_lang.specs.Commands.{Order, Said, verb_text, word_count}
-use Rattle.dc_lang.specs.Commands.Said.{Sync, Orders}
+use Rattle.dc_lang.specs.Commands.{Order, Meaning, verb_text, word_count}
+use Rattle.dc_lang.specs.Commands.Meaning.{Sync, Orders}
 
 -- what a letter behind a backslash stands for
 abbrev pub escaped : ℕ → Option ℕ
@@ -80,9 +80,9 @@ order_in (session_text ∷ verb_word ∷ texts) = do
 abbrev pub parts : List ℕ → List (List ℕ)
 parts line = slice_split (λ b. b == 32) line
 
--- what a line says, or none where it is no line of the grammar
-unfoldable pub said_in : List ℕ → Option Said
-said_in line = if bytes_eq line (codes "sync") then Some Sync else option_map Orders (order_in (parts line))
+-- what a line means, or none where it is no line of the grammar
+unfoldable pub meaning_in : List ℕ → Option Meaning
+meaning_in line = if bytes_eq line (codes "sync") then Some Sync else option_map Orders (order_in (parts line))
 
 -- a bad line reads as none
 abbrev pub Fails : {B : Type 0} → LineFault → Option B → Type 0

@@ -1,9 +1,12 @@
 ghost use Rattle.std.specs.Prelude.{◌≡◌, ◌↔◌, ℕ, List, Some};
-ghost use Rattle.dc_lang.specs.Commands.{Said, Says};
-ghost use Rattle.dc_lang.specs.Reading.{said_in};
+ghost use Rattle.dc_lang.specs.Commands.{Meaning, Means};
+ghost use Rattle.dc_lang.specs.Reading.{meaning_in};
+ghost use Rattle.dc_lang.specs.Responses.{Response, Tells};
 
-/// Each line says one thing, and `read_line`'s definition computes what it says.
-pub fn each_line_says_one_thing()
-    ensures one { (line : List ℕ) (a b : Said) → Says line a → Says line b → a ≡ b }
-    ensures read { (line : List ℕ) (said : Said) → (said_in line ≡ Some said ↔ Says line said) }
+/// A line has one meaning, and `read_line`'s definition computes it. The line of a reply tells one
+/// response.
+pub fn each_line_has_one_meaning()
+    ensures one { (line : List ℕ) (a b : Meaning) → Means line a → Means line b → a ≡ b }
+    ensures read { (line : List ℕ) (meaning : Meaning) → (meaning_in line ≡ Some meaning ↔ Means line meaning) }
+    ensures reply { (line : List ℕ) (a b : Response) → Tells line a → Tells line b → a ≡ b }
 {}

@@ -9,14 +9,19 @@ mod fault;
 mod laws;
 mod line;
 mod read;
+mod reply;
 mod verb;
 mod write;
 
 pub use calls::call;
-pub use laws::each_line_says_one_thing;
+pub use laws::each_line_has_one_meaning;
 pub use line::{Command, Line, LineFault, Verb};
 pub use read::read_line;
-pub use write::write_reply;
+pub use reply::read_reply;
+pub use write::{write_line, write_reply};
+
+/// How many sessions there are: they are numbered from 0.
+pub const SESSIONS: u64 = 16;
 
 #[cfg(test)]
 mod tests;

@@ -3,9 +3,10 @@
 pub enum Verb {
     /// Where a path leads.
     Look,
-    /// The same without following a last link.
+    /// Where a path leads, a last link kept.
     Llook,
-    /// The same of a directory, which the session starts in from then on.
+    /// Where a path leads, a last link followed, to a directory. The session starts there from then
+    /// on.
     Cd,
     /// The text of a symbolic link.
     Readlink,
@@ -30,9 +31,9 @@ pub enum Verb {
 }
 
 /// A command of a session.
-#[derive(Debug, Drop)]
+#[derive(Debug, Drop, PartialEq, Eq)]
 pub struct Command {
-    /// From 0 to 15.
+    /// Below `SESSIONS`.
     pub session: u64,
     /// What the command asks for.
     pub verb: Verb,
@@ -41,7 +42,7 @@ pub struct Command {
 }
 
 /// A line of the input.
-#[derive(Debug, Drop)]
+#[derive(Debug, Drop, PartialEq, Eq)]
 pub enum Line {
     /// All commands before it are answered before any after it begins.
     Sync,
@@ -52,7 +53,7 @@ pub enum Line {
 /// Why a line wasn't read.
 #[derive(Clone, Copy, Debug, PartialEq, Eq)]
 pub enum LineFault {
-    /// It is no line of the grammar.
+    /// The line is none of the grammar.
     Bad,
     /// Memory was refused.
     NoMemory,

@@ -1,6 +1,6 @@
 ghost use Rattle.std.specs.Prelude.{◌≡◌, ◌<◌, Some, None, IfOk, IfSome, IfNone, IsErrOf, map, length};
-ghost use Rattle.dc_lang.specs.Commands.{Said, Says, said_by, order_of};
-ghost use Rattle.dc_lang.specs.Reading.{Reads, escaped, with_first, bytes_in, word_in, words_in, session_in, order_in, parts, said_in};
+ghost use Rattle.dc_lang.specs.Commands.{Meaning, Means, meaning_of, order_of};
+ghost use Rattle.dc_lang.specs.Reading.{Reads, escaped, with_first, bytes_in, word_in, words_in, session_in, order_in, parts, meaning_in};
 
 use crate::verb::verb_in;
 use crate::{Command, Line, LineFault};
@@ -49,7 +49,7 @@ fn bytes_in(alloc: Global, text: &[u8]) -> Result<Vec<u8>, LineFault>
     Ok(bytes)
 }
 
-fn word_in(alloc: Global, text: &[u8]) -> Result<Vec<u8>, LineFault>
+pub(crate) fn word_in(alloc: Global, text: &[u8]) -> Result<Vec<u8>, LineFault>
     ensures { Reads (λ bytes. bytes.items) result (word_in text.now) }
 {
     if text.is_empty() {
@@ -61,7 +61,7 @@ fn word_in(alloc: Global, text: &[u8]) -> Result<Vec<u8>, LineFault>
     bytes_in(alloc, text)
 }
 
-fn words_in(alloc: Global, texts: &[&[u8]]) -> Result<Vec<Vec<u8>>, LineFault>
+pub(crate) fn words_in(alloc: Global, texts: &[&[u8]]) -> Result<Vec<Vec<u8>>, LineFault>
     ensures { Reads (λ words. map (λ word. word.items) words.items) result
         (words_in (map (λ text. text.now) texts.now)) }
 {
@@ -73,7 +73,7 @@ fn words_in(alloc: Global, texts: &[&[u8]]) -> Result<Vec<Vec<u8>>, LineFault>
 }
 
 /// The session of a number from 0 to 15, with no zero in front.
-fn session_in(text: &[u8]) -> Option<u64>
+pub(crate) fn session_in(text: &[u8]) -> Option<u64>
     ensures { result ≡ session_in text.now }
 {
     match text {
@@ -103,15 +103,15 @@ fn command_in(alloc: Global, parts: &[&[u8]]) -> Result<Command, LineFault>
 }
 
 /// The parts of a line between its spaces.
-fn parts(alloc: Global, line: &[u8]) -> Result<Vec<&[u8]>, AllocError>
+pub(crate) fn parts(alloc: Global, line: &[u8]) -> Result<Vec<&[u8]>, AllocError>
     ensures { IfOk result (λ found. map (λ part. part.now) found.items ≡ parts line.now) }
 {
     line.split(|b| *b == b' ').collect(alloc)
 }
 
-#[tactic(auto, unfolding(crate::specs::Reading::said_in))]
+#[tactic(auto, unfolding(crate::specs::Reading::meaning_in))]
 fn read(alloc: Global, line: &[u8]) -> Result<Line, LineFault>
-    ensures { Reads said_by result (said_in line.now) }
+    ensures { Reads meaning_of result (meaning_in line.now) }
 {
     if line == b"sync".as_slice() {
         return Ok(Line::Sync);
@@ -123,11 +123,11 @@ fn read(alloc: Global, line: &[u8]) -> Result<Line, LineFault>
 /// Reads a line, which comes without its newline: `sync`, or a session from 0 to 15, a verb and its
 /// words. `Bad` comes only where it is no such line, `NoMemory` only where memory was refused.
 pub fn read_line(alloc: Global, line: &[u8]) -> Result<Line, LineFault>
-    // What is read is what the line says.
-    ensures ok { IfOk result (λ said. Says line.now (said_by said)) }
-    ensures bad { IsErrOf result LineFault.Bad → (said : Said) → Says line.now said → ⊥ }
+    // What is read is what the line means.
+    ensures ok { IfOk result (λ meaning. Means line.now (meaning_of meaning)) }
+    ensures bad { IsErrOf result LineFault.Bad → (meaning : Meaning) → Means line.now meaning → ⊥ }
     // The same as the definition computes it.
-    ensures exact { Reads said_by result (said_in line.now) }
+    ensures exact { Reads meaning_of result (meaning_in line.now) }
 {
     read(alloc, line)
 }

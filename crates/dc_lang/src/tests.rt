@@ -1,5 +1,6 @@
 use crate::{
-    Command, Line, LineFault, Verb, call, each_line_says_one_thing, read_line, write_reply,
+    Command, Line, LineFault, SESSIONS, Verb, call, each_line_has_one_meaning, read_line,
+    read_reply, write_line, write_reply,
 };
 use dc_names::{Kind, NoMemory};
 use dc_plain::{Call, Follow, Reply, Stamped};
@@ -187,6 +188,98 @@ fn spells_each_byte(rt: HostRuntime) -> Result<(), Fail> {
             b"0 text \\e @0\n"
         )?
     );
-    each_line_says_one_thing();
+    each_line_has_one_meaning();
+    Ok(())
+}
+
+/// Lines that are their own spelling.
+const LINES: [&[u8]; 6] = [
+    b"sync",
+    b"0 look /",
+    b"15 mkdir a\\sb\\nc\\\\e",
+    b"6 symlink \\e l",
+    b"11 rename a b",
+    b"9 list /\0\xff",
+];
+
+#[test]
+fn writes_the_lines_that_it_reads(rt: HostRuntime) -> Result<(), Fail> {
+    for line in LINES {
+        let text = write_line(rt.alloc(), &read_line(rt.alloc(), line)?)?;
+        assert!(rt; text.as_slice() == line, "{line:?}: {text:?}");
+    }
+    Ok(())
+}
+
+/// Lines of replies, also of some that no tree gives.
+const REPLIES: [&[u8]; 14] = [
+    b"0 is 2 dir @1\n",
+    b"9 is 4 file @3\n",
+    b"15 is 5 link @3\n",
+    b"10 ok 2 @0\n",
+    b"0 ok @4\n",
+    b"0 no 17 @0\n",
+    b"0 stat 3 file 1 @3\n",
+    b"0 text ./d @3\n",
+    b"0 text \\e @18446744073709551615\n",
+    b"0 names @3 a\\sb @2\n",
+    b"0 names @2\n",
+    b"0 is 0 dir @0\n",
+    b"0 stat 18446744073709551615 link 0 @0\n",
+    b"0 no 0 @0\n",
+];
+
+#[test]
+fn writes_the_replies_that_it_reads(rt: HostRuntime) -> Result<(), Fail> {
+    for line in REPLIES {
+        let (session, stamped) = read_reply(rt.alloc(), line)?;
+        assert!(rt; session < SESSIONS);
+        let text = write_reply(rt.alloc(), session, &stamped)?;
+        assert!(rt; text.as_slice() == line, "{line:?}: {text:?}");
+    }
+    let (_, point) = read_reply(rt.alloc(), b"3 names @3 @7\n")?;
+    let names = vec![in rt.alloc(); bytes(rt.alloc(), b"@3")?]?;
+    assert!(rt; point.at == 7 && point.reply == Reply::Names(names));
+    Ok(())
+}
+
+#[test]
+fn refuses_what_is_no_reply(rt: HostRuntime) {
+    let lines: [&[u8]; 22] = [
+        b"",
+        b"\n",
+        b"0 ok @0",
+        b"0 ok @0\n\n",
+        b"16 ok @0\n",
+        b"00 ok @0\n",
+        b"0  ok @0\n",
+        b"0 ok @0 \n",
+        b"0 ok\n",
+        b"0 ok 0\n",
+        b"0 ok @\n",
+        b"0 ok @x\n",
+        b"0 ok @01\n",
+        b"0 ok @+1\n",
+        b"0 ok @18446744073709551616\n",
+        b"0 ok 2 3 @0\n",
+        b"0 is 2 @0\n",
+        b"0 is 2 pipe @0\n",
+        b"0 stat 2 dir @0\n",
+        b"0 text @0\n",
+        b"0 text \\x @0\n",
+        b"0 fine @0\n",
+    ];
+    for line in lines {
+        let bad = matches!(read_reply(rt.alloc(), line), Err(LineFault::Bad));
+        assert!(rt; bad, "{line:?}");
+    }
+}
+
+#[test]
+fn tells_faults(rt: HostRuntime) -> Result<(), Fail> {
+    let texts = [LineFault::Bad, LineFault::NoMemory].map(|fault| fault.to_string(rt.alloc()));
+    let [bad, no_memory] = texts;
+    assert_eq!(rt; bad?.as_str(), "bad line");
+    assert_eq!(rt; no_memory?.as_str(), "no memory");
     Ok(())
 }

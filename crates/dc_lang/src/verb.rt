@@ -21,7 +21,7 @@ const VERBS: [Verb; 13] = [
 ];
 
 impl Verb {
-    fn text(self) -> &'static [u8]
+    pub(crate) fn text(self) -> &'static [u8]
         ensures { result.now ≡ verb_text self }
     {
         match self {

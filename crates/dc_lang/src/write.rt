@@ -2,14 +2,17 @@ ghost use Rattle.std.specs.Prelude.{◌≡◌, ◌∷◌, ◌++◌, IfOk, OnOk, 
 ghost use Rattle.dc_plain.specs.Requests.{answer_of};
 ghost use Rattle.dc_plain.specs.Requests.Answer.{Bytes, Names};
 ghost use Rattle.dc_lang.specs.Words.{spelled, spelled_byte};
+ghost use Rattle.dc_lang.specs.Commands.{order_of, line_text, meaning_of};
+ghost use Rattle.dc_lang.specs.Commands.Meaning.{Orders};
 ghost use Rattle.dc_lang.specs.Replies.{kind_text, answer_words, reply_text};
 ghost use Rattle.dc_lang.specs.Writing.{behind_spaces};
 
+use crate::{Command, Line};
 use dc_names::{Kind, NoMemory};
 use dc_plain::{Reply, Stamped};
 use std::alloc::{AllocError, Global};
 
-fn kind_text(kind: Kind) -> &'static str
+pub(crate) fn kind_text(kind: Kind) -> &'static str
     ensures { result.now ≡ kind_text kind }
 {
     match kind {
@@ -44,16 +47,24 @@ fn push_word(out: &mut Vec<u8>, word: &[u8]) -> Result<(), AllocError>
     Ok(())
 }
 
+/// Adds words, each behind a space.
+fn push_words(out: &mut Vec<u8>, words: &[Vec<u8>]) -> Result<(), AllocError>
+    ensures { OnOk result (out.new.items
+        ≡ out.old.items ++ behind_spaces (map spelled (map (λ word. word.items) words.now))) }
+{
+    for word in words {
+        push_word(out, word)?;
+    }
+    Ok(())
+}
+
 fn push_names(out: &mut Vec<u8>, names: &[Vec<u8>]) -> Result<(), AllocError>
     ensures { OnOk result (out.new.items
         ≡ out.old.items
         ++ behind_spaces (answer_words (Names (map (λ name. name.items) names.now)))) }
 {
     out.extend_from_slice(b" names")?;
-    for name in names {
-        push_word(out, name)?;
-    }
-    Ok(())
+    push_words(out, names)
 }
 
 fn push_text(out: &mut Vec<u8>, text: &[u8]) -> Result<(), AllocError>
@@ -93,4 +104,25 @@ pub fn write_reply(alloc: Global, session: u64, stamped: &Stamped) -> Result<Vec
     push_answer(alloc, &mut out, &stamped.reply)?;
     out.extend_from_slice(format!(in alloc; " @{}\n", stamped.at)?.as_bytes())?;
     Ok(out)
+}
+
+/// The line of a command, without its newline.
+fn command_line(alloc: Global, command: &Command) -> Result<Vec<u8>, AllocError>
+    ensures { IfOk result (λ text. text.items ≡ line_text (Orders (order_of command.now))) }
+{
+    let mut out = format!(in alloc; "{} ", command.session)?.into_bytes();
+    out.extend_from_slice(command.verb.text())?;
+    push_words(&mut out, &command.words)?;
+    Ok(out)
+}
+
+/// The line of a meaning, without its newline: what `read_line` reads as this line, where the session
+/// is below `SESSIONS` and the words are as many as the verb takes.
+pub fn write_line(alloc: Global, line: &Line) -> Result<Vec<u8>, NoMemory>
+    ensures { IfOk result (λ text. text.items ≡ line_text (meaning_of line.now)) }
+{
+    Ok(match line {
+        Line::Sync => Vec::from_slice(alloc, b"sync")?,
+        Line::Command(command) => command_line(alloc, command)?,
+    })
 }

@@ -1,3 +1,4 @@
 pub mod Parts
 pub mod Valid
+pub mod Named
 pub mod Packed

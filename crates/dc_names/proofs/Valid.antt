@@ -3,6 +3,7 @@ use Rattle.std.proofs.Common.{◌≡◌, ℕ, ◌==◌, ◌&&◌, ◌||◌, ◌�
 use Rattle.std.specs.List.{onto_first, list_all, list_any}
 use Rattle.dc_names.specs.Bytes.{pieces, is_empty, is_part, is_dot, is_dot_dot, has_parts}
 use Rattle.dc_names.specs.Paths.{fault_of, is_long}
+use Rattle.dc_names.specs.declared.TheConstants.{NAME_MAX, PATH_MAX}
 use Rattle.dc_names.specs.declared.fault.TextFault.TheVariants.{Empty, Long, Zero}
 
 -- no slash and no zero byte
@@ -10,13 +11,13 @@ abbrev is_clean : List ℕ → Bool
 is_clean piece = not (list_any (λ b. b == 47 || b == 0) piece)
 
 abbrev is_long_piece : List ℕ → Bool
-is_long_piece piece = nat_lt 255 (length piece)
+is_long_piece piece = nat_lt NAME_MAX (length piece)
 
 neither : (a b : Bool) → (a || b) ≡ false → (a ≡ false) × (b ≡ false)
 neither true b e = absurd (cc)
 neither false b e = (refl, e)
 
-both : (a b : Bool) → (a && b) ≡ true → (a ≡ true) × (b ≡ true)
+pub both : (a b : Bool) → (a && b) ≡ true → (a ≡ true) × (b ≡ true)
 both true b e = (refl, e)
 both false b e = absurd (cc)
 
@@ -58,5 +59,5 @@ no_fault false false false none = (refl, refl)
 pub valid_parts : (text : List ℕ) → fault_of text ≡ None → IsTrue (has_parts text)
 valid_parts text valid =
     let facts = no_fault (is_empty text) (is_long text) (list_any (λ b. b == 0) text) valid in
-    let short = neither (nat_lt 4095 (length text)) (list_any is_long_piece (pieces text)) facts.0 in
+    let short = neither (nat_lt PATH_MAX (length text)) (list_any is_long_piece (pieces text)) facts.0 in
     parts_from (pieces text) short.1 (clean_pieces text facts.1)

@@ -1,6 +1,7 @@
 -- The pieces of a path's text, and which of them are a name (POSIX.1-2017 XBD 3.170, 4.13).
 use Rattle.std.specs.Prelude.{ℕ, List, [], ◌∷◌, Bool, false, not, ◌&&◌, ◌||◌, ◌==◌, ◌≡◌, ◌≤◌, ◌-◌, nat_lt, length, drop}
 use Rattle.std.specs.List.{list_any, list_all, slice_split}
+use Rattle.dc_names.specs.declared.TheConstants.{NAME_MAX}
 
 -- the bytes between slashes, empty pieces too
 abbrev pub pieces : List ℕ → List (List ℕ)
@@ -17,9 +18,9 @@ abbrev pub is_dot_dot : List ℕ → Bool
 is_dot_dot [] = false
 is_dot_dot (a ∷ rest) = a == 46 && is_dot rest
 
--- 1 to 255 bytes, no slash and no zero byte among them, and neither dot nor dot-dot
+-- 1 to NAME_MAX bytes, no slash and no zero byte among them, and neither dot nor dot-dot
 abbrev pub is_name : List ℕ → Bool
-is_name bytes = not (is_empty bytes) && not (nat_lt 255 (length bytes))
+is_name bytes = not (is_empty bytes) && not (nat_lt NAME_MAX (length bytes))
     && not (list_any (λ b. b == 47 || b == 0) bytes)
     && not (is_dot bytes) && not (is_dot_dot bytes)
 

@@ -2,5 +2,8 @@
 pub mod Bytes
 pub mod Paths
 pub mod Names
+pub mod Refusals
+pub mod Lasts
+pub mod Laws
 pub mod Hash
 pub mod Words

@@ -2,6 +2,7 @@
 use Rattle.std.specs.Prelude.{ℕ, List, [], ◌∷◌, Bool, false, not, ◌&&◌, ◌||◌, ◌==◌, nat_lt, length, slice_get, ◌-◌, map, filter, if◌then◌else◌, Result, Ok, Err, Option, Some, None}
 use Rattle.std.specs.List.{list_any, list_all}
 use Rattle.dc_names.specs.Bytes.{pieces, is_empty, is_dot, is_dot_dot}
+use Rattle.dc_names.specs.declared.TheConstants.{NAME_MAX, PATH_MAX}
 use Rattle.dc_names.specs.declared.fault.TextFault.{TextFault}
 use Rattle.dc_names.specs.declared.fault.TextFault.TheVariants.{Empty, Long, Zero}
 
@@ -44,7 +45,7 @@ abbrev pub path_in : List ℕ → Path
 path_in text = record { parts = parts_of text; absolute = begins_with_slash text; slash = has_end_slash text }
 
 abbrev pub is_long : List ℕ → Bool
-is_long text = nat_lt 4095 (length text) || list_any (λ piece. nat_lt 255 (length piece)) (pieces text)
+is_long text = nat_lt PATH_MAX (length text) || list_any (λ piece. nat_lt NAME_MAX (length piece)) (pieces text)
 
 -- the first fault of a text
 abbrev pub fault_of : List ℕ → Option TextFault
@@ -57,9 +58,3 @@ fault_of text =
 -- the path of a text, or the first fault
 abbrev pub path_of : List ℕ → Result Path TextFault
 path_of text = elim (fault_of text) [ None ↦ Ok (path_in text) | Some fault ↦ Err fault ]
-
--- the numbers of the refusals: ENOENT, ENAMETOOLONG, EINVAL
-abbrev pub fault_number : TextFault → ℕ
-fault_number Empty = 2
-fault_number Long = 36
-fault_number Zero = 22

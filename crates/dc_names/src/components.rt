@@ -1,3 +1,5 @@
+//! A path split at its slashes.
+
 ghost use Rattle.std.specs.Prelude.{◌≡◌, ◌<◌, ◌==◌, ◌∷◌, [], false, length, IsTrue, IfSome, IfNone};
 ghost use Rattle.std.specs.Iterator.{YieldsFirstBy, item_count};
 ghost use Rattle.std.specs.List.{position_or_len};
@@ -9,6 +11,7 @@ use crate::name::{is_dot, is_dot_dot};
 use crate::{Name, Part};
 
 /// The first component and the bytes after it, or `None` where slashes alone are left.
+#[must_use]
 pub fn first_part(bytes: &[u8]) -> Option<(Part<'_>, &[u8])>
     requires { IsTrue (has_parts bytes.now) }
     ensures first { IfSome result (λ r. parts_of bytes.now ≡ part_shown r.0 ∷ parts_of r.1.now) }
@@ -63,7 +66,7 @@ fn part_of(piece: &[u8]) -> Part<'_>
 }
 
 /// The components that are left of a path, from first to last.
-#[derive(Clone, Copy)]
+#[derive(Clone, Copy, Debug, PartialEq, Eq)]
 pub struct Components<'a> {
     rest: &'a [u8],
     ghost valid: { IsTrue (has_parts rest.now) },

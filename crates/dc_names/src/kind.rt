@@ -1,3 +1,5 @@
+//! Kinds of inodes.
+
 /// What an inode is.
 #[derive(Clone, Copy, Debug, PartialEq, Eq)]
 pub enum Kind {

@@ -1,9 +1,15 @@
+//! Names of entries, and the parts of a path.
+
 ghost use Rattle.std.specs.Prelude.{◌≡◌, ◌↔◌, ◌==◌, ◌||◌, ◌&&◌, not, nat_lt, length, IsTrue, IsSome, IfSome};
 ghost use Rattle.std.specs.List.{list_any};
 ghost use Rattle.dc_names.specs.Bytes.{is_empty, is_name, is_dot, is_dot_dot};
+ghost use Rattle.dc_names.specs.declared.TheConstants.{NAME_MAX};
 
-/// The name of an entry: 1 to 255 bytes, none of them a slash or zero, and neither `.` nor `..`.
-#[derive(Clone, Copy)]
+use crate::NAME_MAX;
+
+/// The name of an entry: 1 to `NAME_MAX` bytes, none of them a slash or zero, and neither `.` nor
+/// `..`.
+#[derive(Clone, Copy, Debug, PartialEq, Eq)]
 pub struct Name<'a> {
     bytes: &'a [u8],
     ghost valid: { IsTrue (is_name bytes.now) },
@@ -11,6 +17,7 @@ pub struct Name<'a> {
 
 impl<'a> Name<'a> {
     /// The name of these bytes, or `None` where they are none.
+    #[must_use]
     pub fn new(bytes: &'a [u8]) -> Option<Name<'a>>
         ensures named { IsSome result ↔ IsTrue (is_name bytes.now) }
         ensures bytes { IfSome result (λ name. name.bytes.now ≡ bytes.now) }
@@ -23,6 +30,7 @@ impl<'a> Name<'a> {
     }
 
     /// The name of bytes of which the caller knows that they are one.
+    #[must_use]
     pub fn known(bytes: &'a [u8]) -> Name<'a>
         requires { IsTrue (is_name bytes.now) }
         ensures { result.bytes.now ≡ bytes.now }
@@ -40,7 +48,7 @@ impl<'a> Name<'a> {
 }
 
 /// A component of a path (POSIX.1-2017 XBD 4.13).
-#[derive(Clone, Copy)]
+#[derive(Clone, Copy, Debug, PartialEq, Eq)]
 pub enum Part<'a> {
     /// The name of an entry.
     Normal(Name<'a>),
@@ -66,9 +74,9 @@ pub(crate) fn is_dot_dot(bytes: &[u8]) -> bool
 
 /// Whether the bytes are as many as a name may have.
 fn has_name_length(bytes: &[u8]) -> bool
-    ensures { result ≡ (not (is_empty bytes.now) && not (nat_lt 255 (length bytes.now))) }
+    ensures { result ≡ (not (is_empty bytes.now) && not (nat_lt NAME_MAX (length bytes.now))) }
 {
-    !bytes.is_empty() && bytes.len() <= 255
+    !bytes.is_empty() && bytes.len() <= NAME_MAX
 }
 
 /// Whether a byte stands there that no name has.

@@ -1,13 +1,16 @@
+//! Paths as bytes.
+
 ghost use Rattle.std.specs.Prelude.{◌≡◌, ◌==◌, IfOk, IfErr, IsTrue, None, Some, length, nat_lt};
 ghost use Rattle.std.specs.List.{list_any, list_all};
 ghost use Rattle.dc_names.specs.Bytes.{pieces, has_parts};
+ghost use Rattle.dc_names.specs.declared.TheConstants.{NAME_MAX};
 ghost use Rattle.dc_names.specs.Paths.{fault_of, parts_of, has_end_slash, begins_with_slash, ends_in_slash};
 
-use crate::{Components, TextFault};
+use crate::{Components, NAME_MAX, PATH_MAX, TextFault};
 
-/// The bytes of a path without a fault: 1 to 4,095 bytes, none of them zero, with components of at
-/// most 255 bytes.
-#[derive(Clone, Copy)]
+/// The bytes of a path without a fault: 1 to `PATH_MAX` bytes, none of them zero, with components of
+/// at most `NAME_MAX` bytes.
+#[derive(Clone, Copy, Debug, PartialEq, Eq)]
 pub struct PathText<'a> {
     bytes: &'a [u8],
     ghost valid: { fault_of bytes.now ≡ None },
@@ -21,7 +24,7 @@ pub fn parse(bytes: &[u8]) -> Result<PathText<'_>, TextFault>
 {
     if bytes.is_empty() {
         Err(TextFault::Empty)
-    } else if bytes.len() > 4095 || has_long_piece(bytes) {
+    } else if bytes.len() > PATH_MAX || has_long_piece(bytes) {
         Err(TextFault::Long)
     } else if bytes.contains(&0) {
         Err(TextFault::Zero)
@@ -30,15 +33,18 @@ pub fn parse(bytes: &[u8]) -> Result<PathText<'_>, TextFault>
     }
 }
 
-/// Whether a component has more than 255 bytes.
+/// Whether a component has more than `NAME_MAX` bytes.
 fn has_long_piece(bytes: &[u8]) -> bool
-    ensures { result ≡ list_any (λ piece. nat_lt 255 (length piece)) (pieces bytes.now) }
+    ensures { result ≡ list_any (λ piece. nat_lt NAME_MAX (length piece)) (pieces bytes.now) }
 {
-    bytes.split(|b| *b == b'/').any(|piece| piece.len() > 255)
+    bytes
+        .split(|b| *b == b'/')
+        .any(|piece| piece.len() > NAME_MAX)
 }
 
 impl<'a> PathText<'a> {
     /// The path that the bytes are, where the caller knows that they have no fault.
+    #[must_use]
     pub fn new(bytes: &'a [u8]) -> PathText<'a>
         requires { fault_of bytes.now ≡ None }
         ensures { result.bytes.now ≡ bytes.now }
@@ -56,6 +62,7 @@ impl<'a> PathText<'a> {
     }
 
     /// The components from first to last.
+    #[must_use]
     pub fn components(&self) -> Components<'a>
         ensures { parts_of result.rest.now ≡ parts_of self.now.bytes.now }
     {
@@ -63,6 +70,7 @@ impl<'a> PathText<'a> {
     }
 
     /// Whether the path is resolved from the root.
+    #[must_use]
     pub fn is_absolute(&self) -> bool
         ensures { result ≡ begins_with_slash self.now.bytes.now }
     {
@@ -70,6 +78,7 @@ impl<'a> PathText<'a> {
     }
 
     /// Whether the last byte is a slash and some byte isn't.
+    #[must_use]
     pub fn has_end_slash(&self) -> bool
         ensures { result ≡ has_end_slash self.now.bytes.now }
     {

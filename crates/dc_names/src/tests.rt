@@ -2,7 +2,10 @@ ghost use Rattle.std.specs.Prelude.{◌≡◌, IfOk, map};
 ghost use Rattle.dc_names.specs.Names.{part_shown};
 ghost use Rattle.dc_names.specs.Paths.{parts_of};
 
-use crate::{Name, NoMemory, Part, PathText, TextFault, hash, pack, parse, unpack};
+use crate::{
+    Last, Name, Part, PathText, Refusal, TextFault, hash, pack, parse, parts_are_names_or_dots,
+    unpack,
+};
 use std::alloc::{AllocError, Global};
 use std::test::Fail;
 
@@ -28,6 +31,7 @@ fn fault(bytes: &[u8]) -> Option<TextFault> {
 
 #[test]
 fn splits_a_path(rt: HostRuntime) -> Result<(), Fail> {
+    parts_are_names_or_dots();
     let path = parse(b"//a/.//bc/../...")?;
     let parts = parts_in(rt.alloc(), &path)?;
     let want: [&[u8]; 5] = [b"a", b".", b"bc", b"..", b"..."];
@@ -77,11 +81,50 @@ fn knows_a_name(rt: HostRuntime) {
 }
 
 #[test]
-fn takes_a_refused_push(rt: HostRuntime) -> Result<(), Fail> {
-    let mut list = Vec::new(rt.alloc());
-    let pushed: Result<(), NoMemory> = list.push(1u8).map_err(NoMemory::from);
-    assert_eq!(rt; pushed, Ok(()));
+fn names_refusals_as_linux_does(rt: HostRuntime) -> Result<(), Fail> {
+    let refusals = [
+        (Refusal::NotPermitted, 1, "EPERM"),
+        (Refusal::NotFound, 2, "ENOENT"),
+        (Refusal::Busy, 16, "EBUSY"),
+        (Refusal::Exists, 17, "EEXIST"),
+        (Refusal::NotDirectory, 20, "ENOTDIR"),
+        (Refusal::IsDirectory, 21, "EISDIR"),
+        (Refusal::Invalid, 22, "EINVAL"),
+        (Refusal::NoSpace, 28, "ENOSPC"),
+        (Refusal::TooManyNames, 31, "EMLINK"),
+        (Refusal::NameTooLong, 36, "ENAMETOOLONG"),
+        (Refusal::NotEmpty, 39, "ENOTEMPTY"),
+        (Refusal::TooManyLinks, 40, "ELOOP"),
+    ];
+    for (refusal, number, symbol) in refusals {
+        assert_eq!(rt; refusal.number(), number);
+        assert_eq!(rt; refusal.to_string(rt.alloc())?.as_str(), symbol);
+    }
+    assert_eq!(rt; Refusal::from(TextFault::Zero), Refusal::Invalid);
     Ok(())
+}
+
+#[test]
+fn wants_a_name_at_the_end(rt: HostRuntime) {
+    let name = Name::new(b"a");
+    assert_eq!(rt;
+        name.map(|name| Last::from(Part::Normal(name)).name_or(Refusal::Busy)),
+        name.map(Ok)
+    );
+    assert_eq!(rt; Last::Root.name_or(Refusal::Busy), Err(Refusal::Busy));
+    let each = (Refusal::Busy, Refusal::Invalid, Refusal::NotEmpty);
+    assert_eq!(rt;
+        Last::Root.name_or_each(each.0, each.1, each.2),
+        Err(each.0)
+    );
+    assert_eq!(rt;
+        Last::from(Part::Dot).name_or_each(each.0, each.1, each.2),
+        Err(each.1)
+    );
+    assert_eq!(rt;
+        Last::from(Part::DotDot).name_or_each(each.0, each.1, each.2),
+        Err(each.2)
+    );
 }
 
 #[test]

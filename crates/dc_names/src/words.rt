@@ -1,7 +1,10 @@
+//! Bytes in words of 64 bits.
+
 ghost use Rattle.std.specs.Prelude.{◌≡◌, ◌≤◌, length};
 ghost use Rattle.dc_names.specs.Words.{GivesBack, word_of, bytes_in, padded};
 
 /// At most 8 bytes in one word, the first byte lowest, the rest zero.
+#[must_use]
 pub fn pack(bytes: &[u8]) -> u64
     requires { length bytes.now ≤ 8 }
     ensures word { result ≡ word_of bytes.now }
@@ -13,6 +16,7 @@ pub fn pack(bytes: &[u8]) -> u64
 }
 
 /// The 8 bytes of a word, the lowest first.
+#[must_use]
 pub fn unpack(word: u64) -> [u8; 8]
     ensures bytes { result ≡ bytes_in word }
     ensures back { word_of result ≡ word }

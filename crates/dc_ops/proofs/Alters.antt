@@ -12,7 +12,8 @@ use Rattle.dc_plain.specs.Facts.Label.{Entry}
 use Rattle.dc_plain.specs.Operations.{change_of, settled, operation, left_alone}
 use Rattle.dc_plain.specs.TouchedKeys.{listed, unless_refused}
 use Rattle.dc_store.specs.Moved.{tree_moved}
-use Rattle.dc_ops.specs.Keys.{keys_of}
+use Rattle.dc_names.specs.declared.refusal.Refusal.{Refusal}
+use Rattle.dc_names.specs.Refusals.{refusal_number}
 use Rattle.dc_ops.specs.Reads.{answered}
 use Rattle.dc_plain.specs.Effects.{without_entry, without_entry_alone, without_there}
 use Rattle.dc_plain.proofs.Made.{spots_total}
@@ -20,12 +21,13 @@ use Rattle.dc_plain.proofs.Takes.{lookup-take}
 use Rattle.dc_plain.proofs.Puts.{count-put}
 use Rattle.dc_plain.proofs.SameTree.{alters_so, alters_not}
 use Rattle.dc_store.specs.Added.{tree_added}
-use Rattle.dc_store.specs.Spots.{spot_at}
+use Rattle.dc_plain.specs.Spots.{spot_at, spot_shown}
 use Rattle.dc_store.specs.declared.store.New as rust_new
 use Rattle.dc_store.specs.declared.store.New.TheVariants as news
 use Rattle.dc_ops.specs.declared.steps.Plan as rust_plan
 use Rattle.dc_ops.specs.declared.steps.Plan.TheVariants as plans
-use Rattle.dc_ops.specs.Plans.{effect, effect_if, CanCarry, Plans, Declines}
+use Rattle.dc_ops.specs.Plans.{effect, CanCarry, IsDrop, IsPlanOf, OnlyDrops, SettlesIf, Plans, Declines}
+use Rattle.dc_ops.proofs.Distinct.{plan_distinct}
 
 -- a new entry makes one entry more
 put_differs : (spot : Spot) (n : ℕ) (t : Tree) → entry_number t spot ≡ None → put spot_cmp spot n t.entries ≢ t.entries
@@ -44,8 +46,8 @@ no_some : (n : ℕ) → ◌≡◌ {A = Option ℕ} None (Some n) → ⊥
 no_some n e = cc
 
 -- an entry that went is no longer found
-freed : (t : Tree) (spot : Spot) (n : ℕ) → entry_number t spot ≡ Some n → without_spot spot t.entries ≢ t.entries
-freed t spot n there same =
+taken : (t : Tree) (spot : Spot) (n : ℕ) → entry_number t spot ≡ Some n → without_spot spot t.entries ≢ t.entries
+taken t spot n there same =
     let none : lookup spot_cmp spot (without_spot spot t.entries) ≡ None = lookup-take spot_cmp spots_total spot spot t.entries
     ∙ ap (λ o. cond (not (is_eq o)) (lookup spot_cmp spot t.entries) None) (tied_itself spots_total spot) in
     let still : lookup spot_cmp spot (without_spot spot t.entries) ≡ Some n = ap (lookup spot_cmp spot) same ∙ there in
@@ -59,32 +61,33 @@ entries_without t d name n = by (names_of (record t { entries = without_spot (sp
     by false = refl
 
 dropped_differs : (t : Tree) (d : ℕ) (name : List ℕ) (n : ℕ) → entry_number t (spot_at d name) ≡ Some n → without_entry t d name n ≢ t
-dropped_differs t d name n there same = freed t (spot_at d name) n there (sym (entries_without t d name n) ∙ ap (λ (u : Tree). u.entries) same)
+dropped_differs t d name n there same = taken t (spot_at d name) n there (sym (entries_without t d name n) ∙ ap (λ (u : Tree). u.entries) same)
 
 -- what moved is found at the new name
-moved_differs : (t : Tree) (from : ℕ) (old : List ℕ) (to : ℕ) (new : List ℕ) (n : ℕ) → entry_number t (spot_at to new) ≢ Some n → tree_moved t from old to new n ≢ t
-moved_differs t from old to new n other same =
-    let spot = spot_at to new in
-    let rest : Tree = without_entry_alone (without_there t to new (entry_of t to (Entry new))) from old in
-    let there : entry_number (tree_moved t from old to new n) spot ≡ Some n = find-put spot_cmp spots_total spot spot n rest.entries
-    ∙ ap (λ o. cond (is_eq o) (Some n) (lookup spot_cmp spot rest.entries)) (tied_itself spots_total spot) in
-    other (sym (ap (λ u. entry_number u spot) same) ∙ there)
+moved_differs : (t : Tree) (from to : Spot) (n : ℕ) → entry_number t to ≢ Some n → tree_moved t from to n ≢ t
+moved_differs t from to n other same =
+    let rest : Tree = without_entry_alone (without_there t to.dir to.name (entry_of t to.dir (Entry to.name))) from.dir from.name in
+    let there : entry_number (tree_moved t from to n) to ≡ Some n = find-put spot_cmp spots_total to to n rest.entries
+    ∙ ap (λ o. cond (is_eq o) (Some n) (lookup spot_cmp to rest.entries)) (tied_itself spots_total to) in
+    other (sym (ap (λ u. entry_number u to) same) ∙ there)
 
 effect_differs : (plan : rust_plan.Plan) (t : Tree) → CanCarry plan t → (effect plan t).1 ≢ t
 effect_differs (plans.Add d name new number) t can = added_differs t d name.bytes.now new can.1
-effect_differs (plans.Drop d name number freed) t can = dropped_differs t d name.bytes.now number can.0
-effect_differs (plans.Move from to number turns freed) t can = moved_differs t from.0 from.1.bytes.now to.0 to.1.bytes.now number can.1.other
+effect_differs (plans.Drop d name number lost) t can = dropped_differs t d name.bytes.now number can.0
+effect_differs (plans.Move from to number reparents lost) t can = moved_differs t (spot_shown from) (spot_shown to) number can.1.other
 
 -- a change that comes to a plan
-plans_so : (limit : ℕ) (t : Tree) (request : Request) (plan : rust_plan.Plan) → change_of limit t request ≡ Ok (effect plan t) → CanCarry plan t
-    → keys_of plan ≡ listed t request → Plans limit t request plan
-plans_so limit t request plan is can keys =
-    let whole : operation limit t request ≡ effect plan t = ap (settled t) is in
+plans_so : (limit : ℕ) (t : Tree) (request : Request) (plan : rust_plan.Plan) → IsPlanOf t (change_of limit t request) (listed t request) plan
+    → (OnlyDrops request → IsDrop plan) → Plans limit t request plan
+plans_so limit t request plan is drops =
+    let whole : operation limit t request ≡ effect plan t = ap (settled t) is.does in
     record {
       operation = whole;
-      can = can;
-      alters = alters_so limit t request (λ same. effect_differs plan t can (ap (λ (p : Answer × Tree). p.1) (sym whole) ∙ same));
-      keys = keys ∙ sym (ap (λ change. unless_refused change (listed t request)) is);
+      can = is.can;
+      alters = alters_so limit t request (λ same. effect_differs plan t is.can (ap (λ (p : Answer × Tree). p.1) (sym whole) ∙ same));
+      keys = is.keys ∙ sym (ap (λ change. unless_refused change (listed t request)) is.does);
+      distinct = plan_distinct plan t is.can is.loses;
+      drops = drops;
     }
 
 -- a call that leaves the tree as it is
@@ -92,28 +95,29 @@ declines_so : (limit : ℕ) (t : Tree) (request : Request) (answer : Answer) →
 declines_so limit t request answer is = record { operation = is; alters = alters_not limit t request (ap (λ (p : Answer × Tree). p.1) is) }
 
 -- a read does
-told : (t : Tree) (r : Result Answer ℕ) → settled t (left_alone t r) ≡ (answered r, t)
+told : (t : Tree) (r : Result Answer Refusal) → settled t (left_alone t r) ≡ (answered r, t)
 told t (Ok answer) = refl
-told t (Err number) = refl
+told t (Err refusal) = refl
 
-pub reads_so : (limit : ℕ) (t : Tree) (request : Request) (r : Result Answer ℕ) (answer : Answer) → change_of limit t request ≡ left_alone t r → answer ≡ answered r → Declines limit t request answer
+pub reads_so : (limit : ℕ) (t : Tree) (request : Request) (r : Result Answer Refusal) (answer : Answer) → change_of limit t request ≡ left_alone t r → answer ≡ answered r → Declines limit t request answer
 reads_so limit t request r answer is e = declines_so limit t request answer (ap (settled t) is ∙ told t r ∙ ap (λ a. (a, t)) (sym e))
 
 -- a change that may come to nothing
-pub plans_if : (limit : ℕ) (t : Tree) (request : Request) (found : Option rust_plan.Plan) (plan : rust_plan.Plan) → found ≡ Some plan → change_of limit t request ≡ Ok (effect_if found t)
-    → IfSome found (λ plan. CanCarry plan t) → IfSome found (λ plan. keys_of plan ≡ listed t request) → Plans limit t request plan
-plans_if limit t request None plan is change can keys = absurd cc
-plans_if limit t request (Some other) plan is change can keys = let same : other ≡ plan = cc in subst (Plans limit t request) same (plans_so limit t request other change can keys)
+pub plans_if : (limit : ℕ) (t : Tree) (request : Request) (found : Option rust_plan.Plan) (plan : rust_plan.Plan) → found ≡ Some plan
+    → SettlesIf t (change_of limit t request) (listed t request) (Ok found) → (OnlyDrops request → IfSome found IsDrop) → Plans limit t request plan
+plans_if limit t request None plan is settles drops = absurd cc
+plans_if limit t request (Some other) plan is settles drops = let same : other ≡ plan = cc in subst (Plans limit t request) same (plans_so limit t request other settles drops)
 
-pub idles_if : (limit : ℕ) (t : Tree) (request : Request) (found : Option rust_plan.Plan) → found ≡ None → change_of limit t request ≡ Ok (effect_if found t) → Declines limit t request Nothing
-idles_if limit t request found is change = declines_so limit t request Nothing (ap (settled t) (change ∙ ap (λ plan. Ok (effect_if plan t)) is))
+pub idles_if : (limit : ℕ) (t : Tree) (request : Request) (found : Option rust_plan.Plan) → found ≡ None → SettlesIf t (change_of limit t request) (listed t request) (Ok found) → Declines limit t request Nothing
+idles_if limit t request None is settles = declines_so limit t request Nothing (ap (settled t) settles)
+idles_if limit t request (Some plan) is settles = absurd cc
 
-pub refuses_so : (limit : ℕ) (t : Tree) (request : Request) (number : ℕ) → change_of limit t request ≡ Err number → Declines limit t request (Refused number)
-refuses_so limit t request number is = declines_so limit t request (Refused number) (ap (settled t) is)
+pub refuses_so : (limit : ℕ) (t : Tree) (request : Request) (refusal : Refusal) → change_of limit t request ≡ Err refusal → Declines limit t request (Refused (refusal_number refusal))
+refuses_so limit t request refusal is = declines_so limit t request (Refused (refusal_number refusal)) (ap (settled t) is)
 
--- the keys that are listed for a call, whose plan was found
-pub listed_if : (t : Tree) (call asked : Call) (found other : Option rust_plan.Plan) → found ≡ other → call ≡ asked
-    → IfSome other (λ plan. keys_of plan ≡ listed t (request_of asked)) → IfSome found (λ plan. keys_of plan ≡ listed t (request_of call))
-listed_if t call asked found other same is keys =
-    subst (λ call. IfSome found (λ plan. keys_of plan ≡ listed t (request_of call))) (sym is)
-    (subst (λ found. IfSome found (λ plan. keys_of plan ≡ listed t (request_of asked))) (sym same) keys)
+-- what a call comes to, by what it is found to be
+pub settles_as : (limit : ℕ) (t : Tree) (call asked : Call) (found other : Option rust_plan.Plan) → found ≡ other → call ≡ asked
+    → SettlesIf t (change_of limit t (request_of asked)) (listed t (request_of asked)) (Ok other) → SettlesIf t (change_of limit t (request_of call)) (listed t (request_of call)) (Ok found)
+settles_as limit t call asked found other same is settles =
+    subst (λ call. SettlesIf t (change_of limit t (request_of call)) (listed t (request_of call)) (Ok found)) (sym is)
+    (subst (λ found. SettlesIf t (change_of limit t (request_of asked)) (listed t (request_of asked)) (Ok found)) (sym same) settles)

@@ -1,11 +1,12 @@
 -- What goes with its last name, and what a count says by its kind.
-use Rattle.std.proofs.Common.{◌≡◌, ◌≢◌, ℕ, ◌≤◌, ◌==◌, List, true, false, Option, Some, None, Ok, is_some, option_and_then, refl, ap, sym, ◌∙◌, arith, length, option_map, subst, cond, if◌then◌else◌, [], ◌∷◌, ◌+◌}
+use Rattle.std.proofs.Common.{◌≡◌, ◌≢◌, ℕ, ◌≤◌, ◌==◌, List, Bool, true, false, Option, Some, None, Ok, is_some, option_and_then, refl, ap, sym, ◌∙◌, arith, length, option_map, subst, cond, if◌then◌else◌, [], ◌∷◌, ◌+◌}
 use Rattle.dc_plain.specs.Facts.{Target}
 use Rattle.dc_plain.specs.Resolution.{is_directory}
-use Rattle.dc_plain.specs.TouchedKeys.{keys_gone, keys_at}
+use Rattle.dc_plain.specs.TouchedKeys.{keys_gone, keys_at, own_keys}
+use Rattle.std.specs.Bool.{then_some}
 use Rattle.std.specs.Ordering.{eq_by_cmp}
 use Rattle.std.specs.FinMap.Entries.{find as lookup}
-use Rattle.dc_plain.proofs.Holders.{same_test}
+use Rattle.std.proofs.lemmas.Bool.{eq-eqb}
 use Rattle.dc_plain.specs.Trees.{Tree, Spot, spot_cmp, how_many, entry_number, Inode, inode_of, target_at, kind_of, names_of, names_in}
 use Rattle.dc_plain.specs.Trees.Inode.{Directory, Regular, Symbolic}
 use Rattle.dc_plain.specs.IsWellFormed.{IsWellFormed}
@@ -15,7 +16,8 @@ use Rattle.dc_plain.specs.Refusals.{walk_on, ◌>>=◌}
 use Rattle.dc_plain.specs.Requests.Answer.{Counted}
 use Rattle.dc_ops.specs.Reads.{answered}
 use Rattle.dc_store.specs.Counts.{count_of}
-use Rattle.dc_ops.specs.Keys.{own_keys}
+use Rattle.dc_plain.specs.KeysShown.{keys_in}
+use Rattle.dc_plain.specs.declared.key.Key as rust_key
 
 -- by the inode of a place
 pub by_inode : (P : Target → Option Inode → Type 0) (n : ℕ) (o : Option Inode) (place : Target) → option_map (λ inode. (n, kind_of inode)) o ≡ Some place → ((i : Inode) → P (n, kind_of i) (Some i)) → P place o
@@ -23,13 +25,21 @@ by_inode P n None place e so = absurd cc
 by_inode P n (Some i) place e so = let same : (n, kind_of i) ≡ place = cc in subst (λ p. P p (Some i)) same (so i)
 
 -- the key of its own that goes with a last name
-own_key : (n : ℕ) (i : Inode) → own_keys (n, kind_of i) ≡ keys_at n (Some i)
-own_key n Directory = refl
-own_key n Regular = refl
-own_key n (Symbolic text) = refl
+keys_of_target : (t : Tree) (target : Target) → target_at t target.0 ≡ Some target → keys_at target.0 (inode_of t target.0) ≡ own_keys target.0 target.1
+keys_of_target t target lives = by_inode (λ p o. keys_at p.0 o ≡ own_keys p.0 p.1) target.0 (inode_of t target.0) target lives (λ i. refl)
 
-pub freed_keys : (t : Tree) (place : Target) → target_at t place.0 ≡ Some place → (names_of t place.0 == 1) ≡ true → own_keys place ≡ keys_gone t place.0
-freed_keys t place lives one = by_inode (λ p o. own_keys p ≡ keys_at p.0 o) place.0 (inode_of t place.0) place lives (own_key place.0) ∙ rw one refl
+pub lost_if : (t : Tree) (target : Target) → target_at t target.0 ≡ Some target → (key : rust_key.Key) → keys_in (Some key) ≡ own_keys target.0 target.1 → (one : Bool) → one ≡ (names_of t target.0 == 1)
+    → keys_in (then_some one key) ≡ keys_gone t target.0
+lost_if t target lives key own true one = own ∙ sym (keys_of_target t target lives) ∙ rw (← one) refl
+lost_if t target lives key own false one = rw (← one) refl
+
+-- what has no key of its own loses none
+pub lost_none : (t : Tree) (target : Target) → target_at t target.0 ≡ Some target → [] ≡ own_keys target.0 target.1 → [] ≡ keys_gone t target.0
+lost_none t target lives own = by (names_of t target.0 == 1)
+  where
+    by : (one : Bool) → [] ≡ (if one then keys_at target.0 (inode_of t target.0) else [])
+    by true = own ∙ sym (keys_of_target t target lives)
+    by false = refl
 
 -- a directory that has a name has one alone
 is_root : (t : Tree) (n : ℕ) → IsWellFormed t → 1 ≤ names_of t n → n ≢ 1
@@ -59,7 +69,7 @@ pub named_by : (spot : Spot) (n : ℕ) (es : List (Spot × ℕ)) → lookup spot
 named_by spot n [] e = absurd cc
 named_by spot n (x ∷ xs) e =
     elim (eq_by_cmp spot_cmp spot x.0) as (λ b. cond b (Some x.1) (lookup spot_cmp spot xs) ≡ Some n → 1 ≤ (if x.1 == n then 1 else 0) + how_many (λ e. e.1 == n) xs) [
-      | true ↦ λ is. let same : x.1 ≡ n = cc in let met : (x.1 == n) ≡ true = rw same (same_test n) in rw met (omega arith)
+      | true ↦ λ is. let same : x.1 ≡ n = cc in let met : (x.1 == n) ≡ true = rw same (eq-eqb n n refl) in rw met (omega arith)
       | false ↦ λ is. let rest = named_by spot n xs is in omega arith
     ] e
 
@@ -71,9 +81,9 @@ stat_told t base text place count found lives is =
     ap (Counted place.0 place.1) (is ∙ told) ∙ sym (ap (λ r. answered (r >>= λ place. Ok (Counted place.0 place.1 (count_at t place)))) found)
 
 -- a name that leads to what doesn't live leads nowhere
-pub unheld : (t : Tree) (spot : Spot) (n : ℕ) → entry_number t spot ≡ Some n → None ≡ option_map kind_of (inode_of t n) → is_some (option_and_then (target_at t) (entry_number t spot)) ≡ false
-unheld t spot n leads dead = ap (λ o. is_some (option_and_then (target_at t) o)) leads ∙ by_node (inode_of t n) dead
+pub unheld : (t : Tree) (spot : Spot) (n : ℕ) → entry_number t spot ≡ Some n → None ≡ option_map kind_of (inode_of t n) → option_and_then (target_at t) (entry_number t spot) ≡ None
+unheld t spot n leads dead = ap (option_and_then (target_at t)) leads ∙ by_node (inode_of t n) dead
   where
-    by_node : (o : Option Inode) → None ≡ option_map kind_of o → is_some {T = Target} (option_map (λ inode. (n, kind_of inode)) o) ≡ false
+    by_node : (o : Option Inode) → None ≡ option_map kind_of o → ◌≡◌ {A = Option Target} (option_map (λ inode. (n, kind_of inode)) o) None
     by_node None e = refl
     by_node (Some i) e = absurd cc

@@ -2,4 +2,5 @@ pub mod Rooms
 pub mod Goes
 pub mod Parents
 pub mod Renamed
+pub mod Distinct
 pub mod Alters

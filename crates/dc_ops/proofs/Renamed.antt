@@ -1,21 +1,27 @@
 -- The keys of a rename.
-use Rattle.std.proofs.Common.{◌≡◌, ℕ, ◌==◌, ◌&&◌, not, List, [], ◌∷◌, ◌++◌, Bool, false, Option, Some, None, refl, ap, sym, ◌∙◌, option_map, if◌then◌else◌}
+use Rattle.std.proofs.lemmas.Bool.{eq-eqb}
+use Rattle.std.proofs.Common.{◌≡◌, ◌≢◌, subst, true, IfSome, IsTrue, Result, Ok, Err, ℕ, ◌==◌, ◌&&◌, not, List, [], ◌∷◌, ◌++◌, Bool, false, Option, Some, None, refl, ap, sym, ◌∙◌, option_map, if◌then◌else◌}
 use Rattle.dc_plain.specs.Facts.{Target, Key}
-use Rattle.dc_plain.specs.Operations.{same_inode}
+use Rattle.dc_names.specs.Bytes.{is_empty}
+use Rattle.dc_names.specs.declared.refusal.Refusal.TheVariants.{NotDirectory, IsDirectory, NotEmpty}
+use Rattle.dc_plain.specs.Refusals.{refuse}
+use Rattle.dc_store.specs.Dropped.{is_full_directory}
+use Rattle.dc_plain.specs.Operations.{same_inode, replaceable}
 use Rattle.dc_plain.specs.Resolution.{is_directory}
 use Rattle.dc_plain.specs.TouchedKeys.{entry_key, keys_gone, keys_moved, keys_renamed, keys_taken, parent_key, lead_to_one, with_number}
-use Rattle.dc_plain.specs.Trees.{Tree, Inode, entry_number, target_at, inode_of, is_live_directory, is_directory_inode}
+use Rattle.dc_plain.specs.Trees.{Tree, Inode, entry_number, names_in, target_at, inode_of, is_live_directory, is_directory_inode}
 use Rattle.dc_plain.specs.Trees.Inode.{Directory, Regular, Symbolic}
-use Rattle.dc_store.specs.Spots.{spot_at}
+use Rattle.dc_plain.specs.Spots.{spot_at}
+use Rattle.dc_plain.specs.KeysShown.{keys_in}
 use Rattle.dc_plain.specs.declared.key.Key as rust_key
-use Rattle.dc_ops.specs.Keys.{keys_in, keys_turned}
+use Rattle.dc_ops.specs.Keys.{keys_reparented}
 use Rattle.dc_ops.proofs.Goes.{by_inode}
 
 same_by : (moved : Target) (there : Option Target) → lead_to_one (Some moved.0) (option_map (λ place. place.0) there) ≡ same_inode moved there
 same_by moved None = refl
 same_by moved (Some place) = refl
 
-live_by : (t : Tree) (place : Target) → target_at t place.0 ≡ Some place → is_directory place ≡ is_live_directory t place.0
+pub live_by : (t : Tree) (place : Target) → target_at t place.0 ≡ Some place → is_directory place ≡ is_live_directory t place.0
 live_by t place lives = by_inode (λ p o. is_directory p ≡ is_directory_inode o) place.0 (inode_of t place.0) place lives by_kind
   where
     by_kind : (i : Inode) → is_directory (place.0, Rattle.dc_plain.specs.Trees.kind_of i) ≡ is_directory_inode (Some i)
@@ -26,13 +32,33 @@ live_by t place lives = by_inode (λ p o. is_directory p ≡ is_directory_inode 
 pub renamed_keys : (t : Tree) (from : ℕ) (old : List ℕ) (to : ℕ) (new : List ℕ) (moved : Target) (there : Option Target) (turns : Bool) (freed : Option rust_key.Key)
     → entry_number t (spot_at from old) ≡ Some moved.0 → target_at t moved.0 ≡ Some moved → option_map (λ place. place.0) there ≡ entry_number t (spot_at to new)
     → same_inode moved there ≡ false → turns ≡ (is_directory moved && not (from == to)) → keys_in freed ≡ with_number (option_map (λ place. place.0) there) (keys_gone t)
-    → entry_key from old ∷ entry_key to new ∷ (keys_turned moved.0 turns ++ keys_in freed) ≡ keys_renamed t from old to new
+    → entry_key from old ∷ entry_key to new ∷ (keys_reparented moved.0 turns ++ keys_in freed) ≡ keys_renamed t from old to new
 renamed_keys t from old to new moved there turns freed source lives target apart turned gone =
     let other : lead_to_one (entry_number t (spot_at from old)) (entry_number t (spot_at to new)) ≡ false = rw (source, ← target) (same_by moved there ∙ apart) in
-    let moves : with_number (entry_number t (spot_at from old)) (keys_moved t from to) ≡ keys_turned moved.0 turns =
-    ap (λ o. with_number o (keys_moved t from to)) source ∙ ap (λ b. if b && not (from == to) then parent_key moved.0 ∷ [] else []) (sym (live_by t moved lives)) ∙ ap (keys_turned moved.0) (sym turned) in
+    let moves : with_number (entry_number t (spot_at from old)) (keys_moved t from to) ≡ keys_reparented moved.0 turns =
+    ap (λ o. with_number o (keys_moved t from to)) source ∙ ap (λ b. if b && not (from == to) then parent_key moved.0 ∷ [] else []) (sym (live_by t moved lives)) ∙ ap (keys_reparented moved.0) (sym turned) in
     let takes : keys_taken t to new ≡ keys_in freed = ap (λ o. with_number o (keys_gone t)) (sym target) ∙ sym gone in
     let both : List Key = entry_key from old ∷ entry_key to new ∷ (with_number (entry_number t (spot_at from old)) (keys_moved t from to) ++ keys_taken t to new) in
     let whole : keys_renamed t from old to new ≡ both = ap (λ b. if b then [] else both) other in
     sym (whole ∙ ap (λ keys. entry_key from old ∷ entry_key to new ∷ (keys ++ keys_taken t to new)) moves
-    ∙ ap (λ keys. entry_key from old ∷ entry_key to new ∷ (keys_turned moved.0 turns ++ keys)) takes)
+    ∙ ap (λ keys. entry_key from old ∷ entry_key to new ∷ (keys_reparented moved.0 turns ++ keys)) takes)
+
+-- another inode stands at the new name
+pub other_there : (moved : Target) (there : Option Target) (number : Option ℕ) → same_inode moved there ≡ false → option_map (λ place. place.0) there ≡ number → number ≢ Some moved.0
+other_there moved None number apart is same = cc
+other_there moved (Some place) number apart is same = let one : moved.0 ≡ place.0 = cc in let equal : (moved.0 == place.0) ≡ true = eq-eqb moved.0 place.0 one in cc
+
+-- what may be replaced is no directory in which entries stand
+may_go : (a b c : Bool) → (if a then (if not b then Err NotDirectory else refuse (not c) NotEmpty) else refuse b IsDirectory) ≡ Ok true → not (b && not c) ≡ true
+may_go true true true e = refl
+may_go true true false e = cc
+may_go true false c e = refl
+may_go false true c e = cc
+may_go false false c e = refl
+
+pub gives_way : (t : Tree) (moved : Target) (there : Option Target) (number : Option ℕ) → option_map (λ place. place.0) there ≡ number → IfSome there (λ place. target_at t place.0 ≡ Some place)
+    → replaceable t moved there ≡ Ok true → IfSome number (λ m. IsTrue (not (is_full_directory t m)))
+gives_way t moved None number is lives may = subst (λ o. IfSome o (λ m. IsTrue (not (is_full_directory t m)))) is tt
+gives_way t moved (Some place) number is lives may =
+    let goes : not (is_directory place && not (is_empty (names_in t place.0))) ≡ true = may_go (is_directory moved) (is_directory place) (is_empty (names_in t place.0)) may in
+    subst (λ o. IfSome o (λ m. IsTrue (not (is_full_directory t m)))) is (ap (λ b. not (b && not (is_empty (names_in t place.0)))) (sym (live_by t place lives)) ∙ goes)

@@ -7,10 +7,11 @@ use Rattle.dc_plain.specs.Resolution.{is_directory}
 use Rattle.dc_plain.specs.Trees.{Tree, Inode, inode_of, target_at, kind_of, names_of, is_directory_inode}
 use Rattle.dc_plain.specs.Trees.Inode.{Directory, Regular, Symbolic}
 use Rattle.dc_plain.specs.Refusals.{is_full}
+use Rattle.dc_plain.specs.declared.TheConstants.{MOST_NAMES, NUMBER_LIMIT}
 use Rattle.dc_store.specs.Added.{CanAdd, CanBeNamed, number_added}
 use Rattle.dc_store.specs.declared.store.New as rust_new
 use Rattle.dc_store.specs.declared.store.New.TheVariants as news
-use Rattle.dc_ops.specs.Makes.{MakesInode, HasPath}
+use Rattle.dc_ops.specs.Makes.{MakesInode}
 
 or_second : (a b : Bool) → (a || b) ≡ false → b ≡ false
 or_second true b e = cc
@@ -20,14 +21,14 @@ other_number : (m n : ℕ) → m ≤ n → (m == n) ≡ false → m < n
 other_number m n le e = grind (arith, nat_tests)
 
 -- a tree that isn't full has a number left
-low : (limit : ℕ) (t : Tree) → t.next ≤ 2 ^ 63 → is_full limit t ≡ false → t.next < 2 ^ 63
-low limit t bound e = other_number t.next (2 ^ 63) bound (or_second (nat_le limit (length t.inodes)) (t.next == 2 ^ 63) e)
+low : (limit : ℕ) (t : Tree) → t.next ≤ NUMBER_LIMIT → is_full limit t ≡ false → t.next < NUMBER_LIMIT
+low limit t bound e = other_number t.next NUMBER_LIMIT bound (or_second (nat_le limit (length t.inodes)) (t.next == NUMBER_LIMIT) e)
 
-pub room : (limit : ℕ) (t : Tree) (new : rust_new.New) → t.next ≤ 2 ^ 63 → is_full limit t ≡ false → MakesInode new → HasPath new → CanAdd t new
-room limit t news.Dir bound e makes path = low limit t bound e
-room limit t news.File bound e makes path = low limit t bound e
-room limit t (news.Link text) bound e makes path = (low limit t bound e, path)
-room limit t (news.Same n) bound e makes path = absurd makes
+pub room : (limit : ℕ) (t : Tree) (new : rust_new.New) → t.next ≤ NUMBER_LIMIT → is_full limit t ≡ false → MakesInode new → CanAdd t new
+room limit t news.Dir bound e makes = low limit t bound e
+room limit t news.File bound e makes = low limit t bound e
+room limit t (news.Link text) bound e makes = low limit t bound e
+room limit t (news.Same n) bound e makes = absurd makes
 
 -- a new inode gets the next number
 pub number_made : (t : Tree) (new : rust_new.New) (n : ℕ) → n ≡ t.next → MakesInode new → n ≡ number_added t new
@@ -37,7 +38,7 @@ number_made t (news.Link text) n e makes = e
 number_made t (news.Same m) n e makes = absurd makes
 
 -- a file or link with fewer names than the most may have one more
-few_by : (n : ℕ) → nat_le 65000 n ≡ false → n < 65000
+few_by : (n : ℕ) → nat_le MOST_NAMES n ≡ false → n < MOST_NAMES
 few_by n e = grind (arith, nat_tests)
 
 lives_by : (t : Tree) (n : ℕ) (o : Option Inode) (place : Target) → option_map (λ inode. (n, kind_of inode)) o ≡ Some place → is_directory place ≡ false
@@ -47,7 +48,7 @@ lives_by t n (Some Directory) place e file = let same : (n, Dir) ≡ place = cc 
 lives_by t n (Some Regular) place e file = (refl, refl)
 lives_by t n (Some (Symbolic text)) place e file = (refl, refl)
 
-pub may_be_named : (t : Tree) (place : Target) → target_at t place.0 ≡ Some place → is_directory place ≡ false → nat_le 65000 (names_of t place.0) ≡ false → CanBeNamed t place.0
+pub may_be_named : (t : Tree) (place : Target) → target_at t place.0 ≡ Some place → is_directory place ≡ false → nat_le MOST_NAMES (names_of t place.0) ≡ false → CanBeNamed t place.0
 may_be_named t place lives file few =
     let by = lives_by t place.0 (inode_of t place.0) place lives file in
     record { lives = by.0; no_directory = by.1; few = few_by (names_of t place.0) few }

@@ -4,6 +4,5 @@ pub mod Keys
 pub mod Plans
 pub mod Reads
 pub mod Renames
-pub mod Wheres
 pub mod Makes
 pub mod Same

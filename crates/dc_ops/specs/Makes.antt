@@ -1,6 +1,5 @@
 -- Changes that make a new inode.
-use Rattle.std.specs.Prelude.{◌≡◌, ℕ, List, Bool, true, false, None}
-use Rattle.dc_names.specs.Paths.{fault_of}
+use Rattle.std.specs.Prelude.{ℕ, List, Bool, true, false}
 use Rattle.dc_plain.specs.Trees.{Tree, Inode}
 use Rattle.dc_plain.specs.Trees.Inode.{Directory, Regular, Symbolic}
 use Rattle.dc_plain.specs.Operations.{Change, make}
@@ -13,18 +12,11 @@ MakesInode news.File = Unit {0}
 MakesInode (news.Link text) = Unit {0}
 MakesInode (news.Same n) = ⊥
 
--- a link's text has a path
-abbrev pub HasPath : rust_new.New → Type 0
-HasPath news.Dir = Unit {0}
-HasPath news.File = Unit {0}
-HasPath (news.Link text) = fault_of text.now ≡ None
-HasPath (news.Same n) = Unit {0}
-
 -- the inode that is made
 abbrev pub inode_made : rust_new.New → Inode
 inode_made news.Dir = Directory
 inode_made news.File = Regular
-inode_made (news.Link text) = Symbolic text.now
+inode_made (news.Link text) = Symbolic text.bytes.now
 inode_made (news.Same n) = Regular
 
 -- a slash may end the path of a new directory alone

@@ -1,6 +1,6 @@
 -- A rename once both names are known.
 use Rattle.std.specs.Prelude.{ℕ, List, length, ◌&&◌, Ok, if◌then◌else◌}
-use Rattle.dc_names.specs.declared.name.Name as rust_name
+use Rattle.dc_names.specs.declared.refusal.Refusal.TheVariants.{Invalid}
 use Rattle.dc_plain.specs.Facts.{Target, Key}
 use Rattle.dc_plain.specs.TouchedKeys.{keys_renamed}
 use Rattle.dc_plain.specs.Facts.Label.{Entry}
@@ -10,20 +10,15 @@ use Rattle.dc_plain.specs.Refusals.{◌>>=◌, refuse}
 use Rattle.dc_plain.specs.Operations.{Change, is_beneath, replaceable, same_inode}
 use Rattle.dc_plain.specs.Requests.Answer.{Nothing}
 use Rattle.dc_store.specs.Moved.{tree_moved}
-use Rattle.dc_store.specs.Spots.{spot_at}
-
--- a directory's number and a name in it, as the program has them
-abbrev pub spot_named : ℕ × rust_name.Name → Spot
-spot_named at = spot_at at.0 at.1.bytes.now
 
 -- what was found at the old name gets the new one
 abbrev pub move_to : Tree → Spot → Spot → Target → Change
 move_to t from to moved =
-    let there = entry_of t to.directory (Entry to.name) in
+    let there = entry_of t to.dir (Entry to.name) in
     if same_inode moved there then Ok (Nothing, t) else do
-      apart ← refuse (is_directory moved && is_beneath (length t.inodes) t to.directory moved.0) 22
+      apart ← refuse (is_directory moved && is_beneath (length t.inodes) t to.dir moved.0) Invalid
       may ← replaceable t moved there
-      Ok (Nothing, tree_moved t from.directory from.name to.directory to.name moved.0)
+      Ok (Nothing, tree_moved t from to moved.0)
 
 abbrev pub keys_of_move : Tree → Spot → Spot → List Key
-keys_of_move t from to = keys_renamed t from.directory from.name to.directory to.name
+keys_of_move t from to = keys_renamed t from.dir from.name to.dir to.name

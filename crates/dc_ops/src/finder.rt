@@ -1,37 +1,41 @@
+//! A store that answers the questions of a walk.
+
 ghost use Rattle.std.specs.Prelude.{◌≡◌, ◌≤◌, false, refl, Some, option_map, IfSome, IsTrue};
 ghost use Rattle.dc_plain.specs.Facts.Label.{Entry, Parent};
 ghost use Rattle.dc_plain.specs.IsWellFormed.{IsWellFormed};
 ghost use Rattle.dc_plain.specs.Trees.{told_of, entry_of, entry_number, target_at, names_of};
-ghost use Rattle.dc_store.specs.Spots.{spot_at};
+ghost use Rattle.dc_plain.specs.Spots.{spot_at};
 ghost use Rattle.dc_names.specs.Paths.Part.{DotDot};
 ghost use Rattle.dc_resolve.specs.Asked.{may_be_found};
 ghost use Rattle.dc_ops.specs.Same.{one_after, same_tells};
 
 use dc_names::{Kind, Name, Part};
+use dc_plain::{Target, names_lead_to_the_living};
 use dc_resolve::{Finder, Stop};
 use dc_store::Store;
 
 /// Answers the questions of a walk from a store.
-pub struct StoreFinder<'a, S: Store> {
-    pub store: &'a S,
+pub(crate) struct StoreFinder<'a, S: Store> {
+    pub(crate) store: &'a S,
 }
 
 /// Where a name in a directory leads.
-pub fn entry<S: Store>(store: &S, dir: u64, name: Name<'_>) -> Option<(u64, Kind)>
+pub(crate) fn entry<S: Store>(store: &S, dir: u64, name: Name<'_>) -> Option<Target>
     ensures found { result ≡ entry_of (S.tree store.now) dir (Entry name.entry.bytes.now) }
-    ensures target { option_map (λ place. place.0) result
+    ensures target { option_map (λ target. target.0) result
         ≡ entry_number (S.tree store.now) (spot_at dir name.entry.bytes.now) }
-    ensures lives { IfSome result (λ place. target_at (S.tree store.now) place.0 ≡ Some place) }
-    ensures named { IfSome result (λ place. 1 ≤ names_of (S.tree store.now) place.0) }
+    ensures lives { IfSome result (λ target. target_at (S.tree store.now) target.0 ≡ Some target) }
+    ensures named { IfSome result (λ target. 1 ≤ names_of (S.tree store.now) target.0) }
     ensures well { IsWellFormed (S.tree store.now) }
 {
+    names_lead_to_the_living();
     let number = store.find(dir, name)?;
     let kind = store.kind(number)?;
     Some((number, kind))
 }
 
 /// The directory that a directory's dot-dot leads to.
-fn up<S: Store>(store: &S, dir: u64) -> Option<(u64, Kind)>
+fn up<S: Store>(store: &S, dir: u64) -> Option<Target>
     ensures up { result ≡ entry_of (S.tree store.now) dir Parent }
     ensures directory { IsTrue (may_be_found DotDot result) }
 {
@@ -48,10 +52,13 @@ impl<'a, S: Store> Finder for StoreFinder<'a, S> {
 
     ghost becomes = { λ f g. S.tree g.store.now ≡ S.tree f.store.now };
 
-    fn find(&mut self, dir: u64, part: Part<'_>) -> Result<Option<(u64, Kind)>, Stop> {
+    ghost may_ask = { λ finder number label. Unit {0} };
+
+    fn find(&mut self, dir: u64, part: Part<'_>) -> Result<Option<Target>, Stop> {
         match part {
             Part::Normal(name) => Ok(entry(self.store, dir, name)),
             Part::DotDot => Ok(up(self.store, dir)),
+            // A walk stays where it is at a dot, and asks nothing: `is_asked` says so.
             Part::Dot => unreachable!(),
         }
     }
@@ -59,6 +66,7 @@ impl<'a, S: Store> Finder for StoreFinder<'a, S> {
     fn link_text(&mut self, number: u64) -> Result<&'a [u8], Stop> {
         match self.store.text(number) {
             Some(text) => Ok(text),
+            // A walk asks only for a link that it was told of, and the store is the same still.
             None => unreachable!(),
         }
     }

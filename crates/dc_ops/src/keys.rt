@@ -1,19 +1,21 @@
+//! The keys that a plan touches.
+
 ghost use Rattle.std.specs.Prelude.{◌≡◌, ◌<◌, ◌≤◌, ◌+◌, ◌++◌, map};
 ghost use Rattle.std.specs.Option.{option_to_list};
 ghost use Rattle.arrayvec.specs.ArrayVec.{array_vec_len};
-ghost use Rattle.dc_plain.specs.KeysShown.{key_shown};
-ghost use Rattle.dc_plain.specs.TouchedKeys.{entry_key, parent_key};
-ghost use Rattle.dc_ops.specs.Keys.{keys_in, keys_made, keys_of, own_keys};
+ghost use Rattle.dc_plain.specs.KeysShown.{key_shown, keys_in};
+ghost use Rattle.dc_ops.specs.Keys.{keys_made, keys_of, keys_reparented};
 
 use crate::Plan;
 use arrayvec::ArrayVec;
-use dc_names::{Kind, Name};
-use dc_plain::{Key, Label};
+use dc_names::Kind;
+use dc_plain::{Key, Spot};
 use dc_store::New;
 
 impl<'a> Plan<'a> {
     /// The keys whose facts it alters, four at most: its names, the dot-dot of a directory that
     /// comes, goes or gets another parent, and the text of a link that comes or goes.
+    #[must_use]
     pub fn keys(&self) -> ArrayVec<Key<'a>, 4>
         ensures { map key_shown result.items ≡ keys_of self.now }
     {
@@ -25,29 +27,29 @@ impl<'a> Plan<'a> {
                 new,
                 number,
             } => {
-                keys.push(entry_key(dir, name));
+                keys.push(Key::from(Spot { dir, name }));
                 push_some(&mut keys, made_key(number, new));
             }
             Plan::Drop {
                 dir,
                 name,
-                freed,
+                lost,
                 ..
             } => {
-                keys.push(entry_key(dir, name));
-                push_some(&mut keys, freed);
+                keys.push(Key::from(Spot { dir, name }));
+                push_some(&mut keys, lost);
             }
             Plan::Move {
                 from,
                 to,
                 number,
-                turns,
-                freed,
+                reparents,
+                lost,
             } => {
-                keys.push(entry_key(from.0, from.1));
-                keys.push(entry_key(to.0, to.1));
-                push_some(&mut keys, turns.then_some(parent_key(number)));
-                push_some(&mut keys, freed);
+                keys.push(Key::from(from));
+                keys.push(Key::from(to));
+                push_some(&mut keys, parent_key(number, reparents));
+                push_some(&mut keys, lost);
             }
         }
         keys
@@ -65,45 +67,23 @@ fn push_some<'a>(keys: &mut ArrayVec<Key<'a>, 4>, key: Option<Key<'a>>)
     }
 }
 
-fn entry_key(dir: u64, name: Name<'_>) -> Key<'_>
-    ensures { key_shown result ≡ entry_key dir name.entry.bytes.now }
+/// The dot-dot of a directory that gets another parent.
+fn parent_key<'a>(number: u64, reparents: bool) -> Option<Key<'a>>
+    ensures { keys_in result ≡ keys_reparented number reparents }
 {
-    Key {
-        number: dir,
-        label: Label::Name(name),
+    if !reparents {
+        return None;
     }
+    Key::own(number, Kind::Dir)
 }
 
-fn parent_key<'a>(number: u64) -> Key<'a>
-    ensures { key_shown result ≡ parent_key number }
-{
-    Key {
-        number,
-        label: Label::DotDot,
-    }
-}
-
-/// The key that an inode has of its own.
-pub fn own_key<'a>(number: u64, kind: Kind) -> Option<Key<'a>>
-    ensures { keys_in result ≡ own_keys (number, kind) }
-{
-    match kind {
-        Kind::Dir => Some(parent_key(number)),
-        Kind::File => None,
-        Kind::Link => Some(Key {
-            number,
-            label: Label::Text,
-        }),
-    }
-}
-
-/// The same of a new inode.
+/// The key of its own that what is added has, where that is new.
 fn made_key<'a>(number: u64, new: New<'_>) -> Option<Key<'a>>
     ensures { keys_in result ≡ keys_made number new.entry }
 {
     match new {
-        New::Dir => own_key(number, Kind::Dir),
-        New::Link(_) => own_key(number, Kind::Link),
+        New::Dir => Key::own(number, Kind::Dir),
+        New::Link(_) => Key::own(number, Kind::Link),
         New::File | New::Same(_) => None,
     }
 }

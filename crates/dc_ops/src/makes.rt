@@ -1,45 +1,43 @@
-ghost use Rattle.std.specs.Prelude.{◌≡◌, ◌∷◌, [], true, nat_le, false, Some, IfOk, IfErr, Ok, Err};
+//! Plans of entries that come.
+
+ghost use Rattle.std.specs.Prelude.{◌≡◌, ◌∷◌, [], true, nat_le, false, Some};
+ghost use Rattle.dc_names.specs.declared.kind.Kind.TheVariants.{Link as LinkKind};
 ghost use Rattle.dc_plain.specs.Operations.{link, symlink};
 ghost use Rattle.dc_plain.specs.Resolution.{is_directory};
-ghost use Rattle.dc_plain.specs.TouchedKeys.{at_name, entry_key, text_key};
+ghost use Rattle.dc_plain.specs.TouchedKeys.{at_name, entry_key, own_keys};
 ghost use Rattle.dc_plain.specs.Trees.{names_of, target_at};
-ghost use Rattle.dc_ops.specs.Keys.{keys_of, keys_made};
-ghost use Rattle.dc_ops.specs.Makes.{MakesInode, HasPath, made_for, may_end_in_slash};
-ghost use Rattle.dc_ops.specs.Plans.{effect, CanCarry};
+ghost use Rattle.dc_plain.specs.declared.TheConstants.{MOST_NAMES};
+ghost use Rattle.dc_ops.specs.Keys.{keys_made};
+ghost use Rattle.dc_ops.specs.Makes.{MakesInode, made_for, may_end_in_slash};
+ghost use Rattle.dc_ops.specs.Plans.{Settles};
 
 use crate::Plan;
-use crate::asking::{is_directory, is_full, is_there, name_or, place_text, present, refuse};
+use crate::asking::{is_full, is_there, name_or, place_text, present, refuse};
 use crate::paths::{path_of, place_path};
-use dc_names::Kind;
+use dc_names::Refusal;
+use dc_plain::{MOST_NAMES, Target, is_directory, paths_lead_to_the_living};
 use dc_store::{New, Store};
 
-/// The most names that an inode has.
-const MOST_NAMES: u64 = 65_000;
-
 /// The plan of an entry for a new inode.
-pub fn plan_make<'a, S: Store>(
+pub(crate) fn plan_make<'a, S: Store>(
     store: &S,
     base: u64,
     path: &'a [u8],
     new: New<'a>,
     max_inodes: u64,
-) -> Result<Plan<'a>, u64>
-    requires makes { MakesInode new }
-    requires path { HasPath new }
-    ensures planned { IfOk result (λ plan.
-        made_for max_inodes (S.tree store.now) base path.now new.entry
-        ≡ Ok (effect plan (S.tree store.now))) }
-    ensures can { IfOk result (λ plan. CanCarry plan (S.tree store.now)) }
-    ensures keys { IfOk result (λ plan. keys_of plan ≡ at_name (S.tree store.now) base path.now
-        (λ d name. entry_key d name ∷ keys_made (S.tree store.now).next new.entry)) }
-    ensures refused { IfErr result (λ number.
-        made_for max_inodes (S.tree store.now) base path.now new.entry ≡ Err number) }
+) -> Result<Plan<'a>, Refusal>
+    requires { MakesInode new }
+    ensures { Settles (S.tree store.now)
+        (made_for max_inodes (S.tree store.now) base path.now new.entry)
+        (at_name (S.tree store.now) base path.now
+        (λ d name. entry_key d name ∷ keys_made (S.tree store.now).next new.entry)) result }
 {
+    paths_lead_to_the_living();
     let at = place_text(store, base, path)?;
-    let name = name_or(17, at.last)?;
-    refuse(is_there(store, at.dir, name), 17)?;
-    refuse(at.slash && !may_end_in_slash(new), 2)?;
-    refuse(is_full(store, max_inodes), 28)?;
+    let name = name_or(Refusal::Exists, at.last)?;
+    refuse(is_there(store, at.dir, name), Refusal::Exists)?;
+    refuse(at.slash && !may_end_in_slash(new), Refusal::NotFound)?;
+    refuse(is_full(store, max_inodes), Refusal::NoSpace)?;
     Ok(Plan::Add {
         dir: at.dir,
         name,
@@ -56,53 +54,46 @@ fn may_end_in_slash(new: New<'_>) -> bool
 }
 
 /// The plan of a new symbolic link.
-pub fn plan_symlink<'a, S: Store>(
+pub(crate) fn plan_symlink<'a, S: Store>(
     store: &S,
     base: u64,
     text: &'a [u8],
     path: &'a [u8],
     max_inodes: u64,
-) -> Result<Plan<'a>, u64>
-    ensures planned { IfOk result (λ plan.
-        symlink max_inodes (S.tree store.now) base text.now path.now
-        ≡ Ok (effect plan (S.tree store.now))) }
-    ensures can { IfOk result (λ plan. CanCarry plan (S.tree store.now)) }
-    ensures keys { IfOk result (λ plan. keys_of plan ≡ at_name (S.tree store.now) base path.now
-        (λ d name. entry_key d name ∷ text_key (S.tree store.now).next ∷ [])) }
-    ensures refused { IfErr result (λ number.
-        symlink max_inodes (S.tree store.now) base text.now path.now ≡ Err number) }
+) -> Result<Plan<'a>, Refusal>
+    ensures { Settles (S.tree store.now)
+        (symlink max_inodes (S.tree store.now) base text.now path.now)
+        (at_name (S.tree store.now) base path.now
+        (λ d name. entry_key d name ∷ own_keys (S.tree store.now).next LinkKind)) result }
 {
-    let _path = path_of(text)?;
+    // The text's fault is refused before the path is looked at.
+    let text = path_of(text)?;
     plan_make(store, base, path, New::Link(text), max_inodes)
 }
 
 /// The plan of a further name.
-pub fn plan_link<'a, S: Store>(
+pub(crate) fn plan_link<'a, S: Store>(
     store: &S,
     base: u64,
     old: &'a [u8],
     new: &'a [u8],
-) -> Result<Plan<'a>, u64>
-    ensures planned { IfOk result (λ plan.
-        link (S.tree store.now) base old.now new.now ≡ Ok (effect plan (S.tree store.now))) }
-    ensures can { IfOk result (λ plan. CanCarry plan (S.tree store.now)) }
-    ensures keys { IfOk result (λ plan. keys_of plan ≡ at_name (S.tree store.now) base new.now
-        (λ d name. entry_key d name ∷ [])) }
-    ensures refused { IfErr result (λ number.
-        link (S.tree store.now) base old.now new.now ≡ Err number) }
+) -> Result<Plan<'a>, Refusal>
+    ensures { Settles (S.tree store.now) (link (S.tree store.now) base old.now new.now)
+        (at_name (S.tree store.now) base new.now (λ d name. entry_key d name ∷ [])) result }
 {
+    paths_lead_to_the_living();
     let old_path = path_of(old)?;
     let new_path = path_of(new)?;
     let from = place_path(store, base, old_path)?;
     let to = place_path(store, base, new_path)?;
-    let old_name = name_or(1, from.last)?;
-    let new_name = name_or(17, to.last)?;
+    let old_name = name_or(Refusal::NotPermitted, from.last)?;
+    let new_name = name_or(Refusal::Exists, to.last)?;
     let inode = present(store, from.dir, old_name)?;
-    refuse(is_directory(inode), 1)?;
-    refuse(from.slash, 20)?;
-    refuse(is_there(store, to.dir, new_name), 17)?;
-    refuse(to.slash, 2)?;
-    refuse(has_most_names(store, inode), 31)?;
+    refuse(is_directory(inode), Refusal::NotPermitted)?;
+    refuse(from.slash, Refusal::NotDirectory)?;
+    refuse(is_there(store, to.dir, new_name), Refusal::Exists)?;
+    refuse(to.slash, Refusal::NotFound)?;
+    refuse(has_most_names(store, inode), Refusal::TooManyNames)?;
     Ok(Plan::Add {
         dir: to.dir,
         name: new_name,
@@ -112,10 +103,10 @@ pub fn plan_link<'a, S: Store>(
 }
 
 /// Whether a file or link may have no further name.
-fn has_most_names<S: Store>(store: &S, place: (u64, Kind)) -> bool
-    requires lives { target_at (S.tree store.now) place.0 ≡ Some place }
-    requires file { is_directory place ≡ false }
-    ensures { result ≡ nat_le 65000 (names_of (S.tree store.now) place.0) }
+fn has_most_names<S: Store>(store: &S, target: Target) -> bool
+    requires lives { target_at (S.tree store.now) target.0 ≡ Some target }
+    requires file { is_directory target ≡ false }
+    ensures { result ≡ nat_le MOST_NAMES (names_of (S.tree store.now) target.0) }
 {
-    MOST_NAMES <= store.count(place.0)
+    MOST_NAMES <= store.count(target.0)
 }

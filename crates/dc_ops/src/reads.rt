@@ -1,4 +1,7 @@
+//! Calls that alter nothing.
+
 ghost use Rattle.std.specs.Prelude.{◌≡◌, ℕ, IfOk};
+ghost use Rattle.dc_names.specs.Refusals.{Gives};
 ghost use Rattle.dc_plain.specs.Reads.{look, stat, readlink, list_names};
 ghost use Rattle.dc_plain.specs.Requests.{answer_of, request_of};
 ghost use Rattle.dc_plain.specs.Refusals.{walk_on};
@@ -7,19 +10,14 @@ ghost use Rattle.dc_ops.specs.Plans.{Declines};
 ghost use Rattle.dc_ops.specs.Reads.{answered};
 
 use crate::paths::{path_of, walk_path};
-use dc_names::{Kind, NoMemory};
-use dc_plain::{Call, Follow, Reply};
+use dc_names::{NoMemory, Refusal};
+use dc_plain::{Call, Follow, Reply, Target, paths_lead_to_the_living};
 use dc_store::Store;
 use std::alloc::Global;
 
-/// Where a text leads, or the number of its refusal.
-fn walk_text<S: Store>(
-    store: &S,
-    base: u64,
-    text: &[u8],
-    follow: Follow,
-) -> Result<(u64, Kind), u64>
-    ensures { result ≡ walk_on (S.tree store.now) base text.now follow }
+/// Where a text leads, or its refusal.
+fn walk_text<S: Store>(store: &S, base: u64, text: &[u8], follow: Follow) -> Result<Target, Refusal>
+    ensures { Gives result (λ target. target) (walk_on (S.tree store.now) base text.now follow) }
 {
     walk_path(store, base, path_of(text)?, follow)
 }
@@ -33,6 +31,7 @@ pub fn seek<S: Store>(store: &S, call: &Call<'_>) -> Reply
     match *call {
         Call::Look { base, path, follow } => look(store, base, path, follow),
         Call::Stat { base, path } => stat(store, base, path),
+        // Another call takes memory or alters the tree, and the caller knows that this one doesn't.
         Call::Readlink { .. }
         | Call::List { .. }
         | Call::Mkdir { .. }
@@ -50,16 +49,17 @@ fn look<S: Store>(store: &S, base: u64, path: &[u8], follow: Follow) -> Reply
 {
     match walk_text(store, base, path, follow) {
         Ok((number, kind)) => Reply::Found(number, kind),
-        Err(number) => Reply::Refused(number),
+        Err(refusal) => Reply::Refused(refusal.number()),
     }
 }
 
 fn stat<S: Store>(store: &S, base: u64, path: &[u8]) -> Reply
     ensures { answer_of result ≡ answered (stat (S.tree store.now) base path.now) }
 {
+    paths_lead_to_the_living();
     match walk_text(store, base, path, Follow::Yes) {
         Ok((number, kind)) => Reply::Stat(number, kind, store.count(number)),
-        Err(number) => Reply::Refused(number),
+        Err(refusal) => Reply::Refused(refusal.number()),
     }
 }
 
@@ -72,6 +72,7 @@ pub fn ask<S: Store>(alloc: Global, store: &S, call: &Call<'_>) -> Result<Reply,
     Ok(match *call {
         Call::Readlink { base, path } => read_link(alloc, store, base, path)?,
         Call::List { base, path } => list(alloc, store, base, path)?,
+        // Another call takes no memory or alters the tree, and the caller knows that this one doesn't.
         Call::Look { .. }
         | Call::Stat { .. }
         | Call::Mkdir { .. }
@@ -90,11 +91,11 @@ fn read_link<S: Store>(alloc: Global, store: &S, base: u64, path: &[u8]) -> Resu
 {
     let number = match walk_text(store, base, path, Follow::No) {
         Ok((number, _)) => number,
-        Err(number) => return Ok(Reply::Refused(number)),
+        Err(refusal) => return Ok(Reply::Refused(refusal.number())),
     };
     match store.text(number) {
         Some(text) => Ok(Reply::Text(Vec::from_slice(alloc, text)?)),
-        None => Ok(Reply::Refused(22)),
+        None => Ok(Reply::Refused(Refusal::Invalid.number())),
     }
 }
 
@@ -104,6 +105,6 @@ fn list<S: Store>(alloc: Global, store: &S, base: u64, path: &[u8]) -> Result<Re
 {
     match walk_text(store, base, path, Follow::Dir) {
         Ok((number, _)) => Ok(Reply::Names(store.list(alloc, number)?)),
-        Err(number) => Ok(Reply::Refused(number)),
+        Err(refusal) => Ok(Reply::Refused(refusal.number())),
     }
 }

@@ -1,41 +1,45 @@
+//! What a change is to do.
+
 use dc_names::Name;
-use dc_plain::Key;
+use dc_plain::{Key, Spot};
 use dc_store::New;
 
 /// What a change is to do to a store.
-#[derive(Clone, Copy)]
+#[derive(Clone, Copy, Debug, PartialEq, Eq)]
 pub enum Plan<'a> {
     /// An entry comes to a directory.
     Add {
         /// The directory's number.
         dir: u64,
+        /// The name that the entry gets there.
         name: Name<'a>,
-        /// What it leads to.
+        /// What the entry leads to.
         new: New<'a>,
-        /// The number of that.
+        /// The number of the inode that the entry leads to.
         number: u64,
     },
     /// An entry goes, and with its last name the inode that it leads to.
     Drop {
         /// The directory's number.
         dir: u64,
+        /// The name of the entry there.
         name: Name<'a>,
-        /// The number that it leads to.
+        /// The number of the inode that the entry leads to.
         number: u64,
-        /// The key of its own that goes with its last name.
-        freed: Option<Key<'a>>,
+        /// The key of that inode's own which goes with its last name.
+        lost: Option<Key<'a>>,
     },
     /// An entry moves to another name, in the place of what stands there.
     Move {
-        /// The number of its directory, and its name.
-        from: (u64, Name<'a>),
-        /// The same where it goes.
-        to: (u64, Name<'a>),
-        /// The number that it leads to.
+        /// The name that it has.
+        from: Spot<'a>,
+        /// The name that it gets.
+        to: Spot<'a>,
+        /// The number of the inode that the entry leads to.
         number: u64,
         /// Whether that is a directory whose parent becomes another.
-        turns: bool,
+        reparents: bool,
         /// The key of its own that what stood at the new name has, where that was its last name.
-        freed: Option<Key<'a>>,
+        lost: Option<Key<'a>>,
     },
 }

@@ -3,45 +3,32 @@ ghost use Rattle.dc_ops.specs.Plans.{CanCarry};
 
 use crate::{Plan, ask, carry, plan, seek};
 use dc_names::{Kind, NoMemory};
-use dc_plain::{Call, Follow, Key, Label, Reply};
-use dc_store::{MapStore, Store};
+use dc_plain::{Call, Follow, Key, Label, Reply, Sort};
+use dc_store::{SlabStore, Store};
 use std::alloc::Global;
 use std::test::Fail;
+
+mod stores_agree;
 
 /// The plan of a change on a store of at most 16 inodes. A read has none.
 fn planned<'a, S: Store>(store: &S, call: &Call<'a>) -> Result<Plan<'a>, Reply>
     ensures { IfOk result (λ plan. CanCarry plan (S.tree store.now)) }
 {
-    match call {
-        Call::Look { .. } | Call::Stat { .. } | Call::Readlink { .. } | Call::List { .. } => {
-            Err(Reply::Unit)
-        }
-        Call::Mkdir { .. }
-        | Call::Create { .. }
-        | Call::Link { .. }
-        | Call::Symlink { .. }
-        | Call::Unlink { .. }
-        | Call::Rmdir { .. }
-        | Call::Rename { .. } => plan(store, call, 16),
+    match call.sort() {
+        Sort::Change => plan(store, call, 16),
+        Sort::Sought | Sort::Told => Err(Reply::Unit),
     }
 }
 
 /// What a call answers, and makes of the store.
 fn answered<S: Store>(alloc: Global, store: &mut S, call: &Call) -> Result<Reply, NoMemory> {
-    match call {
-        Call::Look { .. } | Call::Stat { .. } => return Ok(seek(store, call)),
-        Call::Readlink { .. } | Call::List { .. } => return ask(alloc, store, call),
-        Call::Mkdir { .. }
-        | Call::Create { .. }
-        | Call::Link { .. }
-        | Call::Symlink { .. }
-        | Call::Unlink { .. }
-        | Call::Rmdir { .. }
-        | Call::Rename { .. } => {}
-    }
-    match planned(store, call) {
-        Ok(plan) => carry(alloc, store, plan),
-        Err(reply) => Ok(reply),
+    match call.sort() {
+        Sort::Sought => Ok(seek(store, call)),
+        Sort::Told => ask(alloc, store, call),
+        Sort::Change => match plan(store, call, 16) {
+            Ok(plan) => carry(alloc, store, plan),
+            Err(reply) => Ok(reply),
+        },
     }
 }
 
@@ -87,7 +74,7 @@ fn rename<'a>(old: &'a [u8], new: &'a [u8]) -> Call<'a> {
 
 #[test]
 fn changes_and_look_ups(rt: HostRuntime) -> Result<(), Fail> {
-    let mut store = MapStore::new(rt.alloc())?;
+    let mut store = SlabStore::new(rt.alloc())?;
     for (call, reply) in [
         (mkdir(b"/"), Reply::Refused(17)),
         (mkdir(b"/a"), Reply::Done(2)),
@@ -121,7 +108,7 @@ fn changes_and_look_ups(rt: HostRuntime) -> Result<(), Fail> {
 
 #[test]
 fn texts_and_names(rt: HostRuntime) -> Result<(), Fail> {
-    let mut store = MapStore::new(rt.alloc())?;
+    let mut store = SlabStore::new(rt.alloc())?;
     for call in [symlink(b"./d", b"/s"), mkdir(b"/d"), create(b"/a")] {
         answered(rt.alloc(), &mut store, &call)?;
     }
@@ -156,7 +143,7 @@ fn shown(key: &Key) -> (u64, u8) {
 
 #[test]
 fn keys_of_plans(rt: HostRuntime) -> Result<(), Fail> {
-    let mut store = MapStore::new(rt.alloc())?;
+    let mut store = SlabStore::new(rt.alloc())?;
     let cases: [(Call, &[(u64, u8)]); 9] = [
         (mkdir(b"/a"), &[(1, b'a'), (2, b'.')]),
         (mkdir(b"/b"), &[(1, b'b'), (3, b'.')]),
@@ -186,7 +173,7 @@ fn numbered(alloc: Global, number: u32) -> Result<Vec<u8>, NoMemory> {
 
 #[test]
 fn names_of_a_file_are_bounded(rt: HostRuntime) -> Result<(), Fail> {
-    let mut store = MapStore::new(rt.alloc())?;
+    let mut store = SlabStore::new(rt.alloc())?;
     assert_eq!(rt;
         answered(rt.alloc(), &mut store, &create(b"/0"))?,
         Reply::Done(2)

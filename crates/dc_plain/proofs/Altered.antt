@@ -12,7 +12,8 @@ use Rattle.dc_plain.specs.Effects.{with_entry_for, without_entry, without_entry_
 use Rattle.dc_plain.specs.Operations.{change_of, settled, same_inode}
 use Rattle.dc_plain.specs.Requests.{Request}
 use Rattle.dc_plain.specs.Runs.{Alters}
-use Rattle.dc_plain.specs.Plans.{changed, planned, spot_shown, without_moved, LeadsTo, HasSpots, HasSpotsIfChange}
+use Rattle.dc_plain.specs.Spots.{spot_shown}
+use Rattle.dc_plain.specs.Plans.{changed, planned, without_moved, LeadsTo, HasSpots, HasSpotsIfChange}
 use Rattle.dc_plain.proofs.Holders.{decided_not}
 use Rattle.dc_plain.proofs.Made.{spots_total}
 use Rattle.dc_plain.proofs.Removed.{either_left}
@@ -20,33 +21,33 @@ use Rattle.dc_plain.proofs.SameFacts.{tied}
 use Rattle.dc_plain.proofs.Takes.{lookup-take}
 
 -- an entry that was put in leads where it was to lead
-put_target : (t : Tree) (spot : Spot) (n : ℕ) → entry_number (with_entry_for t spot.directory spot.name n) spot ≡ Some n
-put_target t spot n = find-put spot_cmp spots_total spot spot n t.entries ∙ rw (tied spot.directory spot.name) refl
+put_target : (t : Tree) (spot : Spot) (n : ℕ) → entry_number (with_entry_for t spot.dir spot.name n) spot ≡ Some n
+put_target t spot n = find-put spot_cmp spots_total spot spot n t.entries ∙ rw (tied spot.dir spot.name) refl
 
 -- one that was taken leads nowhere
-taken_target : (t : Tree) (spot : Spot) (n : ℕ) → entry_number (without_entry t spot.directory spot.name n) spot ≡ None
+taken_target : (t : Tree) (spot : Spot) (n : ℕ) → entry_number (without_entry t spot.dir spot.name n) spot ≡ None
 taken_target t spot n =
-    let gone = lookup-take spot_cmp spots_total spot spot t.entries ∙ rw (tied spot.directory spot.name) refl in
-    either_left (λ u. entry_number u spot ≡ None) t spot.directory spot.name n gone gone
+    let gone = lookup-take spot_cmp spots_total spot spot t.entries ∙ rw (tied spot.dir spot.name) refl in
+    either_left (λ u. entry_number u spot ≡ None) t spot.dir spot.name n gone gone
 
 -- nor does one that leads nowhere where another is taken
-still_free : (t : Tree) (spot other : Spot) → entry_number t spot ≡ None → entry_number (without_entry_alone t other.directory other.name) spot ≡ None
+still_free : (t : Tree) (spot other : Spot) → entry_number t spot ≡ None → entry_number (without_entry_alone t other.dir other.name) spot ≡ None
 still_free t spot other free =
     lookup-take spot_cmp spots_total other spot t.entries ∙ ap (λ o. cond (not (eq_by_cmp spot_cmp other spot)) o None) free
     ∙ elim (eq_by_cmp spot_cmp other spot) as (λ b. cond {A = Option ℕ} (not b) None None ≡ None) [ true ↦ refl | false ↦ refl ]
 
 -- the new name is free where what stood there went
-pub free_over : (t : Tree) (from to : Spot) (there : Option Target) → LeadsTo t to.directory to.name there
+pub free_over : (t : Tree) (from to : Spot) (there : Option Target) → LeadsTo t to.dir to.name there
     → entry_number (without_moved t from to there) to ≡ None
 free_over t from to None leads = still_free t to from leads
-free_over t from to (Some place) leads = still_free (without_entry t to.directory to.name place.0) to from (taken_target t to place.0)
+free_over t from to (Some place) leads = still_free (without_entry t to.dir to.name place.0) to from (taken_target t to place.0)
 
 -- two trees are apart where an entry leads elsewhere
 apart_by : (t u : Tree) (spot : Spot) → entry_number u spot ≢ entry_number t spot → u ≢ t
 apart_by t u spot other same = other (ap (λ v. entry_number v spot) same)
 
 -- the moved inode is another than what stood at the new name
-new_there : (t : Tree) (to : Spot) (moved : Target) (there : Option Target) → LeadsTo t to.directory to.name there → same_inode moved there ≡ false → Some moved.0 ≢ entry_number t to
+new_there : (t : Tree) (to : Spot) (moved : Target) (there : Option Target) → LeadsTo t to.dir to.name there → same_inode moved there ≡ false → Some moved.0 ≢ entry_number t to
 new_there t to moved None leads apart same = cc
 new_there t to moved (Some place) leads apart same = let one : moved.0 ≡ place.0 = cc in decided_not moved.0 place.0 apart one
 

@@ -4,6 +4,8 @@ use Rattle.std.specs.List.{AllByRecursion}
 use Rattle.std.specs.Ordering.{eq_by_cmp, is_eq}
 use Rattle.std.specs.Cmp.{tied_itself}
 use Rattle.std.specs.FinMap.Entries.{find as lookup}
+use Rattle.dc_names.specs.Laws.{PartsAreNamesOrDots}
+use Rattle.dc_names.specs.declared.refusal.Refusal.TheVariants.{NotFound, Busy, NotDirectory, IsDirectory, Invalid, NotEmpty}
 use Rattle.dc_names.specs.Bytes.{is_empty, is_name}
 use Rattle.dc_plain.specs.Facts.{Target}
 use Rattle.dc_plain.specs.Facts.Label.{Entry}
@@ -11,7 +13,8 @@ use Rattle.dc_plain.specs.Resolution.{is_directory}
 use Rattle.dc_plain.specs.Trees.{Tree, Spot, spot_cmp, entry_number, entry_of, holder_of, names_in, if_held, is_live_directory, is_directory_inode, without_number, without_spot}
 use Rattle.dc_plain.specs.Requests.{Answer}
 use Rattle.dc_plain.specs.Requests.Answer.{Nothing}
-use Rattle.dc_plain.specs.Refusals.{◌>>=◌, refuse, place_on, path_or_fault, name_or_each, present}
+use Rattle.dc_names.specs.Lasts.{name_or_each}
+use Rattle.dc_plain.specs.Refusals.{◌>>=◌, refuse, place_on, path_or_fault, present}
 use Rattle.dc_plain.specs.Effects.{with_entry_for, without_entry, without_entry_alone, without_there}
 use Rattle.dc_plain.specs.Operations.{rename, is_beneath, replaceable, same_inode}
 use Rattle.dc_plain.specs.IsWellFormed.{IsWellFormed}
@@ -38,11 +41,11 @@ is_beneath-kept P t u closed same (suc steps) d n here =
     ∙ same_held (holder_of t d) (λ up. is_beneath steps u up n) (λ up. is_beneath steps t up n) (λ up e. is_beneath-kept P t u closed same steps up n (closed d up here e)))
 
 -- where a name stands there is an entry of that directory
-All-key : (n : ℕ) (spot : Spot) (es : List (Spot × ℕ)) → AllByRecursion (λ (e : Spot × ℕ). e.0.directory ≢ n) es → (v : ℕ) → lookup spot_cmp spot es ≡ Some v → spot.directory ≢ n
+All-key : (n : ℕ) (spot : Spot) (es : List (Spot × ℕ)) → AllByRecursion (λ (e : Spot × ℕ). e.0.dir ≢ n) es → (v : ℕ) → lookup spot_cmp spot es ≡ Some v → spot.dir ≢ n
 All-key n spot [] all v e = absurd cc
 All-key n spot (x ∷ xs) all v e =
-    elim (eq_by_cmp spot_cmp spot x.0) as (λ b. eq_by_cmp spot_cmp spot x.0 ≡ b → cond b (Some x.1) (lookup spot_cmp spot xs) ≡ Some v → spot.directory ≢ n) [
-      | true ↦ λ is found. λ here. all.0 (sym (ap (λ (s : Spot). s.directory) (same_spot spot x.0 is)) ∙ here)
+    elim (eq_by_cmp spot_cmp spot x.0) as (λ b. eq_by_cmp spot_cmp spot x.0 ≡ b → cond b (Some x.1) (lookup spot_cmp spot xs) ≡ Some v → spot.dir ≢ n) [
+      | true ↦ λ is found. λ here. all.0 (sym (ap (λ (s : Spot). s.dir) (same_spot spot x.0 is)) ∙ here)
       | false ↦ λ is found. All-key n spot xs all.1 v found
     ] refl e
 
@@ -58,7 +61,7 @@ other_spot t a b m n is_m is_n apart true e =
 abbrev IsApart : Tree → ℕ → Target → Type 0
 IsApart t to moved = (is_directory moved && is_beneath (length t.inodes) t to moved.0) ≡ false
 
-apart_by : (directory beneath live : Bool) → directory ≡ live → (directory && beneath) ≡ false → live ≡ true → beneath ≡ false
+apart_by : (dir beneath live : Bool) → dir ≡ live → (dir && beneath) ≡ false → live ≡ true → beneath ≡ false
 apart_by true beneath live is e l = e
 apart_by false beneath live is e l = cc
 
@@ -77,24 +80,24 @@ module _ (t : Tree) (from : ℕ) (old : List ℕ) (to : ℕ) (new : List ℕ) (m
     apart = λ live. (length t.inodes, not_beneath live);
   }
 
-  module _ (there : Target) (target : entry_number t (record { directory = to; name = new }) ≡ Some there.0) (unentered : IsUnentered t there.0) (other : moved.0 ≢ there.0) where
+  module _ (there : Target) (target : entry_number t (record { dir = to; name = new }) ≡ Some there.0) (unentered : IsUnentered t there.0) (other : moved.0 ≢ there.0) where
     not_there : to ≢ there.0
-    not_there = All-key there.0 (record { directory = to; name = new }) t.entries unentered there.0 target
+    not_there = All-key there.0 (record { dir = to; name = new }) t.entries unentered there.0 target
 
-    free_now : entry_number (without_entry t to new there.0) (record { directory = to; name = new }) ≡ None
+    free_now : entry_number (without_entry t to new there.0) (record { dir = to; name = new }) ≡ None
     free_now =
-        let gone : lookup spot_cmp (record { directory = to; name = new }) (without_spot (record { directory = to; name = new }) t.entries) ≡ None =
-        lookup-take spot_cmp spots_total (record { directory = to; name = new }) (record { directory = to; name = new }) t.entries
-        ∙ ap (λ o. cond (not (is_eq o)) (entry_number t (record { directory = to; name = new })) None) (tied_itself spots_total (record { directory = to; name = new })) in
-        either_left (λ u. entry_number u (record { directory = to; name = new }) ≡ None) t to new there.0 gone gone
+        let gone : lookup spot_cmp (record { dir = to; name = new }) (without_spot (record { dir = to; name = new }) t.entries) ≡ None =
+        lookup-take spot_cmp spots_total (record { dir = to; name = new }) (record { dir = to; name = new }) t.entries
+        ∙ ap (λ o. cond (not (is_eq o)) (entry_number t (record { dir = to; name = new })) None) (tied_itself spots_total (record { dir = to; name = new })) in
+        either_left (λ u. entry_number u (record { dir = to; name = new }) ≡ None) t to new there.0 gone gone
 
-    source_now : entry_number (without_entry t to new there.0) (record { directory = from; name = old }) ≡ Some moved.0
+    source_now : entry_number (without_entry t to new there.0) (record { dir = from; name = old }) ≡ Some moved.0
     source_now =
-        let apart_spots = other_spot t (record { directory = to; name = new }) (record { directory = from; name = old }) there.0 moved.0 target source.target (λ same. other (sym same)) _ refl in
-        let stays : lookup spot_cmp (record { directory = from; name = old }) (without_spot (record { directory = to; name = new }) t.entries) ≡ Some moved.0 =
-        lookup-take spot_cmp spots_total (record { directory = to; name = new }) (record { directory = from; name = old }) t.entries
-        ∙ ap (λ b. cond (not b) (entry_number t (record { directory = from; name = old })) None) apart_spots ∙ source.target in
-        either_left (λ u. entry_number u (record { directory = from; name = old }) ≡ Some moved.0) t to new there.0 stays stays
+        let apart_spots = other_spot t (record { dir = to; name = new }) (record { dir = from; name = old }) there.0 moved.0 target source.target (λ same. other (sym same)) _ refl in
+        let stays : lookup spot_cmp (record { dir = from; name = old }) (without_spot (record { dir = to; name = new }) t.entries) ≡ Some moved.0 =
+        lookup-take spot_cmp spots_total (record { dir = to; name = new }) (record { dir = from; name = old }) t.entries
+        ∙ ap (λ b. cond (not b) (entry_number t (record { dir = from; name = old })) None) apart_spots ∙ source.target in
+        either_left (λ u. entry_number u (record { dir = from; name = old }) ≡ Some moved.0) t to new there.0 stays stays
 
     held_now : IsTrue (is_live_directory (without_entry t to new there.0) to)
     held_now = ap is_directory_inode (inode-left t to new there.0 to (λ same. not_there (sym same))) ∙ held
@@ -116,7 +119,7 @@ module _ (t : Tree) (from : ℕ) (old : List ℕ) (to : ℕ) (new : List ℕ) (m
     }
 
 -- what gives way is empty, or no directory
-gives_way : (moved there empty : Bool) (b : Bool) → (if moved then (if not there then Err 20 else refuse (not empty) 39) else refuse there 21) ≡ Ok b → (there ≡ false) ⊎ (empty ≡ true)
+gives_way : (moved there empty : Bool) (b : Bool) → (if moved then (if not there then Err NotDirectory else refuse (not empty) NotEmpty) else refuse there IsDirectory) ≡ Ok b → (there ≡ false) ⊎ (empty ≡ true)
 gives_way true true true b e = inr refl
 gives_way true true false b e = absurd cc
 gives_way true false empty b e = absurd cc
@@ -169,28 +172,28 @@ pub record Stays (t : Tree) (base : ℕ) (old new : List ℕ) (u : Tree) : Type 
   pub same : same_inode moved there ≡ true
   pub left : t ≡ u
 
-pub renames : (t : Tree) (base : ℕ) (old new : List ℕ) (done : Answer × Tree) → IsWellFormed t → rename t base old new ≡ Ok done → Moves t base old new done.1 ⊎ Stays t base old new done.1
-renames t base old new done well e =
+pub renames : PartsAreNamesOrDots → (t : Tree) (base : ℕ) (old new : List ℕ) (done : Answer × Tree) → IsWellFormed t → rename t base old new ≡ Ok done → Moves t base old new done.1 ⊎ Stays t base old new done.1
+renames parts t base old new done well e =
     after (path_or_fault old) _ done e (λ old_path old_good e.
     after (path_or_fault new) _ done e (λ new_path new_good e.
     after (place_on t base old_path) _ done e (λ from from_is e.
     after (place_on t base new_path) _ done e (λ to to_is e.
-    after (name_or_each 16 22 22 from.last) _ done e (λ old_name old_is e.
-    after (name_or_each 16 22 22 to.last) _ done e (λ new_name new_is e.
-    after (present 2 (entry_of t from.directory (Entry old_name))) _ done e (λ moved found e.
-    after_test (not (is_directory moved) && (from.slash || to.slash)) 20 _ done e (λ ends e.
-    let there = entry_of t to.directory (Entry new_name) in
-    let old_ends : Ends_in t base old from.directory old_name = record { at = from; spot = spot_of t base old old_path from old_good from_is; directory = refl; last = named_each 16 22 22 from.last old_name old_is } in
-    let new_ends : Ends_in t base new to.directory new_name = record { at = to; spot = spot_of t base new new_path to new_good to_is; directory = refl; last = named_each 16 22 22 to.last new_name new_is } in
-    let source = entry-leads t from.directory old_name moved (is_there 2 _ moved found) in
+    after (name_or_each Busy Invalid Invalid from.last) _ done e (λ old_name old_is e.
+    after (name_or_each Busy Invalid Invalid to.last) _ done e (λ new_name new_is e.
+    after (present NotFound (entry_of t from.dir (Entry old_name))) _ done e (λ moved found e.
+    after_test (not (is_directory moved) && (from.slash || to.slash)) NotDirectory _ done e (λ ends e.
+    let there = entry_of t to.dir (Entry new_name) in
+    let old_ends : Ends_in t base old from.dir old_name = record { at = from; spot = spot_of t base old old_path from old_good from_is; dir = refl; last = named_each Busy Invalid Invalid from.last old_name old_is } in
+    let new_ends : Ends_in t base new to.dir new_name = record { at = to; spot = spot_of t base new new_path to new_good to_is; dir = refl; last = named_each Busy Invalid Invalid to.last new_name new_is } in
+    let source = entry-leads t from.dir old_name moved (is_there NotFound _ moved found) in
     elim (same_inode moved there) as (λ b. same_inode moved there ≡ b → (if b then Ok (Nothing, t) else
-    refuse (is_directory moved && is_beneath (length t.inodes) t to.directory moved.0) 22 >>= λ apart. replaceable t moved there >>= λ may.
-    Ok (Nothing, with_entry_for (without_entry_alone (without_there t to.directory new_name there) from.directory old_name) to.directory new_name moved.0)) ≡ Ok done → Moves t base old new done.1 ⊎ Stays t base old new done.1) [
+    refuse (is_directory moved && is_beneath (length t.inodes) t to.dir moved.0) Invalid >>= λ apart. replaceable t moved there >>= λ may.
+    Ok (Nothing, with_entry_for (without_entry_alone (without_there t to.dir new_name there) from.dir old_name) to.dir new_name moved.0)) ≡ Ok done → Moves t base old new done.1 ⊎ Stays t base old new done.1) [
       | true ↦ λ same e. inr (record {
-        from = from.directory;
+        from = from.dir;
         old_name = old_name;
         old_ends = old_ends;
-        to = to.directory;
+        to = to.dir;
         new_name = new_name;
         new_ends = new_ends;
         moved = moved;
@@ -201,12 +204,12 @@ renames t base old new done well e =
         left = left_with (λ u. t ≡ u) Nothing t done e refl;
       })
       | false ↦ λ other e.
-          after_test (is_directory moved && is_beneath (length t.inodes) t to.directory moved.0) 22 _ done e (λ apart e.
+          after_test (is_directory moved && is_beneath (length t.inodes) t to.dir moved.0) Invalid _ done e (λ apart e.
           after (replaceable t moved there) _ done e (λ may may_is e. inl (record {
-            from = from.directory;
+            from = from.dir;
             old_name = old_name;
             old_ends = old_ends;
-            to = to.directory;
+            to = to.dir;
             new_name = new_name;
             new_ends = new_ends;
             moved = moved;
@@ -214,10 +217,10 @@ renames t base old new done well e =
             there = there;
             at = refl;
             apart = other;
-            unentered = λ p is. way-unentered t to.directory new_name moved p may well (entry-leads t to.directory new_name p is) (ap (replaceable t moved) (sym is) ∙ may_is);
-            ready = ready t from.directory old_name to.directory new_name moved may well source (place_live t base new_path to well.root_is to_is)
-                (path_named t base new new_path to new_name new_good to_is (named_each 16 22 22 to.last new_name new_is)) apart there refl other may_is;
-            left = left_with (λ u. moved_to (without_there t to.directory new_name there) from.directory old_name to.directory new_name moved.0 ≡ u) Nothing
-                (moved_to (without_there t to.directory new_name there) from.directory old_name to.directory new_name moved.0) done e refl;
+            unentered = λ p is. way-unentered t to.dir new_name moved p may well (entry-leads t to.dir new_name p is) (ap (replaceable t moved) (sym is) ∙ may_is);
+            ready = ready t from.dir old_name to.dir new_name moved may well source (place_live t base new_path to well.root_is to_is)
+                (path_named parts t base new new_path to new_name new_good to_is (named_each Busy Invalid Invalid to.last new_name new_is)) apart there refl other may_is;
+            left = left_with (λ u. moved_to (without_there t to.dir new_name there) from.dir old_name to.dir new_name moved.0 ≡ u) Nothing
+                (moved_to (without_there t to.dir new_name there) from.dir old_name to.dir new_name moved.0) done e refl;
           })))
     ] refl e))))))))

@@ -39,11 +39,11 @@ held_later (Some k) f g so h = so k refl h
 pub holder-live : (t : Tree) → IsWellFormed t → (n up : ℕ) → holder_of t n ≡ Some up → IsTrue (is_live_directory t up)
 holder-live t well n up e = by_entry (find (λ e. e.1 == n) t.entries) refl e
   where
-    by_entry : (o : Option (Spot × ℕ)) → find (λ e. e.1 == n) t.entries ≡ o → option_map (λ e. e.0.directory) o ≡ Some up → IsTrue (is_live_directory t up)
+    by_entry : (o : Option (Spot × ℕ)) → find (λ e. e.1 == n) t.entries ≡ o → option_map (λ e. e.0.dir) o ≡ Some up → IsTrue (is_live_directory t up)
     by_entry None is e' = absurd cc
     by_entry (Some found) is e' =
         let stands = All-find (Stands t) (λ e. e.1 == n) t.entries well.entries found is in
-        let same : found.0.directory ≡ up = cc in
+        let same : found.0.dir ≡ up = cc in
         subst (λ k. IsTrue (is_live_directory t k)) same stands.held
 
 -- the way up is the same where the holders of all on it are

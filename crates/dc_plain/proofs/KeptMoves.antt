@@ -1,5 +1,6 @@
 -- A rename keeps a tree well formed.
 use Rattle.std.proofs.Common.{◌≡◌, inl, inr, ℕ, List, Option, Some, None, Ok, subst}
+use Rattle.dc_names.specs.Laws.{PartsAreNamesOrDots}
 use Rattle.dc_plain.specs.Facts.{Target}
 use Rattle.dc_plain.specs.Trees.{Tree}
 use Rattle.dc_plain.specs.Requests.{Answer}
@@ -15,8 +16,8 @@ there-within : (limit : ℕ) (t : Tree) (d : ℕ) (name : List ℕ) (there : Opt
 there-within limit t d name None within = within
 there-within limit t d name (Some there) within = without_entry-IsWithin limit t d name there.0 within
 
-pub rename-keeps : (limit : ℕ) (t : Tree) (base : ℕ) (old new : List ℕ) (done : Answer × Tree) → IsWellFormed t → rename t base old new ≡ Ok done → IsKept limit t done.1
-rename-keeps limit t base old new done well e = elim (renames t base old new done well e) [
+pub rename-keeps : PartsAreNamesOrDots → (limit : ℕ) (t : Tree) (base : ℕ) (old new : List ℕ) (done : Answer × Tree) → IsWellFormed t → rename t base old new ≡ Ok done → IsKept limit t done.1
+rename-keeps parts limit t base old new done well e = elim (renames parts t base old new done well e) [
   | inr s ↦ subst (IsKept limit t) s.left (well, λ within. within)
   | inl m ↦ subst (IsKept limit t) m.left
       (moved-IsWellFormed (without_there t m.to m.new_name m.there) m.from m.old_name m.to m.new_name m.moved.0 m.ready, there-within limit t m.to m.new_name m.there)

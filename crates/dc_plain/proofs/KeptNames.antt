@@ -1,5 +1,6 @@
 -- Calls that give a further name or take one away keep a tree well formed.
 use Rattle.std.proofs.Common.{◌≡◌, ℕ, ◌==◌, List, true, false, not, Ok, arith, subst, if◌then◌else◌}
+use Rattle.dc_names.specs.Laws.{PartsAreNamesOrDots}
 use Rattle.dc_plain.specs.Trees.{Tree, Inode, names_of, without_number}
 use Rattle.dc_plain.specs.Requests.{Answer}
 use Rattle.dc_plain.specs.Effects.{without_entry}
@@ -20,9 +21,9 @@ without_entry-IsWithin limit t d name n within =
       | false ↦ within
     ]
 
-pub link-keeps : (limit : ℕ) (t : Tree) (base : ℕ) (old new : List ℕ) (done : Answer × Tree) → IsWellFormed t → link t base old new ≡ Ok done → IsKept limit t done.1
-link-keeps limit t base old new done well e =
-    let l = links t base old new done well e in
+pub link-keeps : PartsAreNamesOrDots → (limit : ℕ) (t : Tree) (base : ℕ) (old new : List ℕ) (done : Answer × Tree) → IsWellFormed t → link t base old new ≡ Ok done → IsKept limit t done.1
+link-keeps parts limit t base old new done well e =
+    let l = links parts t base old new done well e in
     subst (IsKept limit t) l.left (with_entry_for-IsWellFormed t l.d l.name l.n l.inode well l.held l.free l.lives l.no_directory l.named l.few, λ within. within)
 
 take-keeps : (limit : ℕ) (t : Tree) (base : ℕ) (text : List ℕ) (u : Tree) → IsWellFormed t → Takes t base text u → IsKept limit t u

@@ -1,19 +1,21 @@
 -- At most four keys are listed for a call.
 use Rattle.std.proofs.Common.{ℕ, ◌≤◌, ◌==◌, ◌&&◌, not, List, [], ◌∷◌, ◌++◌, true, false, Option, Some, None, Result, Ok, Err, arith, length, if◌then◌else◌}
 use Rattle.std.proofs.lemmas.List.{length-append}
+use Rattle.dc_names.specs.declared.refusal.Refusal.{Refusal}
 use Rattle.dc_plain.specs.Facts.{Key}
-use Rattle.dc_plain.specs.Trees.{Tree, Inode, inode_of, entry_number, names_of, is_live_directory}
+use Rattle.dc_plain.specs.Trees.{Tree, Inode, inode_of, entry_number, kind_of, names_of, is_live_directory}
 use Rattle.dc_plain.specs.Trees.Inode.{Directory, Regular, Symbolic}
 use Rattle.dc_plain.specs.Requests.{Request}
 use Rattle.dc_plain.specs.Requests.Request.{Look, Readlink, Stat, List_names, Mkdir, Create, Hard_link, Symlink, Unlink, Rmdir, Rename}
-use Rattle.dc_plain.specs.Places.{Where, Last}
-use Rattle.dc_plain.specs.Places.Last.{Root, Dot, DotDot, Name}
+use Rattle.dc_names.specs.Lasts.{Last}
+use Rattle.dc_plain.specs.Places.{Where}
+use Rattle.dc_names.specs.Lasts.Last.{Root, Dot, DotDot, Name}
 use Rattle.dc_plain.specs.Refusals.{where_on}
 use Rattle.dc_plain.specs.Operations.{Change, change_of}
 use Rattle.dc_plain.specs.TouchedKeys.{entry_key, parent_key, own_keys, keys_at, keys_gone, with_number, keys_taken, keys_moved, keys_renamed, lead_to_one, by_last, by_place, listed, unless_refused}
-use Rattle.dc_plain.specs.Laws.{TouchesFourAtMost}
+use Rattle.dc_plain.specs.Laws.{TouchesFew}
 
-one_own : (n : ℕ) (inode : Inode) → length (own_keys n inode) ≤ 1
+one_own : (n : ℕ) (inode : Inode) → length (own_keys n (kind_of inode)) ≤ 1
 one_own n Directory = omega arith
 one_own n Regular = omega arith
 one_own n (Symbolic text) = omega arith
@@ -30,17 +32,17 @@ one_by None keys so = omega arith
 one_by (Some n) keys so = so n
 
 one_taken : (t : Tree) (d : ℕ) (name : List ℕ) → length (keys_taken t d name) ≤ 1
-one_taken t d name = one_by (entry_number t (record { directory = d; name = name })) (keys_gone t) (one_gone t)
+one_taken t d name = one_by (entry_number t (record { dir = d; name = name })) (keys_gone t) (one_gone t)
 
 one_moved : (t : Tree) (from to n : ℕ) → length (keys_moved t from to n) ≤ 1
 one_moved t from to n = elim (is_live_directory t n && not (from == to)) as (λ b. length (if b then parent_key n ∷ [] else []) ≤ 1) [ true ↦ omega arith | false ↦ omega arith ]
 
 four_renamed : (t : Tree) (from : ℕ) (old : List ℕ) (to : ℕ) (new : List ℕ) → length (keys_renamed t from old to new) ≤ 4
 four_renamed t from old to new =
-    let moved = with_number (entry_number t (record { directory = from; name = old })) (keys_moved t from to) in
-    let one = one_by (entry_number t (record { directory = from; name = old })) (keys_moved t from to) (one_moved t from to) in
+    let moved = with_number (entry_number t (record { dir = from; name = old })) (keys_moved t from to) in
+    let one = one_by (entry_number t (record { dir = from; name = old })) (keys_moved t from to) (one_moved t from to) in
     let other = one_taken t to new in
-    elim (lead_to_one (entry_number t (record { directory = from; name = old })) (entry_number t (record { directory = to; name = new }))) as
+    elim (lead_to_one (entry_number t (record { dir = from; name = old })) (entry_number t (record { dir = to; name = new }))) as
     (λ b. length (if b then [] else entry_key from old ∷ entry_key to new ∷ moved ++ keys_taken t to new) ≤ 4) [
       | true ↦ omega arith
       | false ↦ omega (arith, length-append moved (keys_taken t to new))
@@ -52,9 +54,9 @@ by_last-few Root keys so = omega arith
 by_last-few Dot keys so = omega arith
 by_last-few DotDot keys so = omega arith
 
-by_place-few : (r : Result Where ℕ) (keys : ℕ → List ℕ → List Key) → ((d : ℕ) (name : List ℕ) → length (keys d name) ≤ 4) → length (by_place r keys) ≤ 4
-by_place-few (Ok at) keys so = by_last-few at.last (keys at.directory) (so at.directory)
-by_place-few (Err number) keys so = omega arith
+by_place-few : (r : Result Where Refusal) (keys : ℕ → List ℕ → List Key) → ((d : ℕ) (name : List ℕ) → length (keys d name) ≤ 4) → length (by_place r keys) ≤ 4
+by_place-few (Ok at) keys so = by_last-few at.last (keys at.dir) (so at.dir)
+by_place-few (Err refusal) keys so = omega arith
 
 listed-few : (t : Tree) (request : Request) → length (listed t request) ≤ 4
 listed-few t (Look base path how) = omega arith
@@ -71,7 +73,7 @@ listed-few t (Rename base old new) = by_place-few (where_on t base old) _ (λ fr
 
 unless-few : (change : Change) (keys : List Key) → length keys ≤ 4 → length (unless_refused change keys) ≤ 4
 unless-few (Ok done) keys few = few
-unless-few (Err number) keys few = omega arith
+unless-few (Err refusal) keys few = omega arith
 
-pub touches-few : TouchesFourAtMost
+pub touches-few : TouchesFew
 touches-few limit t request = unless-few (change_of limit t request) (listed t request) (listed-few t request)

@@ -13,17 +13,17 @@ use Rattle.dc_plain.proofs.Linked.{holder_linked}
 use Rattle.dc_plain.proofs.SameFacts.{IsAmong, KeepsOthers, AltersEach, decide, same_key, entry-same, parent-same, entry-fact, no_entry, tied, entries-differ}
 
 module _ (t : Tree) (d : ℕ) (name : List ℕ) (n : ℕ) (inode : Inode) (well : IsWellFormed t) (in_directory : IsTrue (is_live_directory t d))
-    (free : entry_number t (record { directory = d; name = name }) ≡ None) (lives : inode_of t n ≡ Some inode) (no_directory : is_directory_inode (Some inode) ≡ false) where
-  linked_target : (q : ℕ) (other : List ℕ) → entry_number (with_entry_for t d name n) (record { directory = q; name = other })
-      ≡ cond (eq_by_cmp spot_cmp (record { directory = q; name = other }) (record { directory = d; name = name })) (Some n) (entry_number t (record { directory = q; name = other }))
-  linked_target q other = find-put spot_cmp spots_total (record { directory = q; name = other }) (record { directory = d; name = name }) n t.entries
+    (free : entry_number t (record { dir = d; name = name }) ≡ None) (lives : inode_of t n ≡ Some inode) (no_directory : is_directory_inode (Some inode) ≡ false) where
+  linked_target : (q : ℕ) (other : List ℕ) → entry_number (with_entry_for t d name n) (record { dir = q; name = other })
+      ≡ cond (eq_by_cmp spot_cmp (record { dir = q; name = other }) (record { dir = d; name = name })) (Some n) (entry_number t (record { dir = q; name = other }))
+  linked_target q other = find-put spot_cmp spots_total (record { dir = q; name = other }) (record { dir = d; name = name }) n t.entries
 
   pub linked-others : KeepsOthers t (with_entry_for t d name n) (entry_key d name ∷ [])
   linked-others key = by_label key.label key.number
     where
       by_label : (label : Label) (q : ℕ) → IsAmong (record { number = q; label = label }) (entry_key d name ∷ [])
           ⊎ (fact_at (with_entry_for t d name n) (record { number = q; label = label }) ≡ fact_at t (record { number = q; label = label }))
-      by_label (Entry other) q = elim (decide (eq_by_cmp spot_cmp (record { directory = q; name = other }) (record { directory = d; name = name }))) [
+      by_label (Entry other) q = elim (decide (eq_by_cmp spot_cmp (record { dir = q; name = other }) (record { dir = d; name = name }))) [
         | inl e ↦ inl (inl (same_key d q name other e))
         | inr e ↦ inr (ap (λ f. (f, None)) (entry-same t (with_entry_for t d name n) q other (linked_target q other ∙ rw e refl) (λ k is. refl)))
       ]

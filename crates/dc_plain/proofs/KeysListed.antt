@@ -1,6 +1,8 @@
 -- A call touches the keys that are listed for it, and no others.
 use Rattle.std.proofs.Common.{◌≡◌, ◌≢◌, inl, inr, ℕ, zero, suc, ◌<◌, Result, get_or, List, [], ◌∷◌, Bool, true, false, Option, Some, None, Ok, Err, refl, ap, sym, ◌∙◌, arith, length, subst}
 use Rattle.std.specs.List.{Contains}
+use Rattle.dc_names.specs.Laws.{PartsAreNamesOrDots}
+use Rattle.dc_names.specs.declared.refusal.Refusal.{Refusal}
 use Rattle.dc_plain.specs.Facts.{Key, Target}
 use Rattle.dc_plain.specs.Facts.Label.{Entry}
 use Rattle.dc_plain.specs.Trees.{Tree, Inode, entry_of, kind_of}
@@ -14,7 +16,7 @@ use Rattle.dc_plain.specs.Operations.{make, left_alone, link, rename, change_of,
 use Rattle.dc_plain.specs.Runs.{tree_after}
 use Rattle.dc_plain.specs.IsWellFormed.{IsWellFormed}
 use Rattle.dc_plain.specs.TouchedKeys.{entry_key, own_keys, keys_taken, keys_gone, keys_renamed, with_number, by_last, by_place, at_name, listed, unless_refused, keys_touched}
-use Rattle.dc_plain.specs.Laws.{TouchesTheListed}
+use Rattle.dc_plain.specs.Laws.{TouchesTheListed, OthersStay}
 use Rattle.dc_plain.proofs.Chains.{after, left_with}
 use Rattle.dc_plain.proofs.Found.{Leads, Ends_in, Takes, makes, links, unlinks, rmdirs, entry-leads}
 use Rattle.dc_plain.proofs.FoundMoves.{renames}
@@ -36,19 +38,19 @@ unaltered t = (λ key. inr refl, λ key never. absurd never)
 
 pub at_name-is : (t : Tree) (base : ℕ) (text : List ℕ) (d : ℕ) (name : List ℕ) (keys : ℕ → List ℕ → List Key) → Ends_in t base text d name → at_name t base text keys ≡ keys d name
 at_name-is t base text d name keys ends =
-    ap (λ r. by_place r keys) ends.spot ∙ ap (λ l. by_last l (keys ends.at.directory)) ends.last ∙ ap (λ (k : ℕ). keys k name) ends.directory
+    ap (λ r. by_place r keys) ends.spot ∙ ap (λ l. by_last l (keys ends.at.dir)) ends.last ∙ ap (λ (k : ℕ). keys k name) ends.dir
 
-make-exact : (limit : ℕ) (t : Tree) (base : ℕ) (text : List ℕ) (may : Bool) (inode : Inode) (done : Answer × Tree) → IsWellFormed t → make limit t base text may inode ≡ Ok done
-    → IsExact t (at_name t base text (λ d name. entry_key d name ∷ own_keys t.next inode)) done.1
-make-exact limit t base text may inode done well e =
-    let m = makes limit t base text may inode done well e in
-    subst (IsExact t (at_name t base text (λ d name. entry_key d name ∷ own_keys t.next inode))) m.left
-    (subst (λ keys. IsExact t keys (with_new t m.d m.name inode)) (sym (at_name-is t base text m.d m.name (λ d name. entry_key d name ∷ own_keys t.next inode) m.ends))
+make-exact : PartsAreNamesOrDots → (limit : ℕ) (t : Tree) (base : ℕ) (text : List ℕ) (may : Bool) (inode : Inode) (done : Answer × Tree) → IsWellFormed t → make limit t base text may inode ≡ Ok done
+    → IsExact t (at_name t base text (λ d name. entry_key d name ∷ own_keys t.next (kind_of inode))) done.1
+make-exact parts limit t base text may inode done well e =
+    let m = makes parts limit t base text may inode done well e in
+    subst (IsExact t (at_name t base text (λ d name. entry_key d name ∷ own_keys t.next (kind_of inode)))) m.left
+    (subst (λ keys. IsExact t keys (with_new t m.d m.name inode)) (sym (at_name-is t base text m.d m.name (λ d name. entry_key d name ∷ own_keys t.next (kind_of inode)) m.ends))
     (made-others t m.d m.name inode well m.held m.free, made-each t m.d m.name inode well m.held m.free))
 
-link-exact : (t : Tree) (base : ℕ) (old new : List ℕ) (done : Answer × Tree) → IsWellFormed t → link t base old new ≡ Ok done → IsExact t (at_name t base new (λ d name. entry_key d name ∷ [])) done.1
-link-exact t base old new done well e =
-    let l = links t base old new done well e in
+link-exact : PartsAreNamesOrDots → (t : Tree) (base : ℕ) (old new : List ℕ) (done : Answer × Tree) → IsWellFormed t → link t base old new ≡ Ok done → IsExact t (at_name t base new (λ d name. entry_key d name ∷ [])) done.1
+link-exact parts t base old new done well e =
+    let l = links parts t base old new done well e in
     subst (IsExact t (at_name t base new (λ d name. entry_key d name ∷ []))) l.left
     (subst (λ keys. IsExact t keys (with_entry_for t l.d l.name l.n)) (sym (at_name-is t base new l.d l.name (λ d name. entry_key d name ∷ []) l.ends))
     (linked-others t l.d l.name l.n l.inode well l.held l.free l.lives l.no_directory, linked-each t l.d l.name l.n l.inode well l.held l.free l.lives l.no_directory))
@@ -61,9 +63,9 @@ take-exact t base text u well takes =
     (subst (λ keys. IsExact t keys (without_entry t takes.d takes.name takes.n)) taken
     (removed-others t takes.d takes.name takes.n takes.inode well takes.leads takes.unentered takes.lives, removed-each t takes.d takes.name takes.n takes.inode well takes.leads takes.unentered takes.lives))
 
-reads-exact : (t : Tree) (answered : Result Answer ℕ) (done : Answer × Tree) → left_alone t answered ≡ Ok done → IsExact t [] done.1
+reads-exact : (t : Tree) (answered : Result Answer Refusal) (done : Answer × Tree) → left_alone t answered ≡ Ok done → IsExact t [] done.1
 reads-exact t (Ok answer) done e = left_with (IsExact t []) answer t done e (unaltered t)
-reads-exact t (Err number) done e = absurd cc
+reads-exact t (Err refusal) done e = absurd cc
 
 -- by what stands at the new name
 move-exact : (t : Tree) (from : ℕ) (old : List ℕ) (to : ℕ) (new : List ℕ) (moved : Target) → IsWellFormed t → Leads t from old moved → (there : Option Target) → entry_of t to (Entry new) ≡ there → same_inode moved there ≡ false
@@ -96,9 +98,9 @@ pub both_named : (t : Tree) (base : ℕ) (old new : List ℕ) (from : ℕ) (a : 
 both_named t base old new from a to b ends ends' =
     at_name-is t base old from a (λ from a. at_name t base new (λ to b. keys_renamed t from a to b)) ends ∙ at_name-is t base new to b (λ to b. keys_renamed t from a to b) ends'
 
-rename-exact : (t : Tree) (base : ℕ) (old new : List ℕ) (done : Answer × Tree) → IsWellFormed t → rename t base old new ≡ Ok done
+rename-exact : PartsAreNamesOrDots → (t : Tree) (base : ℕ) (old new : List ℕ) (done : Answer × Tree) → IsWellFormed t → rename t base old new ≡ Ok done
     → IsExact t (at_name t base old (λ from a. at_name t base new (λ to b. keys_renamed t from a to b))) done.1
-rename-exact t base old new done well e = elim (renames t base old new done well e) [
+rename-exact parts t base old new done well e = elim (renames parts t base old new done well e) [
   | inl m ↦ subst (IsExact t (at_name t base old (λ from a. at_name t base new (λ to b. keys_renamed t from a to b)))) m.left
       (subst (λ keys. IsExact t keys (moved_to (without_there t m.to m.new_name m.there) m.from m.old_name m.to m.new_name m.moved.0))
       (sym (both_named t base old new m.from m.old_name m.to m.new_name m.old_ends m.new_ends)) (move-exact t m.from m.old_name m.to m.new_name m.moved well m.source m.there m.at m.apart m.unentered m.ready))
@@ -106,25 +108,25 @@ rename-exact t base old new done well e = elim (renames t base old new done well
       (subst (λ keys. IsExact t keys t) (sym (both_named t base old new s.from s.old_name s.to s.new_name s.old_ends s.new_ends)) (stay-exact t s.from s.old_name s.to s.new_name s.moved s.source s.there s.at s.same))
 ]
 
-change-exact : (limit : ℕ) (t : Tree) (request : Request) (done : Answer × Tree) → IsWellFormed t → change_of limit t request ≡ Ok done → IsExact t (listed t request) done.1
-change-exact limit t (Look base path how) done well e = reads-exact t (look t base path how) done e
-change-exact limit t (Readlink base path) done well e = reads-exact t (readlink t base path) done e
-change-exact limit t (Stat base path) done well e = reads-exact t (stat t base path) done e
-change-exact limit t (List_names base path) done well e = reads-exact t (list_names t base path) done e
-change-exact limit t (Mkdir base path) done well e = make-exact limit t base path true Directory done well e
-change-exact limit t (Create base path) done well e = make-exact limit t base path false Regular done well e
-change-exact limit t (Hard_link base old new) done well e = link-exact t base old new done well e
-change-exact limit t (Symlink base text path) done well e = after (path_or_fault text) _ done e (λ link_path good e. make-exact limit t base path false (Symbolic text) done well e)
-change-exact limit t (Unlink base path) done well e = take-exact t base path done.1 well (unlinks t base path done well e)
-change-exact limit t (Rmdir base path) done well e = take-exact t base path done.1 well (rmdirs t base path done well e)
-change-exact limit t (Rename base old new) done well e = rename-exact t base old new done well e
+change-exact : PartsAreNamesOrDots → (limit : ℕ) (t : Tree) (request : Request) (done : Answer × Tree) → IsWellFormed t → change_of limit t request ≡ Ok done → IsExact t (listed t request) done.1
+change-exact parts limit t (Look base path how) done well e = reads-exact t (look t base path how) done e
+change-exact parts limit t (Readlink base path) done well e = reads-exact t (readlink t base path) done e
+change-exact parts limit t (Stat base path) done well e = reads-exact t (stat t base path) done e
+change-exact parts limit t (List_names base path) done well e = reads-exact t (list_names t base path) done e
+change-exact parts limit t (Mkdir base path) done well e = make-exact parts limit t base path true Directory done well e
+change-exact parts limit t (Create base path) done well e = make-exact parts limit t base path false Regular done well e
+change-exact parts limit t (Hard_link base old new) done well e = link-exact parts t base old new done well e
+change-exact parts limit t (Symlink base text path) done well e = after (path_or_fault text) _ done e (λ link_path good e. make-exact parts limit t base path false (Symbolic text) done well e)
+change-exact parts limit t (Unlink base path) done well e = take-exact t base path done.1 well (unlinks t base path done well e)
+change-exact parts limit t (Rmdir base path) done well e = take-exact t base path done.1 well (rmdirs t base path done well e)
+change-exact parts limit t (Rename base old new) done well e = rename-exact parts t base old new done well e
 
 settled-exact : (t : Tree) (keys : List Key) (change : Change) → ((done : Answer × Tree) → change ≡ Ok done → IsExact t keys done.1) → IsExact t (unless_refused change keys) (settled t change).1
 settled-exact t keys (Ok done) so = so done refl
-settled-exact t keys (Err number) so = unaltered t
+settled-exact t keys (Err refusal) so = unaltered t
 
-pub calls-exact : (limit : ℕ) (t : Tree) (request : Request) → IsWellFormed t → IsExact t (keys_touched limit t request) (tree_after limit t request)
-calls-exact limit t request well = settled-exact t (listed t request) (change_of limit t request) (λ done. change-exact limit t request done well)
+pub calls-exact : PartsAreNamesOrDots → (limit : ℕ) (t : Tree) (request : Request) → IsWellFormed t → IsExact t (keys_touched limit t request) (tree_after limit t request)
+calls-exact parts limit t request well = settled-exact t (listed t request) (change_of limit t request) (λ done. change-exact parts limit t request done well)
 
 contained : (key : Key) (keys : List Key) → IsAmong key keys → Contains keys key
 contained key [] never = absurd never
@@ -136,9 +138,15 @@ among key [] i within is = absurd (omega arith)
 among key (k ∷ keys) zero within is = inl (sym is)
 among key (k ∷ keys) (suc i) within is = inr (among key keys i (omega arith) is)
 
-pub touches-listed : TouchesTheListed
-touches-listed limit t request well key =
-    let exact = calls-exact limit t request well in (
+pub touches-listed : PartsAreNamesOrDots → TouchesTheListed
+touches-listed parts limit t request well key =
+    let exact = calls-exact parts limit t request well in (
       λ differs. elim (exact.0 key) [ inl is ↦ contained key (keys_touched limit t request) is | inr same ↦ absurd (differs same) ],
       λ contains. exact.1 key (among key (keys_touched limit t request) contains.0 contains.1 contains.2),
     )
+
+pub others-stay : PartsAreNamesOrDots → OthersStay
+others-stay parts limit t request well key = let exact = calls-exact parts limit t request well in elim (exact.0 key) [
+  | inl is ↦ inl (contained key (keys_touched limit t request) is)
+  | inr same ↦ inr same
+]

@@ -24,41 +24,41 @@ some_counted spot n (x ∷ xs) found =
 
 -- the one entry that leads to n is that of the spot
 only_holder : (spot : Spot) (n : ℕ) (es : List (Spot × ℕ)) → lookup spot_cmp spot es ≡ Some n → how_many (λ (e : Spot × ℕ). e.1 == n) es ≡ 1
-    → option_map (λ (e : Spot × ℕ). e.0.directory) (find (λ (e : Spot × ℕ). e.1 == n) es) ≡ Some spot.directory
+    → option_map (λ (e : Spot × ℕ). e.0.dir) (find (λ (e : Spot × ℕ). e.1 == n) es) ≡ Some spot.dir
 only_holder spot n [] found one = cc
 only_holder spot n (x ∷ xs) found one =
     elim (eq_by_cmp spot_cmp spot x.0) as (λ b. eq_by_cmp spot_cmp spot x.0 ≡ b → cond b (Some x.1) (lookup spot_cmp spot xs) ≡ Some n
-    → option_map (λ (e : Spot × ℕ). e.0.directory) (cond (x.1 == n) (Some x) (find (λ (e : Spot × ℕ). e.1 == n) xs)) ≡ Some spot.directory) [
+    → option_map (λ (e : Spot × ℕ). e.0.dir) (cond (x.1 == n) (Some x) (find (λ (e : Spot × ℕ). e.1 == n) xs)) ≡ Some spot.dir) [
       | true ↦ λ is here.
           let same : x.1 ≡ n = cc in
           let passes : (x.1 == n) ≡ true = rw same (same_test n) in
-          rw passes (ap (λ (s : Spot). Some s.directory) (sym (same_spot spot x.0 is)))
+          rw passes (ap (λ (s : Spot). Some s.dir) (sym (same_spot spot x.0 is)))
       | false ↦ λ is here.
           let some = some_counted spot n xs here in
-          elim (x.1 == n) as (λ b. cond b 1 0 + how_many (λ (e : Spot × ℕ). e.1 == n) xs ≡ 1 → option_map (λ (e : Spot × ℕ). e.0.directory) (cond b (Some x) (find (λ (e : Spot × ℕ). e.1 == n) xs)) ≡ Some spot.directory) [
+          elim (x.1 == n) as (λ b. cond b 1 0 + how_many (λ (e : Spot × ℕ). e.1 == n) xs ≡ 1 → option_map (λ (e : Spot × ℕ). e.0.dir) (cond b (Some x) (find (λ (e : Spot × ℕ). e.1 == n) xs)) ≡ Some spot.dir) [
             | true ↦ λ two. absurd (omega arith)
             | false ↦ λ same. only_holder spot n xs here (omega arith)
           ] one
     ] refl found
 
-pub holder_is : (t : Tree) (d : ℕ) (name : List ℕ) (n : ℕ) → entry_number t (record { directory = d; name = name }) ≡ Some n → names_of t n ≡ 1 → holder_of t n ≡ Some d
-holder_is t d name n leads one = only_holder (record { directory = d; name = name }) n t.entries leads one
+pub holder_is : (t : Tree) (d : ℕ) (name : List ℕ) (n : ℕ) → entry_number t (record { dir = d; name = name }) ≡ Some n → names_of t n ≡ 1 → holder_of t n ≡ Some d
+holder_is t d name n leads one = only_holder (record { dir = d; name = name }) n t.entries leads one
 
 module _ (t : Tree) (from : ℕ) (old : List ℕ) (to : ℕ) (new : List ℕ) (n : ℕ) (inode : Inode) (ready : IsReady t from old to new n) (lives : inode_of t n ≡ Some inode) (other_root : n ≢ 1) where
-  target_moved : (q : ℕ) (other : List ℕ) → entry_number (moved_to t from old to new n) (record { directory = q; name = other })
-      ≡ cond (eq_by_cmp spot_cmp (record { directory = q; name = other }) (record { directory = to; name = new })) (Some n)
-      (cond (not (eq_by_cmp spot_cmp (record { directory = from; name = old }) (record { directory = q; name = other }))) (entry_number t (record { directory = q; name = other })) None)
+  target_moved : (q : ℕ) (other : List ℕ) → entry_number (moved_to t from old to new n) (record { dir = q; name = other })
+      ≡ cond (eq_by_cmp spot_cmp (record { dir = q; name = other }) (record { dir = to; name = new })) (Some n)
+      (cond (not (eq_by_cmp spot_cmp (record { dir = from; name = old }) (record { dir = q; name = other }))) (entry_number t (record { dir = q; name = other })) None)
   target_moved q other =
-      find-put spot_cmp spots_total (record { directory = q; name = other }) (record { directory = to; name = new }) n (without_spot (record { directory = from; name = old }) t.entries)
-      ∙ ap (λ o. cond (eq_by_cmp spot_cmp (record { directory = q; name = other }) (record { directory = to; name = new })) (Some n) o)
-      (lookup-take spot_cmp spots_total (record { directory = from; name = old }) (record { directory = q; name = other }) t.entries)
+      find-put spot_cmp spots_total (record { dir = q; name = other }) (record { dir = to; name = new }) n (without_spot (record { dir = from; name = old }) t.entries)
+      ∙ ap (λ o. cond (eq_by_cmp spot_cmp (record { dir = q; name = other }) (record { dir = to; name = new })) (Some n) o)
+      (lookup-take spot_cmp spots_total (record { dir = from; name = old }) (record { dir = q; name = other }) t.entries)
 
   -- the two names are apart
-  names_apart : eq_by_cmp spot_cmp (record { directory = from; name = old }) (record { directory = to; name = new }) ≡ false
-  names_apart = elim (decide (eq_by_cmp spot_cmp (record { directory = from; name = old }) (record { directory = to; name = new }))) [
+  names_apart : eq_by_cmp spot_cmp (record { dir = from; name = old }) (record { dir = to; name = new }) ≡ false
+  names_apart = elim (decide (eq_by_cmp spot_cmp (record { dir = from; name = old }) (record { dir = to; name = new }))) [
     | inr e ↦ e
     | inl e ↦
-        let both : Some n ≡ None = sym ready.source ∙ ap (entry_number t) (same_spot (record { directory = from; name = old }) (record { directory = to; name = new }) e) ∙ ready.free in
+        let both : Some n ≡ None = sym ready.source ∙ ap (entry_number t) (same_spot (record { dir = from; name = old }) (record { dir = to; name = new }) e) ∙ ready.free in
         absurd cc
   ]
 
@@ -87,9 +87,9 @@ module _ (t : Tree) (from : ℕ) (old : List ℕ) (to : ℕ) (new : List ℕ) (n
     where
       by_label : (label : Label) (q : ℕ) → IsAmong (record { number = q; label = label }) (entry_key from old ∷ entry_key to new ∷ keys_moved t from to n)
           ⊎ (fact_at (moved_to t from old to new n) (record { number = q; label = label }) ≡ fact_at t (record { number = q; label = label }))
-      by_label (Entry other) q = elim (decide (eq_by_cmp spot_cmp (record { directory = from; name = old }) (record { directory = q; name = other }))) [
+      by_label (Entry other) q = elim (decide (eq_by_cmp spot_cmp (record { dir = from; name = old }) (record { dir = q; name = other }))) [
         | inl e ↦ inl (inl (sym (same_key q from other old e)))
-        | inr e ↦ elim (decide (eq_by_cmp spot_cmp (record { directory = q; name = other }) (record { directory = to; name = new }))) [
+        | inr e ↦ elim (decide (eq_by_cmp spot_cmp (record { dir = q; name = other }) (record { dir = to; name = new }))) [
           | inl e' ↦ inl (inr (inl (same_key to q new other e')))
           | inr e' ↦ inr (ap (λ f. (f, None)) (entry-same t (moved_to t from old to new n) q other (target_moved q other ∙ rw (e', e) refl) (λ k is. refl)))
         ]

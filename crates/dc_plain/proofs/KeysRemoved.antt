@@ -19,7 +19,7 @@ use Rattle.dc_plain.proofs.Keys.{target_lives}
 use Rattle.dc_plain.proofs.SameFacts.{IsAmong, KeepsOthers, AltersEach, decide, same_key, target-same, text-same, entry-same, parent-same, no_parent, parent-fact, entry-fact, no_entry, tied, entries-differ, texts-differ}
 
 -- with its last name an inode goes, and else it stays
-pub inode-after : (t : Tree) (d : ℕ) (name : List ℕ) (n : ℕ) → IsWellFormed t → entry_number t (record { directory = d; name = name }) ≡ Some n → IsUnentered t n → (q : ℕ)
+pub inode-after : (t : Tree) (d : ℕ) (name : List ℕ) (n : ℕ) → IsWellFormed t → entry_number t (record { dir = d; name = name }) ≡ Some n → IsUnentered t n → (q : ℕ)
     → inode_of (without_entry t d name n) q ≡ cond (names_of t n == 1) (cond (n == q) None (inode_of t q)) (inode_of t q)
 inode-after t d name n well leads unentered q =
     let less = one_less t d name n well leads unentered t.inodes in
@@ -37,12 +37,12 @@ fewer true true o i e = cc
 fewer true false o i e = e
 fewer false c o i e = e
 
-module _ (t : Tree) (d : ℕ) (name : List ℕ) (n : ℕ) (inode : Inode) (well : IsWellFormed t) (leads : entry_number t (record { directory = d; name = name }) ≡ Some n) (unentered : IsUnentered t n) (lives : inode_of t n ≡ Some inode) where
-  target_left : (q : ℕ) (other : List ℕ) → entry_number (without_entry t d name n) (record { directory = q; name = other })
-      ≡ cond (not (eq_by_cmp spot_cmp (record { directory = d; name = name }) (record { directory = q; name = other }))) (entry_number t (record { directory = q; name = other })) None
+module _ (t : Tree) (d : ℕ) (name : List ℕ) (n : ℕ) (inode : Inode) (well : IsWellFormed t) (leads : entry_number t (record { dir = d; name = name }) ≡ Some n) (unentered : IsUnentered t n) (lives : inode_of t n ≡ Some inode) where
+  target_left : (q : ℕ) (other : List ℕ) → entry_number (without_entry t d name n) (record { dir = q; name = other })
+      ≡ cond (not (eq_by_cmp spot_cmp (record { dir = d; name = name }) (record { dir = q; name = other }))) (entry_number t (record { dir = q; name = other })) None
   target_left q other =
-      let taken = lookup-take spot_cmp spots_total (record { directory = d; name = name }) (record { directory = q; name = other }) t.entries in
-      either_left (λ u. entry_number u (record { directory = q; name = other }) ≡ cond (not (eq_by_cmp spot_cmp (record { directory = d; name = name }) (record { directory = q; name = other }))) (entry_number t (record { directory = q; name = other })) None) t d name n taken taken
+      let taken = lookup-take spot_cmp spots_total (record { dir = d; name = name }) (record { dir = q; name = other }) t.entries in
+      either_left (λ u. entry_number u (record { dir = q; name = other }) ≡ cond (not (eq_by_cmp spot_cmp (record { dir = d; name = name }) (record { dir = q; name = other }))) (entry_number t (record { dir = q; name = other })) None) t d name n taken taken
 
   holder_kept : (q : ℕ) → n ≢ q → holder_of (without_entry t d name n) q ≡ holder_of t q
   holder_kept q other = either_left (λ u. holder_of u q ≡ holder_of t q) t d name n (holder_left t d name n well leads unentered (without_number n t.inodes) q other) (holder_left t d name n well leads unentered t.inodes q other)
@@ -53,17 +53,17 @@ module _ (t : Tree) (d : ℕ) (name : List ℕ) (n : ℕ) (inode : Inode) (well 
       let i = some_in (inode_of (without_entry t d name n) k) live in
       target-same t (without_entry t d name n) k (i.1 ∙ sym (fewer (names_of t n == 1) (n == k) (inode_of t k) i.0 (sym (inode-after t d name n well leads unentered k) ∙ i.1)))
 
-  entry_kept : (q : ℕ) (other : List ℕ) → eq_by_cmp spot_cmp (record { directory = d; name = name }) (record { directory = q; name = other }) ≡ false → entry_of (without_entry t d name n) q (Entry other) ≡ entry_of t q (Entry other)
+  entry_kept : (q : ℕ) (other : List ℕ) → eq_by_cmp spot_cmp (record { dir = d; name = name }) (record { dir = q; name = other }) ≡ false → entry_of (without_entry t d name n) q (Entry other) ≡ entry_of t q (Entry other)
   entry_kept q other apart =
-      let same = target_left q other ∙ ap (λ b. cond (not b) (entry_number t (record { directory = q; name = other })) None) apart in
+      let same = target_left q other ∙ ap (λ b. cond (not b) (entry_number t (record { dir = q; name = other })) None) apart in
       entry-same t (without_entry t d name n) q other same
-      (λ k e. place_kept k (target_lives (without_entry t d name n) (without_entry-IsWellFormed t d name n well leads unentered) (record { directory = q; name = other }) k (same ∙ e)))
+      (λ k e. place_kept k (target_lives (without_entry t d name n) (without_entry-IsWellFormed t d name n well leads unentered) (record { dir = q; name = other }) k (same ∙ e)))
 
   parent_kept : (q : ℕ) → n ≢ q → entry_of (without_entry t d name n) q Parent ≡ entry_of t q Parent
   parent_kept q other = parent-same t (without_entry t d name n) q (inode-left t d name n q other) (λ live. holder_kept q other)
       (λ up e. target-same t (without_entry t d name n) up (inode-left t d name n up (not_holder t d name n well leads unentered t.inodes q up e)))
 
-  gone_is : names_of t n ≡ 1 → keys_gone t n ≡ own_keys n inode
+  gone_is : names_of t n ≡ 1 → keys_gone t n ≡ own_keys n (kind_of inode)
   gone_is one = ap (λ (k : ℕ). if k == 1 then keys_at n (inode_of t n) else []) one ∙ ap (keys_at n) lives
 
   single : inode ≡ Directory → names_of t n ≡ 1
@@ -86,14 +86,14 @@ module _ (t : Tree) (d : ℕ) (name : List ℕ) (n : ℕ) (inode : Inode) (well 
       by_tests false c = e
 
   own_parent : (i : Inode) → inode ≡ i → IsAmong (record { number = n; label = Parent }) (keys_gone t n) ⊎ (entry_of (without_entry t d name n) n Parent ≡ entry_of t n Parent)
-  own_parent Directory is = inl (subst (IsAmong (record { number = n; label = Parent })) (sym (gone_is (single is) ∙ ap (own_keys n) is)) (inl refl))
+  own_parent Directory is = inl (subst (IsAmong (record { number = n; label = Parent })) (sym (gone_is (single is) ∙ ap (λ i. own_keys n (kind_of i)) is)) (inl refl))
   own_parent Regular is = let dead : is_live_directory t n ≡ false = ap is_directory_inode (lives ∙ ap Some is) in inr (no_parent (without_entry t d name n) n (not_live n dead) ∙ sym (no_parent t n dead))
   own_parent (Symbolic text) is = let dead : is_live_directory t n ≡ false = ap is_directory_inode (lives ∙ ap Some is) in inr (no_parent (without_entry t d name n) n (not_live n dead) ∙ sym (no_parent t n dead))
 
   own_text : (i : Inode) → inode ≡ i → (names_of t n == 1) ≡ true → IsAmong (record { number = n; label = Text }) (keys_gone t n) ⊎ (text_of (without_entry t d name n) n ≡ text_of t n)
   own_text Directory is one = let none : text_of t n ≡ None = ap (option_and_then text_in) (lives ∙ ap Some is) in inr (no_text n none ∙ sym none)
   own_text Regular is one = let none : text_of t n ≡ None = ap (option_and_then text_in) (lives ∙ ap Some is) in inr (no_text n none ∙ sym none)
-  own_text (Symbolic text) is one = inl (subst (IsAmong (record { number = n; label = Text })) (sym (gone_is (decided (names_of t n) 1 one) ∙ ap (own_keys n) is)) (inl refl))
+  own_text (Symbolic text) is one = inl (subst (IsAmong (record { number = n; label = Text })) (sym (gone_is (decided (names_of t n) 1 one) ∙ ap (λ i. own_keys n (kind_of i)) is)) (inl refl))
 
   text_there : IsAmong (record { number = n; label = Text }) (keys_gone t n) ⊎ (text_of (without_entry t d name n) n ≡ text_of t n)
   text_there = elim (decide (names_of t n == 1)) [
@@ -106,7 +106,7 @@ module _ (t : Tree) (d : ℕ) (name : List ℕ) (n : ℕ) (inode : Inode) (well 
     where
       by_label : (label : Label) (q : ℕ) → IsAmong (record { number = q; label = label }) (entry_key d name ∷ keys_gone t n)
           ⊎ (fact_at (without_entry t d name n) (record { number = q; label = label }) ≡ fact_at t (record { number = q; label = label }))
-      by_label (Entry other) q = elim (decide (eq_by_cmp spot_cmp (record { directory = d; name = name }) (record { directory = q; name = other }))) [
+      by_label (Entry other) q = elim (decide (eq_by_cmp spot_cmp (record { dir = d; name = name }) (record { dir = q; name = other }))) [
         | inl e ↦ inl (inl (sym (same_key q d other name e)))
         | inr e ↦ inr (ap (λ f. (f, None)) (entry_kept q other e))
       ]
@@ -130,7 +130,7 @@ module _ (t : Tree) (d : ℕ) (name : List ℕ) (n : ℕ) (inode : Inode) (well 
   pub gone-each : (u : Tree) → inode_of u n ≡ inode_of (without_entry t d name n) n → (key : Key) → IsAmong key (keys_gone t n) → fact_at u key ≢ fact_at t key
   gone-each u same_inode key among = by_count (names_of t n == 1) refl among
     where
-      by_inode : (i : Inode) → inode ≡ i → (names_of t n == 1) ≡ true → IsAmong key (own_keys n i) → fact_at u key ≢ fact_at t key
+      by_inode : (i : Inode) → inode ≡ i → (names_of t n == 1) ≡ true → IsAmong key (own_keys n (kind_of i)) → fact_at u key ≢ fact_at t key
       by_inode Directory is one (inl at) =
           let up = held_by t n (single is) in
           let live : IsTrue (is_live_directory t n) = ap is_directory_inode (lives ∙ ap Some is) in

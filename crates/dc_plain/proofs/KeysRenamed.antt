@@ -25,7 +25,7 @@ among_back : (key : Key) (xs ys : List Key) → IsAmong key ys → IsAmong key (
 among_back key [] ys among = among
 among_back key (x ∷ xs) ys among = inr (among_back key xs ys among)
 
-among_either : (key : Key) (xs ys : List Key) → IsAmong key (xs ++ ys) → IsAmong key xs ⊎ IsAmong key ys
+pub among_either : (key : Key) (xs ys : List Key) → IsAmong key (xs ++ ys) → IsAmong key xs ⊎ IsAmong key ys
 among_either key [] ys among = inr among
 among_either key (x ∷ xs) ys (inl is) = inl (inl is)
 among_either key (x ∷ xs) ys (inr later) = elim (among_either key xs ys later) [ inl a ↦ inl (inr a) | inr a ↦ inr a ]
@@ -34,19 +34,19 @@ among_either key (x ∷ xs) ys (inr later) = elim (among_either key xs ys later)
 abbrev by_targets : Tree → ℕ → List ℕ → ℕ → List ℕ → Option ℕ → Option ℕ → List Key
 by_targets t from old to new a b = if lead_to_one a b then [] else entry_key from old ∷ entry_key to new ∷ with_number a (keys_moved t from to) ++ with_number b (keys_gone t)
 
-pub renamed_keys : (t : Tree) (from : ℕ) (old : List ℕ) (to : ℕ) (new : List ℕ) (n : ℕ) (there : Option ℕ) → entry_number t (record { directory = from; name = old }) ≡ Some n
-    → entry_number t (record { directory = to; name = new }) ≡ there → lead_to_one (Some n) there ≡ false → keys_renamed t from old to new ≡ entry_key from old ∷ entry_key to new ∷ keys_moved t from to n ++ with_number there (keys_gone t)
+pub renamed_keys : (t : Tree) (from : ℕ) (old : List ℕ) (to : ℕ) (new : List ℕ) (n : ℕ) (there : Option ℕ) → entry_number t (record { dir = from; name = old }) ≡ Some n
+    → entry_number t (record { dir = to; name = new }) ≡ there → lead_to_one (Some n) there ≡ false → keys_renamed t from old to new ≡ entry_key from old ∷ entry_key to new ∷ keys_moved t from to n ++ with_number there (keys_gone t)
 renamed_keys t from old to new n there source at apart = (λ i. by_targets t from old to new (source i) (at i)) ∙ rw apart refl
 
 -- where both lead to one inode
-pub unmoved_keys : (t : Tree) (from : ℕ) (old : List ℕ) (to : ℕ) (new : List ℕ) (n m : ℕ) → entry_number t (record { directory = from; name = old }) ≡ Some n → entry_number t (record { directory = to; name = new }) ≡ Some m → (n == m) ≡ true
+pub unmoved_keys : (t : Tree) (from : ℕ) (old : List ℕ) (to : ℕ) (new : List ℕ) (n m : ℕ) → entry_number t (record { dir = from; name = old }) ≡ Some n → entry_number t (record { dir = to; name = new }) ≡ Some m → (n == m) ≡ true
     → keys_renamed t from old to new ≡ []
 unmoved_keys t from old to new n m source at same = (λ i. by_targets t from old to new (source i) (at i)) ∙ rw same refl
 
-module _ (t : Tree) (from : ℕ) (old : List ℕ) (to : ℕ) (new : List ℕ) (n : ℕ) (inode : Inode) (well : IsWellFormed t) (source : entry_number t (record { directory = from; name = old }) ≡ Some n) (lives : inode_of t n ≡ Some inode) where
+module _ (t : Tree) (from : ℕ) (old : List ℕ) (to : ℕ) (new : List ℕ) (n : ℕ) (inode : Inode) (well : IsWellFormed t) (source : entry_number t (record { dir = from; name = old }) ≡ Some n) (lives : inode_of t n ≡ Some inode) where
   pub not_root : n ≢ 1
   not_root same =
-      let some = some_counted (record { directory = from; name = old }) n t.entries source in
+      let some = some_counted (record { dir = from; name = old }) n t.entries source in
       let none : names_of t n ≡ 0 = ap (names_of t) same ∙ well.no_entry_leads_to_root in
       absurd (omega arith)
 
@@ -64,7 +64,7 @@ module _ (t : Tree) (from : ℕ) (old : List ℕ) (to : ℕ) (new : List ℕ) (n
   ]
 
   -- m gives way there
-  pub over-others : (m : ℕ) (gone : Inode) → entry_number t (record { directory = to; name = new }) ≡ Some m → IsUnentered t m → inode_of t m ≡ Some gone → m ≢ n → IsReady (without_entry t to new m) from old to new n
+  pub over-others : (m : ℕ) (gone : Inode) → entry_number t (record { dir = to; name = new }) ≡ Some m → IsUnentered t m → inode_of t m ≡ Some gone → m ≢ n → IsReady (without_entry t to new m) from old to new n
       → KeepsOthers t (moved_to (without_entry t to new m) from old to new n) (entry_key from old ∷ entry_key to new ∷ keys_moved t from to n ++ keys_gone t m)
   over-others m gone at unentered gone_lives apart ready key =
       elim (removed-others t to new m gone well at unentered gone_lives key) [

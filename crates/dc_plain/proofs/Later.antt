@@ -1,5 +1,7 @@
 -- An outcome stays where more is told.
 use Rattle.std.proofs.Common.{◌≡◌, ℕ, zero, suc, List, [], ◌∷◌, ◌++◌, ◌-◌, ◌==◌, ◌&&◌, ◌||◌, not, Bool, true, false, cond, Option, Some, None, refl, option_map, if◌then◌else◌, length, take, slice_get}
+use Rattle.dc_names.specs.declared.refusal.Refusal.TheVariants.{TooManyLinks}
+use Rattle.dc_plain.specs.declared.TheConstants.{MOST_LINKS}
 use Rattle.dc_names.specs.Bytes.{is_empty}
 use Rattle.dc_names.specs.Paths.{Part, Path, path_in}
 use Rattle.dc_names.specs.declared.kind.Kind.TheVariants.{Dir}
@@ -10,7 +12,7 @@ use Rattle.dc_plain.specs.Facts.Label.{Parent}
 use Rattle.dc_plain.specs.Resolution.{Outcome, Met, root, at_part, with_met, with_text, over_parts, resolve, keeps_link}
 use Rattle.dc_plain.specs.Resolution.Outcome.{Found, Refused}
 use Rattle.dc_plain.specs.Resolution.Met.{Goes, Stops, Meets}
-use Rattle.dc_plain.specs.Places.{start, with_start, walk, front_of, link_limit, place, placed_by}
+use Rattle.dc_plain.specs.Places.{start, with_start, walk, front_of, place, placed_by}
 use Rattle.dc_plain.specs.Tellers.{Extends}
 use Rattle.dc_plain.proofs.Extensions.{at_part-later}
 
@@ -44,7 +46,7 @@ text-stays (Some text) now go go' told goes o e = rw (told text refl) (goes text
 pub resolve-stays : (a b : Teller) → Extends a b → (how : Follow) (links : ℕ) (from : Target) (parts : List Part) (slash : Bool) → Stays (resolve a how links from parts slash) (resolve b how links from parts slash)
 unfolding resolve
 resolve-stays a b more how zero from parts slash =
-    over-stays a b more how (λ p link rest slash. Some (Refused 40)) (λ p link rest slash. Some (Refused 40)) (λ p link rest slash o e. e) parts from slash
+    over-stays a b more how (λ p link rest slash. Some (Refused TooManyLinks)) (λ p link rest slash. Some (Refused TooManyLinks)) (λ p link rest slash o e. e) parts from slash
 resolve-stays a b more how (suc left) from parts slash =
     over-stays a b more how (λ p link rest slash. with_text (a.text link) (λ text.
     resolve a how left (if (path_in text).absolute then root else p) ((path_in text).parts ++ rest) (slash || is_empty rest && (path_in text).slash)))
@@ -73,11 +75,11 @@ from-start (Some None) now go go' told goes o e = rw (told None refl) e
 from-start (Some (Some p)) now go go' told goes o e = rw (told (Some p) refl) (goes p o e)
 
 pub walk-stays : (a b : Teller) → Extends a b → (base : ℕ) (path : Path) (how : Follow) → Stays (walk a base path how) (walk b base path how)
-walk-stays a b more base path how = from-start (start a base path) (start b base path) _ _ (start-stays a b more base path) (λ p. resolve-stays a b more how link_limit p path.parts path.slash)
+walk-stays a b more base path how = from-start (start a base path) (start b base path) _ _ (start-stays a b more base path) (λ p. resolve-stays a b more how MOST_LINKS p path.parts path.slash)
 
 pub front-stays : (a b : Teller) → Extends a b → (base : ℕ) (path : Path) → Stays (front_of a base path) (front_of b base path)
 front-stays a b more base path =
-    from-start (start a base path) (start b base path) _ _ (start-stays a b more base path) (λ p. resolve-stays a b more follow.Dir link_limit p (take (length path.parts - 1) path.parts) false)
+    from-start (start a base path) (start b base path) _ _ (start-stays a b more base path) (λ p. resolve-stays a b more follow.Dir MOST_LINKS p (take (length path.parts - 1) path.parts) false)
 
 placed-stays : (last : Option Part) (slash : Bool) (before now : Option Outcome) → Stays before now → Stays (placed_by last slash before) (placed_by last slash now)
 placed-stays None slash before now so x e = e

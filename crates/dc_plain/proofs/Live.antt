@@ -1,5 +1,6 @@
 -- Where a path leads, an inode lives.
 use Rattle.std.proofs.Common.{◌≡◌, ℕ, zero, suc, List, [], ◌∷◌, ◌++◌, ◌==◌, ◌&&◌, ◌||◌, not, Bool, true, false, cond, Option, Some, None, refl, ap, sym, ◌∙◌, option_map, option_and_then, subst, if◌then◌else◌}
+use Rattle.dc_names.specs.declared.refusal.Refusal.TheVariants.{NotFound, NotDirectory, TooManyLinks}
 use Rattle.dc_names.specs.Bytes.{is_empty}
 use Rattle.dc_names.specs.Paths.{Part, path_in}
 use Rattle.dc_names.specs.Paths.Part.{Name, Dot, DotDot}
@@ -29,7 +30,7 @@ by_target t None q e = cc
 by_target t (Some n) q e = at_own t n q e
 
 entry_stands : (t : Tree) → inode_of t 1 ≡ Some Directory → (d : ℕ) (label : Label) (q : Target) → entry_of t d label ≡ Some q → Stands_at t q
-entry_stands t is_root d (Entry name) q e = by_target t (entry_number t (record { directory = d; name = name })) q e
+entry_stands t is_root d (Entry name) q e = by_target t (entry_number t (record { dir = d; name = name })) q e
 entry_stands t is_root d Text q e = cc
 entry_stands t is_root d Parent q e =
     elim (is_live_directory t d) as (λ b. cond (not b) None (cond (d == 1) (Some root) (option_and_then (target_at t) (holder_of t d))) ≡ Some q → Stands_at t q) [
@@ -47,7 +48,7 @@ Met_stands t (Stops n) = Unit {0}
 Met_stands t (Meets q) = Stands_at t q
 
 met_by_stands : (t : Tree) (o : Option Target) (met : Met) → ((q : Target) → o ≡ Some q → Stands_at t q) → met_by (Some o) ≡ Some met → Met_stands t met
-met_by_stands t None met so e = let same : Stops 2 ≡ met = cc in subst (Met_stands t) same tt
+met_by_stands t None met so e = let same : Stops NotFound ≡ met = cc in subst (Met_stands t) same tt
 met_by_stands t (Some q) met so e =
     elim (is_link q) as (λ b. Some (if b then Meets q else Goes q) ≡ Some met → Met_stands t met) [
       | true ↦ λ is. let same : Meets q ≡ met = cc in subst (Met_stands t) same (so q refl)
@@ -57,22 +58,22 @@ met_by_stands t (Some q) met so e =
 goes_there : (t : Tree) (place : Target) (met : Met) → Stands_at t place → Some (Goes place) ≡ Some met → Met_stands t met
 goes_there t place met stands e = let same : Goes place ≡ met = cc in subst (Met_stands t) same stands
 
-stops_there : (t : Tree) (met : Met) → Some (Stops 20) ≡ Some met → Met_stands t met
-stops_there t met e = let same : Stops 20 ≡ met = cc in subst (Met_stands t) same tt
+stops_there : (t : Tree) (met : Met) → Some (Stops NotDirectory) ≡ Some met → Met_stands t met
+stops_there t met e = let same : Stops NotDirectory ≡ met = cc in subst (Met_stands t) same tt
 
 met_stands : (t : Tree) → inode_of t 1 ≡ Some Directory → (place : Target) → Stands_at t place → (part : Part) (met : Met) → at_part (told_of t) place part ≡ Some met → Met_stands t met
 met_stands t is_root place stands Dot met e =
-    elim (is_directory place) as (λ b. cond (not b) (Some (Stops 20)) (Some (Goes place)) ≡ Some met → Met_stands t met) [
+    elim (is_directory place) as (λ b. cond (not b) (Some (Stops NotDirectory)) (Some (Goes place)) ≡ Some met → Met_stands t met) [
       | false ↦ stops_there t met
       | true ↦ goes_there t place met stands
     ] e
 met_stands t is_root place stands (Name name) met e =
-    elim (is_directory place) as (λ b. cond (not b) (Some (Stops 20)) (met_by (Some (entry_of t place.0 (Entry name)))) ≡ Some met → Met_stands t met) [
+    elim (is_directory place) as (λ b. cond (not b) (Some (Stops NotDirectory)) (met_by (Some (entry_of t place.0 (Entry name)))) ≡ Some met → Met_stands t met) [
       | false ↦ stops_there t met
       | true ↦ met_by_stands t (entry_of t place.0 (Entry name)) met (entry_stands t is_root place.0 (Entry name))
     ] e
 met_stands t is_root place stands DotDot met e =
-    elim (is_directory place) as (λ b. cond (not b) (Some (Stops 20)) (cond (place.0 == 1) (Some (Goes place)) (met_by (Some (entry_of t place.0 Parent)))) ≡ Some met → Met_stands t met) [
+    elim (is_directory place) as (λ b. cond (not b) (Some (Stops NotDirectory)) (cond (place.0 == 1) (Some (Goes place)) (met_by (Some (entry_of t place.0 Parent)))) ≡ Some met → Met_stands t met) [
       | false ↦ stops_there t met
       | true ↦ elim (place.0 == 1) as (λ b. cond b (Some (Goes place)) (met_by (Some (entry_of t place.0 Parent))) ≡ Some met → Met_stands t met) [
         | true ↦ goes_there t place met stands
@@ -97,7 +98,7 @@ and_last false b e = cc
 ends_at : (t : Tree) (how : Follow) (place : Target) (slash : Bool) (q : Target) → Stands_at t place → Some (ending how place slash) ≡ Some (Found q) → Ends t how q
 ends_at t how place slash q stands e =
     elim ((slash || wants_directory how) && not (is_directory place)) as (λ b. ((slash || wants_directory how) && not (is_directory place)) ≡ b
-    → Some (if b then Refused 20 else Found place) ≡ Some (Found q) → Ends t how q) [
+    → Some (if b then Refused NotDirectory else Found place) ≡ Some (Found q) → Ends t how q) [
       | true ↦ λ test is. absurd cc
       | false ↦ λ test is. let same : place ≡ q = cc in
           subst (Ends t how) same (stands, λ wanted. wanted_is slash (wants_directory how) (is_directory place) test wanted)
@@ -148,7 +149,7 @@ pub resolve_stands : (t : Tree) → inode_of t 1 ≡ Some Directory → (how : F
     → Stands_at t place → resolve (told_of t) how links place parts slash ≡ Some (Found q) → Ends t how q
 unfolding resolve
 resolve_stands t is_root how zero place parts slash q stands e =
-    over_stands t is_root how (λ place link rest slash. Some (Refused 40)) (λ p l r s k st is. absurd cc) parts place slash q stands e
+    over_stands t is_root how (λ place link rest slash. Some (Refused TooManyLinks)) (λ p l r s k st is. absurd cc) parts place slash q stands e
 resolve_stands t is_root how (suc left) place parts slash q stands e =
     over_stands t is_root how (λ place link rest slash. with_text (text_of t link) (λ text.
     resolve (told_of t) how left (if (path_in text).absolute then root else place) ((path_in text).parts ++ rest) (slash || is_empty rest && (path_in text).slash)))

@@ -1,6 +1,7 @@
 -- A tree with a new inode stays well formed.
 use Rattle.std.proofs.Common.{◌≡◌, ◌≢◌, ℕ, suc, ◌≤◌, ◌<◌, ◌==◌, ◌||◌, ◌^◌, List, [], ◌∷◌, Bool, true, false, cond, Option, Some, None, is_some, is_ok, IsTrue, T, refl, ap, sym, ◌∙◌, arith, length, option_map, option_and_then, subst}
 use Rattle.std.specs.declared.cmp.Ordering.{Ordering}
+use Rattle.dc_plain.specs.declared.TheConstants.{MOST_NAMES}
 use Rattle.dc_plain.specs.Facts.Label.{Entry}
 use Rattle.std.specs.List.{AllByRecursion}
 use Rattle.std.specs.Cmp.{nat_cmp_total, IsTotalOrder}
@@ -20,7 +21,7 @@ use Rattle.dc_plain.proofs.Holders.{other_test, same_test, holder-live, comes_up
 use Rattle.dc_plain.proofs.Puts.{count-put, All-put, find-put_no, find-put_yes, All-weaker, count_none}
 
 pub spots_total : IsTotalOrder spot_cmp
-spots_total = then_total (on_total (λ s. s.directory) nat_cmp_total) (on_total (λ s. s.name) nat_list_cmp_total)
+spots_total = then_total (on_total (λ s. s.dir) nat_cmp_total) (on_total (λ s. s.name) nat_list_cmp_total)
 
 pub same_number : (m n : ℕ) → eq_by_cmp nat_cmp m n ≡ true → m ≡ n
 same_number m n e = grind (arith, nat_tests)
@@ -60,12 +61,12 @@ or_right true b h = refl
 or_right false b h = h
 
 module _ (t : Tree) (d : ℕ) (name : List ℕ) (inode : Inode) (well : IsWellFormed t) (in_directory : IsTrue (is_live_directory t d))
-    (free : entry_number t (record { directory = d; name = name }) ≡ None) where
+    (free : entry_number t (record { dir = d; name = name }) ≡ None) where
   new : Tree
   new = with_new t d name inode
 
   spot : Spot
-  spot = record { directory = d; name = name }
+  spot = record { dir = d; name = name }
 
   below : (n : ℕ) (i : Inode) → inode_of t n ≡ Some i → n < t.next
   below n i e = let lives = well.inodes n i e in lives.made
@@ -93,17 +94,17 @@ module _ (t : Tree) (d : ℕ) (name : List ℕ) (inode : Inode) (well : IsWellFo
   live_kept n h = let i = some_in (inode_of t n) h in rw (kept n i.0 i.1) refl
 
   stands_kept : (e : Spot × ℕ) → Stands t e → Stands (with_new t d name inode) e
-  stands_kept e s = record { named = s.named; held = directory_kept e.0.directory s.held; leads = live_kept e.1 s.leads }
+  stands_kept e s = record { named = s.named; held = directory_kept e.0.dir s.held; leads = live_kept e.1 s.leads }
 
-  names_kept : (n : ℕ) → n ≢ t.next → names_of (with_new t d name inode) n ≡ names_of t n
+  pub names_kept : (n : ℕ) → n ≢ t.next → names_of (with_new t d name inode) n ≡ names_of t n
   names_kept n other =
-      let counted = count-put spot_cmp (record { directory = d; name = name }) t.next (λ e. e.1 == n) t.entries free in
+      let counted = count-put spot_cmp (record { dir = d; name = name }) t.next (λ e. e.1 == n) t.entries free in
       let not_new : (t.next == n) ≡ false = other_test t.next n (λ same. other (sym same)) in
       counted ∙ rw not_new (omega arith)
 
   pub holder_kept : (n : ℕ) → n ≢ t.next → holder_of (with_new t d name inode) n ≡ holder_of t n
   holder_kept n other =
-      ap (option_map (λ e. e.0.directory)) (find-put_no spot_cmp (record { directory = d; name = name }) t.next (λ e. e.1 == n) t.entries free (other_test t.next n (λ same. other (sym same))))
+      ap (option_map (λ e. e.0.dir)) (find-put_no spot_cmp (record { dir = d; name = name }) t.next (λ e. e.1 == n) t.entries free (other_test t.next n (λ same. other (sym same))))
 
   holder_kept_live : (n : ℕ) → IsTrue (is_live_directory t n) → holder_of (with_new t d name inode) n ≡ holder_of t n
   holder_kept_live n live = holder_kept n (apart n Directory (is_directory_in (inode_of t n) live))
@@ -117,7 +118,7 @@ module _ (t : Tree) (d : ℕ) (name : List ℕ) (inode : Inode) (well : IsWellFo
   -- how each inode is reached
   reached_kept : (n : ℕ) (i : Inode) → inode_of t n ≡ Some i → IsReached t n i → IsReached (with_new t d name inode) n i
   reached_kept n Directory e r = (λ other. names_kept n (apart n Directory e) ∙ r.0 other, r.1, up_kept r.1 n (ap is_directory_inode e) r.2)
-  reached_kept n Regular e r = subst (λ k. (1 ≤ k) × (k ≤ 65000)) (sym (names_kept n (apart n Regular e))) r
+  reached_kept n Regular e r = subst (λ k. (1 ≤ k) × (k ≤ MOST_NAMES)) (sym (names_kept n (apart n Regular e))) r
   reached_kept n (Symbolic text) e r = (rw (names_kept n (apart n (Symbolic text) e)) r.0, rw (names_kept n (apart n (Symbolic text) e)) r.1, r.2)
 
   none_leads : names_of t t.next ≡ 0
@@ -125,11 +126,11 @@ module _ (t : Tree) (d : ℕ) (name : List ℕ) (inode : Inode) (well : IsWellFo
 
   pub one_leads : names_of (with_new t d name inode) t.next ≡ 1
   one_leads =
-      let counted = count-put spot_cmp (record { directory = d; name = name }) t.next (λ e. e.1 == t.next) t.entries free in
+      let counted = count-put spot_cmp (record { dir = d; name = name }) t.next (λ e. e.1 == t.next) t.entries free in
       counted ∙ rw (same_test t.next) (omega (arith, none_leads))
 
   pub holder_new : holder_of (with_new t d name inode) t.next ≡ Some d
-  holder_new = ap (option_map (λ e. e.0.directory)) (find-put_yes spot_cmp (record { directory = d; name = name }) t.next (λ e. e.1 == t.next) t.entries free (same_test t.next) none_leads)
+  holder_new = ap (option_map (λ e. e.0.dir)) (find-put_yes spot_cmp (record { dir = d; name = name }) t.next (λ e. e.1 == t.next) t.entries free (same_test t.next) none_leads)
 
   reached_made : (i : Inode) → IsGood i → IsReached (with_new t d name inode) t.next i
   reached_made Directory good =
@@ -151,16 +152,16 @@ module _ (t : Tree) (d : ℕ) (name : List ℕ) (inode : Inode) (well : IsWellFo
   pub made : inode_of (with_new t d name inode) t.next ≡ Some inode
   made = inode_new t.next ∙ rw (itself t.next) refl
 
-  stands_new : IsTrue (is_name name) → Stands (with_new t d name inode) (record { directory = d; name = name }, t.next)
+  stands_new : IsTrue (is_name name) → Stands (with_new t d name inode) (record { dir = d; name = name }, t.next)
   stands_new named = record { named = named; held = directory_kept d in_directory; leads = rw made refl }
 
   pub with_new-IsWellFormed : IsGood inode → IsTrue (is_name name) → t.next < 2 ^ 63 → IsWellFormed (with_new t d name inode)
   with_new-IsWellFormed good named low = record {
-    entries_in_order = from_test _ (is_sorted-put spot_cmp spots_total (record { directory = d; name = name }) t.next t.entries (to_test _ well.entries_in_order));
+    entries_in_order = from_test _ (is_sorted-put spot_cmp spots_total (record { dir = d; name = name }) t.next t.entries (to_test _ well.entries_in_order));
     inodes_in_order = from_test _ (is_sorted-put nat_cmp nat_cmp_total t.next inode t.inodes (to_test _ well.inodes_in_order));
     root_is = kept 1 Directory well.root_is;
     no_entry_leads_to_root = names_kept 1 (apart 1 Directory well.root_is) ∙ well.no_entry_leads_to_root;
-    entries = All-put spot_cmp (record { directory = d; name = name }) t.next (Stands (with_new t d name inode)) t.entries free (stands_new named) (All-weaker (Stands t) (Stands (with_new t d name inode)) stands_kept t.entries well.entries);
+    entries = All-put spot_cmp (record { dir = d; name = name }) t.next (Stands (with_new t d name inode)) t.entries free (stands_new named) (All-weaker (Stands t) (Stands (with_new t d name inode)) stands_kept t.entries well.entries);
     inodes = λ n i e. lives_new good n i (eq_by_cmp nat_cmp n t.next) refl (sym (inode_new n) ∙ e);
     next_is = omega arith;
   }
@@ -177,13 +178,13 @@ All-lookup R P q (x ∷ xs) all v e =
 pub absent : (t : Tree) (n : ℕ) (i : Inode) → inode_of t n ≡ Some i → is_some (target_at t n) ≡ false → ⊥
 absent t n i e none = let there : is_some (target_at t n) ≡ true = rw e refl in cc
 
-pub free_spot : (t : Tree) (d : ℕ) (name : List ℕ) → IsWellFormed t → is_some (entry_of t d (Entry name)) ≡ false → entry_number t (record { directory = d; name = name }) ≡ None
-free_spot t d name well none = by_target (entry_number t (record { directory = d; name = name })) refl none
+pub free_spot : (t : Tree) (d : ℕ) (name : List ℕ) → IsWellFormed t → is_some (entry_of t d (Entry name)) ≡ false → entry_number t (record { dir = d; name = name }) ≡ None
+free_spot t d name well none = by_target (entry_number t (record { dir = d; name = name })) refl none
   where
-    by_target : (o : Option ℕ) → entry_number t (record { directory = d; name = name }) ≡ o → is_some (option_and_then (target_at t) o) ≡ false → o ≡ None
+    by_target : (o : Option ℕ) → entry_number t (record { dir = d; name = name }) ≡ o → is_some (option_and_then (target_at t) o) ≡ false → o ≡ None
     by_target None e none' = refl
     by_target (Some n) e none' =
-        let live = All-lookup spot_cmp (λ k. IsTrue (is_some (inode_of t k))) (record { directory = d; name = name }) t.entries (All-weaker (Stands t) (λ s. IsTrue (is_some (inode_of t s.1))) (λ x s. s.leads) t.entries well.entries) n e in
+        let live = All-lookup spot_cmp (λ k. IsTrue (is_some (inode_of t k))) (record { dir = d; name = name }) t.entries (All-weaker (Stands t) (λ s. IsTrue (is_some (inode_of t s.1))) (λ x s. s.leads) t.entries well.entries) n e in
         let i = some_in (inode_of t n) live in
         absurd (absent t n i.0 i.1 none')
 

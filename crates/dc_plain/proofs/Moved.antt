@@ -2,6 +2,7 @@
 use Rattle.std.proofs.Common.{◌≡◌, ◌≢◌, ℕ, zero, suc, ◌+◌, ◌≤◌, ◌==◌, ◌&&◌, ◌||◌, not, List, [], ◌∷◌, Bool, true, false, cond, Option, Some, None, is_some, IsTrue, refl, ap, sym, ◌∙◌, arith, find, option_map, subst}
 use Rattle.std.specs.Ordering.{eq_by_cmp}
 use Rattle.std.specs.FinMap.Entries.{is_sorted-put, is_sorted-where_key}
+use Rattle.dc_plain.specs.declared.TheConstants.{MOST_NAMES}
 use Rattle.dc_names.specs.Bytes.{is_name}
 use Rattle.dc_plain.specs.Trees.{Tree, Spot, Inode, spot_cmp, how_many, inode_of, entry_number, names_of, holder_of, if_held, is_live_directory, is_directory_inode, without_spot}
 use Rattle.dc_plain.specs.Trees.Inode.{Directory, Regular, Symbolic}
@@ -29,9 +30,9 @@ counted_none p (x ∷ xs) e =
 pub held_by : (t : Tree) (n : ℕ) → names_of t n ≡ 1 → (up : ℕ) × (holder_of t n ≡ Some up)
 held_by t n one = by_entry (find (λ e. e.1 == n) t.entries) refl
   where
-    by_entry : (o : Option (Spot × ℕ)) → find (λ e. e.1 == n) t.entries ≡ o → (up : ℕ) × (option_map (λ (e : Spot × ℕ). e.0.directory) o ≡ Some up)
+    by_entry : (o : Option (Spot × ℕ)) → find (λ e. e.1 == n) t.entries ≡ o → (up : ℕ) × (option_map (λ (e : Spot × ℕ). e.0.dir) o ≡ Some up)
     by_entry None is = let none = counted_none (λ (e : Spot × ℕ). e.1 == n) t.entries is in absurd (omega arith)
-    by_entry (Some e) is = (e.0.directory, refl)
+    by_entry (Some e) is = (e.0.dir, refl)
 
 -- the entry moved
 abbrev pub moved_to : Tree → ℕ → List ℕ → ℕ → List ℕ → ℕ → Tree
@@ -40,38 +41,38 @@ moved_to t from old to new n = with_entry_for (without_entry_alone t from old) t
 -- what a move needs of the tree
 pub record IsReady (t : Tree) (from : ℕ) (old : List ℕ) (to : ℕ) (new : List ℕ) (n : ℕ) : Type 0 where
   pub well : IsWellFormed t
-  pub source : entry_number t (record { directory = from; name = old }) ≡ Some n
-  pub free : entry_number t (record { directory = to; name = new }) ≡ None
+  pub source : entry_number t (record { dir = from; name = old }) ≡ Some n
+  pub free : entry_number t (record { dir = to; name = new }) ≡ None
   pub held : IsTrue (is_live_directory t to)
   pub named : IsTrue (is_name new)
   pub apart : IsTrue (is_live_directory t n) → (steps : ℕ) × (is_beneath steps t to n ≡ false)
 
 module _ (t : Tree) (from : ℕ) (old : List ℕ) (to : ℕ) (new : List ℕ) (n : ℕ) (ready : IsReady t from old to new n) where
-  pub still_free : entry_number (without_entry_alone t from old) (record { directory = to; name = new }) ≡ None
+  pub still_free : entry_number (without_entry_alone t from old) (record { dir = to; name = new }) ≡ None
   still_free =
-      lookup-take spot_cmp spots_total (record { directory = from; name = old }) (record { directory = to; name = new }) t.entries
-      ∙ rw (ready.free) (elim (not (eq_by_cmp spot_cmp (record { directory = from; name = old }) (record { directory = to; name = new }))) as (λ b. cond {A = Option ℕ} b None None ≡ None) [ true ↦ refl | false ↦ refl ])
+      lookup-take spot_cmp spots_total (record { dir = from; name = old }) (record { dir = to; name = new }) t.entries
+      ∙ rw (ready.free) (elim (not (eq_by_cmp spot_cmp (record { dir = from; name = old }) (record { dir = to; name = new }))) as (λ b. cond {A = Option ℕ} b None None ≡ None) [ true ↦ refl | false ↦ refl ])
 
   names_taken : (q : ℕ) → names_of (without_entry_alone t from old) q + cond (n == q) 1 0 ≡ names_of t q
   names_taken q = let well = ready.well in
-      count-take spot_cmp spots_total (record { directory = from; name = old }) (λ (v : ℕ). v == q) n t.entries (to_test _ well.entries_in_order) ready.source
+      count-take spot_cmp spots_total (record { dir = from; name = old }) (λ (v : ℕ). v == q) n t.entries (to_test _ well.entries_in_order) ready.source
 
   pub names_moved : (q : ℕ) → names_of (moved_to t from old to new n) q ≡ names_of t q
-  names_moved q = count-put spot_cmp (record { directory = to; name = new }) n (λ e. e.1 == q) (without_spot (record { directory = from; name = old }) t.entries) still_free ∙ names_taken q
+  names_moved q = count-put spot_cmp (record { dir = to; name = new }) n (λ e. e.1 == q) (without_spot (record { dir = from; name = old }) t.entries) still_free ∙ names_taken q
 
   pub holder_else : (q : ℕ) → n ≢ q → holder_of (moved_to t from old to new n) q ≡ holder_of t q
   holder_else q other =
       let well = ready.well in
-      ap (option_map (λ e. e.0.directory)) (find-put_no spot_cmp (record { directory = to; name = new }) n (λ e. e.1 == q) (without_spot (record { directory = from; name = old }) t.entries) still_free (other_test n q other)
-      ∙ find-take spot_cmp spots_total (record { directory = from; name = old }) (λ (v : ℕ). v == q) n t.entries (to_test _ well.entries_in_order) ready.source (other_test n q other))
+      ap (option_map (λ e. e.0.dir)) (find-put_no spot_cmp (record { dir = to; name = new }) n (λ e. e.1 == q) (without_spot (record { dir = from; name = old }) t.entries) still_free (other_test n q other)
+      ∙ find-take spot_cmp spots_total (record { dir = from; name = old }) (λ (v : ℕ). v == q) n t.entries (to_test _ well.entries_in_order) ready.source (other_test n q other))
 
   none_left : names_of t n ≡ 1 → names_of (without_entry_alone t from old) n ≡ 0
   none_left one =
       let counted : names_of (without_entry_alone t from old) n + 1 ≡ names_of t n = sym (ap (λ b. names_of (without_entry_alone t from old) n + cond b 1 0) (same_test n)) ∙ names_taken n in omega arith
 
   pub holder_moved : names_of t n ≡ 1 → holder_of (moved_to t from old to new n) n ≡ Some to
-  holder_moved one = ap (option_map (λ e. e.0.directory))
-      (find-put_yes spot_cmp (record { directory = to; name = new }) n (λ e. e.1 == n) (without_spot (record { directory = from; name = old }) t.entries) still_free (same_test n) (none_left one))
+  holder_moved one = ap (option_map (λ e. e.0.dir))
+      (find-put_yes spot_cmp (record { dir = to; name = new }) n (λ e. e.1 == n) (without_spot (record { dir = from; name = old }) t.entries) still_free (same_test n) (none_left one))
 
   pub single : (q : ℕ) → IsTrue (is_live_directory t q) → q ≢ 1 → names_of t q ≡ 1
   single q live other = let well = ready.well in let lives = well.inodes q Directory (is_directory_in (inode_of t q) live) in lives.reached.0 other
@@ -120,17 +121,17 @@ module _ (t : Tree) (from : ℕ) (old : List ℕ) (to : ℕ) (new : List ℕ) (n
 
   reached_moved : (q : ℕ) (i : Inode) → inode_of t q ≡ Some i → IsReached t q i → IsReached (moved_to t from old to new n) q i
   reached_moved q Directory e r = let up = climb r.1 q (ap is_directory_inode e) r.2 in (λ other. names_moved q ∙ r.0 other, up.0, up.1)
-  reached_moved q Regular e r = subst (λ k. (1 ≤ k) × (k ≤ 65000)) (sym (names_moved q)) r
+  reached_moved q Regular e r = subst (λ k. (1 ≤ k) × (k ≤ MOST_NAMES)) (sym (names_moved q)) r
   reached_moved q (Symbolic text) e r = let same = names_moved q in (rw same r.0, rw same r.1, r.2)
 
   pub moved-IsWellFormed : IsWellFormed (moved_to t from old to new n)
   moved-IsWellFormed = let well = ready.well in record {
-    entries_in_order = from_test _ (is_sorted-put spot_cmp spots_total (record { directory = to; name = new }) n _ (is_sorted-where_key spot_cmp _ t.entries (to_test _ well.entries_in_order)));
+    entries_in_order = from_test _ (is_sorted-put spot_cmp spots_total (record { dir = to; name = new }) n _ (is_sorted-where_key spot_cmp _ t.entries (to_test _ well.entries_in_order)));
     inodes_in_order = well.inodes_in_order;
     root_is = well.root_is;
     no_entry_leads_to_root = names_moved 1 ∙ well.no_entry_leads_to_root;
-    entries = All-put spot_cmp (record { directory = to; name = new }) n (Stands (moved_to t from old to new n)) (without_spot (record { directory = from; name = old }) t.entries) still_free
-        (record { named = ready.named; held = ready.held; leads = All-lookup spot_cmp (λ k. IsTrue (is_some (inode_of t k))) (record { directory = from; name = old }) t.entries (All-weaker (Stands t) _ (λ e s. s.leads) t.entries well.entries) n ready.source })
+    entries = All-put spot_cmp (record { dir = to; name = new }) n (Stands (moved_to t from old to new n)) (without_spot (record { dir = from; name = old }) t.entries) still_free
+        (record { named = ready.named; held = ready.held; leads = All-lookup spot_cmp (λ k. IsTrue (is_some (inode_of t k))) (record { dir = from; name = old }) t.entries (All-weaker (Stands t) _ (λ e s. s.leads) t.entries well.entries) n ready.source })
         (All-filter _ _ t.entries (All-weaker (Stands t) (Stands (moved_to t from old to new n)) stands_moved t.entries well.entries));
     inodes = λ q i e. let lives = well.inodes q i e in record { made = lives.made; counted = lives.counted; reached = reached_moved q i e lives.reached };
     next_is = well.next_is;

@@ -13,8 +13,8 @@ the_root : (n : ℕ) (inode : Inode) (b : Bool) → eq_by_cmp nat_cmp n 1 ≡ b 
 the_root n inode false e is = absurd cc
 the_root n inode true e is =
     let one : 1 ≡ n = sym (eq_from_cmp_lem n 1 e) in
-    let directory : Directory ≡ inode = cc in
-    subst (λ i. Lives empty_tree n i) directory (subst (λ k. Lives empty_tree k Directory) one
+    let dir : Directory ≡ inode = cc in
+    subst (λ i. Lives empty_tree n i) dir (subst (λ k. Lives empty_tree k Directory) one
     (record { made = omega arith; counted = omega arith; reached = (λ apart. absurd (apart refl), 0, refl) }))
 
 pub opening : IsWellFormed empty_tree

@@ -1,6 +1,9 @@
 -- A refusal leaves the tree as it was.
 use Rattle.std.proofs.Common.{◌≡◌, ℕ, List, Bool, true, false, Option, Result, Ok, Err, refl, not, ◌&&◌, ◌||◌, is_some, length, if◌then◌else◌}
 use Rattle.std.specs.Prelude.{nat_le}
+use Rattle.dc_names.specs.declared.refusal.Refusal.{Refusal}
+use Rattle.dc_names.specs.declared.refusal.Refusal.TheVariants.{NotPermitted, NotFound, Busy, Exists, NotDirectory, Invalid, NoSpace, TooManyNames, NotEmpty}
+use Rattle.dc_plain.specs.declared.TheConstants.{MOST_NAMES}
 use Rattle.dc_names.specs.Bytes.{is_empty}
 use Rattle.dc_plain.specs.Facts.{Target}
 use Rattle.dc_plain.specs.Facts.Label.{Entry}
@@ -11,7 +14,8 @@ use Rattle.dc_plain.specs.Trees.Inode.{Directory, Regular, Symbolic}
 use Rattle.dc_plain.specs.Requests.{Answer, Request}
 use Rattle.dc_plain.specs.Requests.Answer.{Done, Nothing, Refused}
 use Rattle.dc_plain.specs.Requests.Request.{Look, Readlink, Stat, List_names, Mkdir, Create, Hard_link, Symlink, Unlink, Rmdir, Rename}
-use Rattle.dc_plain.specs.Refusals.{◌>>=◌, refuse, path_or_fault, place_on, where_on, name_or, name_or_each, present, is_full}
+use Rattle.dc_names.specs.Lasts.{name_or, name_or_each}
+use Rattle.dc_plain.specs.Refusals.{◌>>=◌, refuse, path_or_fault, place_on, where_on, present, is_full}
 use Rattle.dc_plain.specs.Effects.{with_new, with_entry_for, without_entry}
 use Rattle.dc_plain.specs.Plans.{with_moved}
 use Rattle.dc_plain.specs.Reads.{look, readlink, stat, list_names}
@@ -22,9 +26,9 @@ use Rattle.dc_plain.specs.Laws.{RefusalsAlterNothing}
 abbrev pub Spares : Tree → Change → Type 0
 Spares t change = (number : ℕ) → (settled t change).0 ≡ Refused number → (settled t change).1 ≡ t
 
-step : {A : Type 0} (t : Tree) (r : Result A ℕ) (next : A → Change) → ((a : A) → Spares t (next a)) → Spares t (r >>= next)
+step : {A : Type 0} (t : Tree) (r : Result A Refusal) (next : A → Change) → ((a : A) → Spares t (next a)) → Spares t (r >>= next)
 step t (Ok a) next so = so a
-step t (Err number) next so = λ other e. refl
+step t (Err refusal) next so = λ other e. refl
 
 either : (t : Tree) (test : Bool) (one other : Change) → Spares t one → Spares t other → Spares t (if test then one else other)
 either t true one other so also = so
@@ -39,10 +43,10 @@ nothing t u number e = let other : Nothing ≡ Refused number = e in absurd cc
 make-spares : (limit : ℕ) (t : Tree) (base : ℕ) (text : List ℕ) (may : Bool) (inode : Inode) → Spares t (make limit t base text may inode)
 make-spares limit t base text may inode =
     step t (where_on t base text) _ λ at.
-    step t (name_or 17 at.last) _ λ name.
-    step t (refuse (is_some (entry_of t at.directory (Entry name))) 17) _ λ free.
-    step t (refuse (at.slash && not may) 2) _ λ ends.
-    step t (refuse (is_full limit t) 28) _ λ room. done t (with_new t at.directory name inode) t.next
+    step t (name_or Exists at.last) _ λ name.
+    step t (refuse (is_some (entry_of t at.dir (Entry name))) Exists) _ λ free.
+    step t (refuse (at.slash && not may) NotFound) _ λ ends.
+    step t (refuse (is_full limit t) NoSpace) _ λ room. done t (with_new t at.dir name inode) t.next
 
 link-spares : (t : Tree) (base : ℕ) (old new : List ℕ) → Spares t (link t base old new)
 link-spares t base old new =
@@ -50,39 +54,39 @@ link-spares t base old new =
     step t (path_or_fault new) _ λ new_path.
     step t (place_on t base old_path) _ λ from.
     step t (place_on t base new_path) _ λ to.
-    step t (name_or 1 from.last) _ λ old_name.
-    step t (name_or 17 to.last) _ λ new_name.
-    step t (present 2 (entry_of t from.directory (Entry old_name))) _ λ inode.
-    step t (refuse (is_directory inode) 1) _ λ no_directory.
-    step t (refuse from.slash 20) _ λ old_ends.
-    step t (refuse (is_some (entry_of t to.directory (Entry new_name))) 17) _ λ free.
-    step t (refuse to.slash 2) _ λ new_ends.
-    step t (refuse (nat_le 65000 (names_of t inode.0)) 31) _ λ room. done t (with_entry_for t to.directory new_name inode.0) inode.0
+    step t (name_or NotPermitted from.last) _ λ old_name.
+    step t (name_or Exists to.last) _ λ new_name.
+    step t (present NotFound (entry_of t from.dir (Entry old_name))) _ λ inode.
+    step t (refuse (is_directory inode) NotPermitted) _ λ no_directory.
+    step t (refuse from.slash NotDirectory) _ λ old_ends.
+    step t (refuse (is_some (entry_of t to.dir (Entry new_name))) Exists) _ λ free.
+    step t (refuse to.slash NotFound) _ λ new_ends.
+    step t (refuse (nat_le MOST_NAMES (names_of t inode.0)) TooManyNames) _ λ room. done t (with_entry_for t to.dir new_name inode.0) inode.0
 
 unlink-spares : (t : Tree) (base : ℕ) (text : List ℕ) → Spares t (unlink t base text)
 unlink-spares t base text =
     step t (where_on t base text) _ λ at.
-    step t (name_or 1 at.last) _ λ name.
-    step t (present 2 (entry_of t at.directory (Entry name))) _ λ inode.
-    step t (refuse (is_directory inode) 1) _ λ no_directory.
-    step t (refuse at.slash 20) _ λ ends. nothing t (without_entry t at.directory name inode.0)
+    step t (name_or NotPermitted at.last) _ λ name.
+    step t (present NotFound (entry_of t at.dir (Entry name))) _ λ inode.
+    step t (refuse (is_directory inode) NotPermitted) _ λ no_directory.
+    step t (refuse at.slash NotDirectory) _ λ ends. nothing t (without_entry t at.dir name inode.0)
 
 rmdir-spares : (t : Tree) (base : ℕ) (text : List ℕ) → Spares t (rmdir t base text)
 rmdir-spares t base text =
     step t (where_on t base text) _ λ at.
-    step t (name_or_each 16 22 39 at.last) _ λ name.
-    step t (present 2 (entry_of t at.directory (Entry name))) _ λ inode.
-    step t (refuse (not (is_directory inode)) 20) _ λ directory.
-    step t (refuse (not (is_empty (names_in t inode.0))) 39) _ λ empty. nothing t (without_entry t at.directory name inode.0)
+    step t (name_or_each Busy Invalid NotEmpty at.last) _ λ name.
+    step t (present NotFound (entry_of t at.dir (Entry name))) _ λ inode.
+    step t (refuse (not (is_directory inode)) NotDirectory) _ λ dir.
+    step t (refuse (not (is_empty (names_in t inode.0))) NotEmpty) _ λ empty. nothing t (without_entry t at.dir name inode.0)
 
 move-spares : (t : Tree) (from to : Where) (old new : List ℕ) (moved : Target) (there : Option Target)
     → Spares t (do
-      apart ← refuse (is_directory moved && is_beneath (length t.inodes) t to.directory moved.0) 22
+      apart ← refuse (is_directory moved && is_beneath (length t.inodes) t to.dir moved.0) Invalid
       may ← replaceable t moved there
-      Ok (Nothing, with_moved t moved (record { directory = from.directory; name = old }) (record { directory = to.directory; name = new }) there))
+      Ok (Nothing, with_moved t moved (record { dir = from.dir; name = old }) (record { dir = to.dir; name = new }) there))
 move-spares t from to old new moved there =
-    step t (refuse (is_directory moved && is_beneath (length t.inodes) t to.directory moved.0) 22) _ λ apart.
-    step t (replaceable t moved there) _ λ may. nothing t (with_moved t moved (record { directory = from.directory; name = old }) (record { directory = to.directory; name = new }) there)
+    step t (refuse (is_directory moved && is_beneath (length t.inodes) t to.dir moved.0) Invalid) _ λ apart.
+    step t (replaceable t moved there) _ λ may. nothing t (with_moved t moved (record { dir = from.dir; name = old }) (record { dir = to.dir; name = new }) there)
 
 rename-spares : (t : Tree) (base : ℕ) (old new : List ℕ) → Spares t (rename t base old new)
 rename-spares t base old new =
@@ -90,16 +94,16 @@ rename-spares t base old new =
     step t (path_or_fault new) _ λ new_path.
     step t (place_on t base old_path) _ λ from.
     step t (place_on t base new_path) _ λ to.
-    step t (name_or_each 16 22 22 from.last) _ λ old_name.
-    step t (name_or_each 16 22 22 to.last) _ λ new_name.
-    step t (present 2 (entry_of t from.directory (Entry old_name))) _ λ moved.
-    step t (refuse (not (is_directory moved) && (from.slash || to.slash)) 20) _ λ ends.
-    let there = entry_of t to.directory (Entry new_name) in
+    step t (name_or_each Busy Invalid Invalid from.last) _ λ old_name.
+    step t (name_or_each Busy Invalid Invalid to.last) _ λ new_name.
+    step t (present NotFound (entry_of t from.dir (Entry old_name))) _ λ moved.
+    step t (refuse (not (is_directory moved) && (from.slash || to.slash)) NotDirectory) _ λ ends.
+    let there = entry_of t to.dir (Entry new_name) in
     either t (same_inode moved there) _ _ (nothing t t) (move-spares t from to old_name new_name moved there)
 
-reads-spare : (t : Tree) (answered : Result Answer ℕ) → Spares t (left_alone t answered)
+reads-spare : (t : Tree) (answered : Result Answer Refusal) → Spares t (left_alone t answered)
 reads-spare t (Ok answer) = λ number e. refl
-reads-spare t (Err number) = λ other e. refl
+reads-spare t (Err refusal) = λ other e. refl
 
 changes-spare : (limit : ℕ) (t : Tree) (request : Request) → Spares t (change_of limit t request)
 changes-spare limit t (Look base path how) = reads-spare t (look t base path how)

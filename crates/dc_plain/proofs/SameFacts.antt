@@ -39,12 +39,12 @@ equal_of Equal e = refl
 equal_of Greater e = cc
 
 pub same_spot : (a b : Spot) → eq_by_cmp spot_cmp a b ≡ true → a ≡ b
-same_spot a b e = ap (λ (p : ℕ × List ℕ). record { directory = p.0; name = p.1 })
-    (exact_pairs nat_cmp (slice_cmp nat_cmp) nat_cmp-IsAntisymmetric (slice_cmp-IsAntisymmetric nat_cmp-IsAntisymmetric) (a.directory, a.name) (b.directory, b.name) (equal_of (spot_cmp a b) e))
+same_spot a b e = ap (λ (p : ℕ × List ℕ). record { dir = p.0; name = p.1 })
+    (exact_pairs nat_cmp (slice_cmp nat_cmp) nat_cmp-IsAntisymmetric (slice_cmp-IsAntisymmetric nat_cmp-IsAntisymmetric) (a.dir, a.name) (b.dir, b.name) (equal_of (spot_cmp a b) e))
 
-pub same_key : (d q : ℕ) (name other : List ℕ) → eq_by_cmp spot_cmp (record { directory = q; name = other }) (record { directory = d; name = name }) ≡ true
+pub same_key : (d q : ℕ) (name other : List ℕ) → eq_by_cmp spot_cmp (record { dir = q; name = other }) (record { dir = d; name = name }) ≡ true
     → ◌≡◌ {A = Key} (record { number = q; label = Entry other }) (record { number = d; label = Entry name })
-same_key d q name other e = ap (λ (s : Spot). record { number = s.directory; label = Entry s.name }) (same_spot (record { directory = q; name = other }) (record { directory = d; name = name }) e)
+same_key d q name other e = ap (λ (s : Spot). record { number = s.dir; label = Entry s.name }) (same_spot (record { dir = q; name = other }) (record { dir = d; name = name }) e)
 
 pub target-same : (t u : Tree) (n : ℕ) → inode_of u n ≡ inode_of t n → target_at u n ≡ target_at t n
 target-same t u n e = ap (option_map (λ inode. (n, kind_of inode))) e
@@ -56,9 +56,9 @@ onward : (t u : Tree) (o : Option ℕ) → ((n : ℕ) → o ≡ Some n → targe
 onward t u None so = refl
 onward t u (Some n) so = so n refl
 
-pub entry-same : (t u : Tree) (d : ℕ) (name : List ℕ) → entry_number u (record { directory = d; name = name }) ≡ entry_number t (record { directory = d; name = name })
-    → ((n : ℕ) → entry_number t (record { directory = d; name = name }) ≡ Some n → target_at u n ≡ target_at t n) → entry_of u d (Entry name) ≡ entry_of t d (Entry name)
-entry-same t u d name e so = ap (option_and_then (target_at u)) e ∙ onward t u (entry_number t (record { directory = d; name = name })) so
+pub entry-same : (t u : Tree) (d : ℕ) (name : List ℕ) → entry_number u (record { dir = d; name = name }) ≡ entry_number t (record { dir = d; name = name })
+    → ((n : ℕ) → entry_number t (record { dir = d; name = name }) ≡ Some n → target_at u n ≡ target_at t n) → entry_of u d (Entry name) ≡ entry_of t d (Entry name)
+entry-same t u d name e so = ap (option_and_then (target_at u)) e ∙ onward t u (entry_number t (record { dir = d; name = name })) so
 
 pub parent-same : (t u : Tree) (n : ℕ) → inode_of u n ≡ inode_of t n → (IsTrue (is_live_directory t n) → holder_of u n ≡ holder_of t n)
     → ((up : ℕ) → holder_of t n ≡ Some up → target_at u up ≡ target_at t up) → entry_of u n Parent ≡ entry_of t n Parent
@@ -79,15 +79,15 @@ pub parent-fact : (t : Tree) (n up : ℕ) → IsTrue (is_live_directory t up) �
 parent-fact t n up up_live live other held =
     rw live (rw (other_test n 1 other) (ap (option_and_then (target_at t)) held ∙ ap (option_map (λ inode. (up, kind_of inode))) (is_directory_in (inode_of t up) up_live)))
 
-pub entry-fact : (t : Tree) (d : ℕ) (name : List ℕ) (n : ℕ) (inode : Inode) → entry_number t (record { directory = d; name = name }) ≡ Some n → inode_of t n ≡ Some inode → entry_of t d (Entry name) ≡ Some (n, kind_of inode)
+pub entry-fact : (t : Tree) (d : ℕ) (name : List ℕ) (n : ℕ) (inode : Inode) → entry_number t (record { dir = d; name = name }) ≡ Some n → inode_of t n ≡ Some inode → entry_of t d (Entry name) ≡ Some (n, kind_of inode)
 entry-fact t d name n inode e is = ap (option_and_then (target_at t)) e ∙ ap (option_map (λ inode. (n, kind_of inode))) is
 
 -- a name with no entry
-pub no_entry : (t : Tree) (d : ℕ) (name : List ℕ) → entry_number t (record { directory = d; name = name }) ≡ None → entry_of t d (Entry name) ≡ None
+pub no_entry : (t : Tree) (d : ℕ) (name : List ℕ) → entry_number t (record { dir = d; name = name }) ≡ None → entry_of t d (Entry name) ≡ None
 no_entry t d name e = ap (option_and_then (target_at t)) e
 
-pub tied : (d : ℕ) (name : List ℕ) → eq_by_cmp spot_cmp (record { directory = d; name = name }) (record { directory = d; name = name }) ≡ true
-tied d name = ap is_eq (tied_itself spots_total (record { directory = d; name = name }))
+pub tied : (d : ℕ) (name : List ℕ) → eq_by_cmp spot_cmp (record { dir = d; name = name }) (record { dir = d; name = name }) ≡ true
+tied d name = ap is_eq (tied_itself spots_total (record { dir = d; name = name }))
 
 -- by the two facts
 pub entries-differ : (t u : Tree) (key : Key) (d : ℕ) (label : Label) (before after : Option Target) → key ≡ record { number = d; label = label } → fact_at t (record { number = d; label = label }) ≡ (before, None)

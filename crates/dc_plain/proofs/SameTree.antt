@@ -1,12 +1,12 @@
 -- The test of two trees tells whether they are one, and so which calls alter a tree.
-use Rattle.std.proofs.Common.{◌≡◌, ◌≢◌, ℕ, List, [], ◌∷◌, ◌==◌, ◌&&◌, not, Bool, true, false, refl, ap, ◌∙◌, IsTrue, arith}
+use Rattle.std.proofs.Common.{◌≡◌, ◌≢◌, ℕ, List, [], ◌∷◌, ◌==◌, ◌&&◌, not, Bool, true, false, refl, ap, sym, ◌∙◌, IsTrue, ◌↔◌, true≢false, Result, Ok, Err, IfOk, arith}
 use Rattle.std.specs.Cmp.Lexicographic.{pointwise}
 use Rattle.std.proofs.lemmas.Bool.Decides.{nat_tests}
 use Rattle.dc_plain.specs.Facts.{same_bytes}
 use Rattle.dc_plain.specs.Trees.{Tree, Spot, Inode}
 use Rattle.dc_plain.specs.Trees.Inode.{Directory, Regular, Symbolic}
 use Rattle.dc_plain.specs.Requests.{Request}
-use Rattle.dc_plain.specs.Runs.{same_inode, same_spot, same_tree, alters, tree_after}
+use Rattle.dc_plain.specs.Runs.{same_inode, same_spot, same_tree, alters, Alters, tree_after}
 
 both : (a b : Bool) → a ≡ true → b ≡ true → (a && b) ≡ true
 both a b p q = cc
@@ -69,13 +69,13 @@ abbrev pub same_numbered : ℕ × Inode → ℕ × Inode → Bool
 same_numbered a b = a.0 == b.0 && same_inode a.1 b.1
 
 spot-refl : (s : Spot) → same_spot s s ≡ true
-spot-refl s = both (s.directory == s.directory) (same_bytes s.name s.name) (number-refl s.directory) (bytes-refl s.name)
+spot-refl s = both (s.dir == s.dir) (same_bytes s.name s.name) (number-refl s.dir) (bytes-refl s.name)
 
 spot_is : (a b : Spot) → same_spot a b ≡ true → a ≡ b
 spot_is a b e =
-    let directory = number_is a.directory b.directory (first (a.directory == b.directory) (same_bytes a.name b.name) e) in
-    let name = bytes_are a.name b.name (second (a.directory == b.directory) (same_bytes a.name b.name) e) in
-    λ i. record { directory = directory i; name = name i }
+    let dir = number_is a.dir b.dir (first (a.dir == b.dir) (same_bytes a.name b.name) e) in
+    let name = bytes_are a.name b.name (second (a.dir == b.dir) (same_bytes a.name b.name) e) in
+    λ i. record { dir = dir i; name = name i }
 
 entry-refl : (e : Spot × ℕ) → same_entry e e ≡ true
 entry-refl e = both (same_spot e.0 e.0) (e.1 == e.1) (spot-refl e.0) (number-refl e.1)
@@ -121,3 +121,16 @@ alters_not limit t request same = ap (λ (u : Tree). not (same_tree u t)) same �
 -- a call that leaves another tree alters it
 pub alters_so : (limit : ℕ) (t : Tree) (request : Request) → tree_after limit t request ≢ t → alters limit t request ≡ true
 alters_so limit t request other = by_trees (tree_after limit t request) t (same_tree (tree_after limit t request) t) refl other
+
+-- what is true exactly where a call alters the tree is the test of it
+pub alters_decided : (limit : ℕ) (t : Tree) (request : Request) (b : Bool) → (IsTrue b ↔ Alters limit t request) → b ≡ alters limit t request
+alters_decided limit t request true is = sym (alters_so limit t request (is.0 refl))
+alters_decided limit t request false is = sym (by_test (same_tree (tree_after limit t request) t) refl)
+  where
+    by_test : (same : Bool) → same_tree (tree_after limit t request) t ≡ same → alters limit t request ≡ false
+    by_test true e = ap not e
+    by_test false e = let other : Alters limit t request = λ h. true≢false (sym (ap (λ (u : Tree). same_tree u t) h ∙ same_tree-refl t) ∙ e) in absurd (true≢false (sym (is.1 other)))
+
+pub alters_found : {E : Type 0} (r : Result Bool E) (limit : ℕ) (t : Tree) (request : Request) → IfOk r (λ b. IsTrue b ↔ Alters limit t request) → IfOk r (λ b. b ≡ alters limit t request)
+alters_found (Ok b) limit t request is = alters_decided limit t request b is
+alters_found (Err e) limit t request is = is

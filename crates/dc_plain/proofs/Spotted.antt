@@ -1,30 +1,30 @@
 -- Where the last part of a path is to be looked up: a live directory, and a name.
 use Rattle.std.proofs.Common.{◌≡◌, ℕ, ◌-◌, zero, suc, ◌==◌, ◌||◌, ◌&&◌, not, List, [], ◌∷◌, map, filter, if◌then◌else◌, Bool, true, false, cond, Option, Some, None, Result, Ok, Err, IsTrue, refl, ap, ◌∙◌, subst, length, take, slice_get, option_map, option_and_then}
+use Rattle.dc_names.specs.Laws.{IsNameOrDots, PartsAreNamesOrDots}
+use Rattle.dc_names.specs.declared.refusal.Refusal.{Refusal}
+use Rattle.dc_plain.specs.declared.TheConstants.{MOST_LINKS}
 use Rattle.dc_names.specs.Bytes.{is_name, is_empty, is_dot, is_dot_dot, pieces}
 use Rattle.dc_names.specs.Paths.Part.{Name as PartName, Dot, DotDot}
 use Rattle.dc_names.specs.declared.fault.TextFault.{TextFault}
 use Rattle.std.specs.List.{AllByRecursion, list_all}
-use Rattle.dc_names.specs.Paths.{Part, Path, path_in, fault_of, path_of, part_of, fault_number}
+use Rattle.dc_names.specs.Paths.{Part, Path, path_in, fault_of, path_of, part_of}
+use Rattle.dc_names.specs.Refusals.{refusal_of}
 use Rattle.dc_names.specs.declared.kind.Kind.TheVariants.{Dir, File, Link}
-use Rattle.dc_names.proofs.Valid.{valid_parts}
 use Rattle.dc_plain.specs.declared.call.Follow.{Follow}
 use Rattle.dc_plain.specs.declared.call.Follow.TheVariants as follow
 use Rattle.dc_plain.specs.Facts.{Target}
 use Rattle.dc_plain.specs.Facts.Label.{Parent}
 use Rattle.dc_plain.specs.Resolution.{Outcome, root, is_directory, resolve, settled_walk}
 use Rattle.dc_plain.specs.Resolution.Outcome.{Found, Refused}
-use Rattle.dc_plain.specs.Places.{Where, start, with_start, walk, last_part, front_of, placed_by, link_limit}
-use Rattle.dc_plain.specs.Places.Last.{Name, Root}
+use Rattle.dc_plain.specs.Places.{Where, start, with_start, walk, front_of, placed_by}
+use Rattle.dc_names.specs.Lasts.Last.{Name, Root}
+use Rattle.dc_names.specs.Lasts.{last_part}
 use Rattle.dc_plain.specs.Refusals.{where_on, place_on, path_or_fault, where_of, walk_on, ended}
 use Rattle.dc_plain.specs.Trees.{Tree, Inode, inode_of, target_at, kind_of, entry_of, told_of, is_live_directory, is_directory_inode, holder_of}
 use Rattle.dc_plain.specs.Trees.Inode.{Directory, Regular, Symbolic}
 use Rattle.dc_plain.proofs.Live.{Stands_at, Ends, resolve_stands, root_stands, and_last}
 use Rattle.dc_plain.proofs.Made.{is_directory_in}
 use Rattle.dc_plain.proofs.Chains.{after}
-
-and_first : (a b : Bool) → (a && b) ≡ true → a ≡ true
-and_first true b e = refl
-and_first false b e = cc
 
 -- a place that stands as a directory is a live directory
 directory_by : (n : ℕ) (o : Option Inode) (q : Target) → option_map (λ inode. (n, kind_of inode)) o ≡ Some q → is_directory q ≡ true → is_directory_inode o ≡ true
@@ -57,87 +57,63 @@ front_stands : (t : Tree) → inode_of t 1 ≡ Some Directory → (base : ℕ) (
 front_stands t is_root base path q e = by_start (start (told_of t) base path) refl e
   where
     by_start : (o : Option (Option Target)) → start (told_of t) base path ≡ o
-        → with_start o (λ place. resolve (told_of t) follow.Dir link_limit place (take (length path.parts - 1) path.parts) false) ≡ Some (Found q) → Ends t follow.Dir q
+        → with_start o (λ place. resolve (told_of t) follow.Dir MOST_LINKS place (take (length path.parts - 1) path.parts) false) ≡ Some (Found q) → Ends t follow.Dir q
     by_start None is e' = cc
     by_start (Some None) is e' = absurd cc
     by_start (Some (Some p)) is e' =
-        resolve_stands t is_root follow.Dir link_limit p (take (length path.parts - 1) path.parts) false q (start_stands t is_root base path p is) e'
+        resolve_stands t is_root follow.Dir MOST_LINKS p (take (length path.parts - 1) path.parts) false q (start_stands t is_root base path p is) e'
 
-pub place_live : (t : Tree) (base : ℕ) (path : Path) (at : Where) → inode_of t 1 ≡ Some Directory → place_on t base path ≡ Ok at → IsTrue (is_live_directory t at.directory)
+pub place_live : (t : Tree) (base : ℕ) (path : Path) (at : Where) → inode_of t 1 ≡ Some Directory → place_on t base path ≡ Ok at → IsTrue (is_live_directory t at.dir)
 place_live t base path at is_root e =
     by_front (slice_get path.parts (length path.parts - 1)) (front_of (told_of t) base path) refl e
   where
-    by_front : (last : Option Part) (front : Option Outcome) → front_of (told_of t) base path ≡ front → where_of (placed_by last path.slash front) ≡ Ok at → IsTrue (is_live_directory t at.directory)
-    by_front None front is e' = let one : 1 ≡ at.directory = cc in subst (λ d. IsTrue (is_live_directory t d)) one (rw is_root refl)
+    by_front : (last : Option Part) (front : Option Outcome) → front_of (told_of t) base path ≡ front → where_of (placed_by last path.slash front) ≡ Ok at → IsTrue (is_live_directory t at.dir)
+    by_front None front is e' = let one : 1 ≡ at.dir = cc in subst (λ d. IsTrue (is_live_directory t d)) one (rw is_root refl)
     by_front (Some last) None is e' = absurd cc
-    by_front (Some last) (Some (Refused number)) is e' = absurd cc
+    by_front (Some last) (Some (Refused refusal)) is e' = absurd cc
     by_front (Some last) (Some (Found q)) is e' =
         let ends = front_stands t is_root base path q is in
-        let same : q.0 ≡ at.directory = cc in
+        let same : q.0 ≡ at.dir = cc in
         subst (λ d. IsTrue (is_live_directory t d)) same (live_at t q ends.0 (ends.1 refl))
 
-pub spot_live : (t : Tree) (base : ℕ) (text : List ℕ) (at : Where) → inode_of t 1 ≡ Some Directory → where_on t base text ≡ Ok at → IsTrue (is_live_directory t at.directory)
+pub spot_live : (t : Tree) (base : ℕ) (text : List ℕ) (at : Where) → inode_of t 1 ≡ Some Directory → where_on t base text ≡ Ok at → IsTrue (is_live_directory t at.dir)
 spot_live t base text at is_root e = after (path_or_fault text) _ at e (λ path good is. place_live t base path at is_root is)
 
 -- where a text leads, something lives
 found_by : (o : Option Outcome) (q : Target) → ended (settled_walk o) ≡ Ok q → o ≡ Some (Found q)
 found_by None q e = absurd cc
 found_by (Some (Found p)) q e = cc
-found_by (Some (Refused number)) q e = absurd cc
+found_by (Some (Refused refusal)) q e = absurd cc
 
 pub walk_stands : (t : Tree) → inode_of t 1 ≡ Some Directory → (base : ℕ) (text : List ℕ) (how : Follow) (q : Target) → walk_on t base text how ≡ Ok q → target_at t q.0 ≡ Some q
 walk_stands t is_root base text how q e = after (path_or_fault text) _ q e (λ path good is. by_start path (start (told_of t) base path) refl (found_by (walk (told_of t) base path how) q is))
   where
     by_start : (path : Path) (o : Option (Option Target)) → start (told_of t) base path ≡ o
-        → with_start o (λ place. resolve (told_of t) how link_limit place path.parts path.slash) ≡ Some (Found q) → target_at t q.0 ≡ Some q
+        → with_start o (λ place. resolve (told_of t) how MOST_LINKS place path.parts path.slash) ≡ Some (Found q) → target_at t q.0 ≡ Some q
     by_start path None is e' = cc
     by_start path (Some None) is e' = absurd cc
-    by_start path (Some (Some p)) is e' = (resolve_stands t is_root how link_limit p path.parts path.slash q (start_stands t is_root base path p is) e').0
+    by_start path (Some (Some p)) is e' = (resolve_stands t is_root how MOST_LINKS p path.parts path.slash q (start_stands t is_root base path p is) e').0
 
--- a part of a path is dot, dot-dot or a name
-abbrev Is_part : Part → Type 0
-Is_part (PartName name) = IsTrue (is_name name)
-Is_part Dot = Unit {0}
-Is_part DotDot = Unit {0}
-
-abbrev may_be_piece : List ℕ → Bool
-may_be_piece piece = is_empty piece || is_dot piece || is_dot_dot piece || is_name piece
-
-part_by : (piece : List ℕ) (empty dot dots a_name : Bool) → is_name piece ≡ a_name → (empty || dot || dots || a_name) ≡ true → empty ≡ false
-    → Is_part (if dot then Dot else if dots then DotDot else PartName piece)
-part_by piece true dot dots a_name is e full = cc
-part_by piece false true dots a_name is e full = tt
-part_by piece false false true a_name is e full = tt
-part_by piece false false false a_name is e full = is ∙ e
-
-parts_by : (ps : List (List ℕ)) → list_all may_be_piece ps ≡ true → AllByRecursion Is_part (map part_of (filter (λ piece. not (is_empty piece)) ps))
-parts_by [] all = tt
-parts_by (p ∷ ps) all =
-    let rest = parts_by ps (and_last (may_be_piece p) (list_all may_be_piece ps) all) in
-    elim (is_empty p) as (λ b. is_empty p ≡ b → AllByRecursion Is_part (map part_of (cond (not b) (p ∷ filter (λ piece. not (is_empty piece)) ps) (filter (λ piece. not (is_empty piece)) ps)))) [
-      | true ↦ λ is. rest
-      | false ↦ λ is. (part_by p (is_empty p) (is_dot p) (is_dot_dot p) (is_name p) refl (and_first (may_be_piece p) (list_all may_be_piece ps) all) is, rest)
-    ] refl
-
+-- a part of a path that is found by its place is a name, dot or dot-dot
 All-get : {X : Type 0} (P : X → Type 0) (xs : List X) (i : ℕ) (x : X) → AllByRecursion P xs → slice_get xs i ≡ Some x → P x
 All-get P [] i x all e = cc
 All-get P (y ∷ ys) zero x all e = let same : y ≡ x = cc in subst P same all.0
 All-get P (y ∷ ys) (suc i) x all e = All-get P ys i x all.1 e
 
-last_named : (part : Part) (name : List ℕ) → last_part part ≡ Name name → Is_part part → IsTrue (is_name name)
+last_named : (part : Part) (name : List ℕ) → last_part part ≡ Name name → IsNameOrDots part → IsTrue (is_name name)
 last_named (PartName other) name e is = let same : other ≡ name = cc in subst (λ n. IsTrue (is_name n)) same is
 last_named Dot name e is = absurd cc
 last_named DotDot name e is = absurd cc
 
-named_by : (last : Option Part) (slash : Bool) (front : Option Outcome) (at : Where) (name : List ℕ) → ((part : Part) → last ≡ Some part → Is_part part)
+named_by : (last : Option Part) (slash : Bool) (front : Option Outcome) (at : Where) (name : List ℕ) → ((part : Part) → last ≡ Some part → IsNameOrDots part)
     → where_of (placed_by last slash front) ≡ Ok at → at.last ≡ Name name → IsTrue (is_name name)
 named_by None slash front at name so e is = let root_last : Root ≡ at.last = cc in absurd cc
 named_by (Some last) slash None at name so e is = absurd cc
-named_by (Some last) slash (Some (Refused number)) at name so e is = absurd cc
+named_by (Some last) slash (Some (Refused refusal)) at name so e is = absurd cc
 named_by (Some last) slash (Some (Found q)) at name so e is = let same : last_part last ≡ at.last = cc in last_named last name (same ∙ is) (so last refl)
 
 -- a text with a path has no fault
-pub path_is : (r : Result Path TextFault) (path : Path) → ◌≡◌ {A = Result Path ℕ} (elim r [ Ok path ↦ Ok path | Err fault ↦ Err (fault_number fault) ]) (Ok path) → r ≡ Ok path
+pub path_is : (r : Result Path TextFault) (path : Path) → ◌≡◌ {A = Result Path Refusal} (elim r [ Ok path ↦ Ok path | Err fault ↦ Err (refusal_of fault) ]) (Ok path) → r ≡ Ok path
 path_is (Ok other) path e = cc
 path_is (Err fault) path e = absurd cc
 
@@ -148,12 +124,11 @@ no_fault (Some fault) text path e = absurd cc
 pub sound_path : (text : List ℕ) (path : Path) → path_or_fault text ≡ Ok path → (fault_of text ≡ None) × (path_in text ≡ path)
 sound_path text path e = no_fault (fault_of text) text path (path_is (path_of text) path e)
 
-pub path_named : (t : Tree) (base : ℕ) (text : List ℕ) (path : Path) (at : Where) (name : List ℕ) → path_or_fault text ≡ Ok path → place_on t base path ≡ Ok at → at.last ≡ Name name → IsTrue (is_name name)
-path_named t base text path at name good e is =
+pub path_named : PartsAreNamesOrDots → (t : Tree) (base : ℕ) (text : List ℕ) (path : Path) (at : Where) (name : List ℕ) → path_or_fault text ≡ Ok path → place_on t base path ≡ Ok at → at.last ≡ Name name → IsTrue (is_name name)
+path_named parts t base text path at name good e is =
     let parsed = sound_path text path good in
-    let all = parts_by (pieces text) (valid_parts text parsed.0) in
-    let whole : AllByRecursion Is_part path.parts = subst (λ (p : Path). AllByRecursion Is_part p.parts) parsed.1 all in
-    named_by (slice_get path.parts (length path.parts - 1)) path.slash (front_of (told_of t) base path) at name (λ part. All-get Is_part path.parts (length path.parts - 1) part whole) e is
+    let whole : AllByRecursion IsNameOrDots path.parts = subst (λ (p : Path). AllByRecursion IsNameOrDots p.parts) parsed.1 (parts text parsed.0) in
+    named_by (slice_get path.parts (length path.parts - 1)) path.slash (front_of (told_of t) base path) at name (λ part. All-get IsNameOrDots path.parts (length path.parts - 1) part whole) e is
 
-pub spot_named : (t : Tree) (base : ℕ) (text : List ℕ) (at : Where) (name : List ℕ) → where_on t base text ≡ Ok at → at.last ≡ Name name → IsTrue (is_name name)
-spot_named t base text at name e is = after (path_or_fault text) _ at e (λ path good placed. path_named t base text path at name good placed is)
+pub spot_named : PartsAreNamesOrDots → (t : Tree) (base : ℕ) (text : List ℕ) (at : Where) (name : List ℕ) → where_on t base text ≡ Ok at → at.last ≡ Name name → IsTrue (is_name name)
+spot_named parts t base text at name e is = after (path_or_fault text) _ at e (λ path good placed. path_named parts t base text path at name good placed is)

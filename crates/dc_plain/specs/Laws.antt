@@ -1,6 +1,9 @@
 -- What holds of every call on every tree.
-use Rattle.std.specs.Prelude.{◌≡◌, ◌≢◌, [], ◌↔◌, ◌≤◌, length, ℕ, List, Bool, IsTrue, ◌==◌, ◌||◌, Some}
+use Rattle.std.specs.Prelude.{◌≡◌, ◌≢◌, [], ◌∷◌, ◌↔◌, ◌≤◌, ◌⊎◌, length, ℕ, List, Some}
+use Rattle.dc_names.specs.declared.refusal.Refusal.{Refusal}
+use Rattle.dc_names.specs.declared.refusal.Refusal.TheVariants.{NotFound, NotDirectory, TooManyLinks}
 use Rattle.dc_names.specs.Paths.{Path}
+use Rattle.dc_plain.specs.declared.TheConstants.{MOST_TOUCHED}
 use Rattle.dc_plain.specs.declared.call.Follow.{Follow}
 use Rattle.dc_plain.specs.Facts.{Teller, Key}
 use Rattle.dc_plain.specs.Tellers.{Extends}
@@ -8,13 +11,13 @@ use Rattle.dc_plain.specs.Resolution.{Outcome}
 use Rattle.dc_plain.specs.Resolution.Outcome.{Refused}
 use Rattle.dc_plain.specs.Places.{Placed, walk, place}
 use Rattle.dc_plain.specs.Places.Placed.{Not}
-use Rattle.dc_plain.specs.Trees.{Tree}
+use Rattle.dc_plain.specs.Trees.{Tree, fact_at}
 use Rattle.dc_plain.specs.IsWellFormed.{IsWellFormed, IsWithin}
 use Rattle.dc_plain.specs.Requests.{Request}
 use Rattle.dc_plain.specs.Requests.Answer.{Refused as Declined}
 use Rattle.dc_plain.specs.Runs.{reply_of, tree_after, tree_after_all, Touches, Alters}
 use Rattle.dc_plain.specs.TouchedKeys.{keys_touched}
-use Rattle.std.specs.List.{Contains}
+use Rattle.std.specs.List.{AllPairs, Contains}
 
 -- a well-formed tree stays so, whatever request comes
 abbrev pub KeepsTreesWellFormed : Type 0
@@ -24,24 +27,29 @@ KeepsTreesWellFormed = (limit : ℕ) (t : Tree) (request : Request) → IsWellFo
 abbrev pub KeepsWithinLimit : Type 0
 KeepsWithinLimit = (limit : ℕ) (t : Tree) (request : Request) → IsWellFormed t → IsWithin limit t → IsWithin limit (tree_after limit t request)
 
--- so is each tree of a run
+-- each tree of a run is well formed where the first is
 abbrev pub KeepsRunsWellFormed : Type 0
 KeepsRunsWellFormed = (limit : ℕ) (t : Tree) (requests : List Request) → IsWellFormed t → IsWellFormed (tree_after_all limit t requests)
+
+-- and no tree of a run has more inodes than are allowed
+abbrev pub KeepsRunsWithinLimit : Type 0
+KeepsRunsWithinLimit = (limit : ℕ) (t : Tree) (requests : List Request) → IsWellFormed t → IsWithin limit t → IsWithin limit (tree_after_all limit t requests)
 
 -- a refusal leaves the tree as it was
 abbrev pub RefusalsAlterNothing : Type 0
 RefusalsAlterNothing = (limit : ℕ) (t : Tree) (request : Request) (number : ℕ) → reply_of limit t request ≡ Declined number → tree_after limit t request ≡ t
 
--- the numbers with which a resolution refuses: ENOENT, ENOTDIR, ELOOP
-abbrev pub is_walk_refusal : ℕ → Bool
-is_walk_refusal number = number == 2 || number == 20 || number == 40
+-- the refusals of a resolution
+abbrev pub walk_refusals : List Refusal
+walk_refusals = NotFound ∷ NotDirectory ∷ TooManyLinks ∷ []
 
--- by whoever tells
-abbrev pub WalksRefuseByThree : Type 0
-WalksRefuseByThree = (teller : Teller) (base : ℕ) (path : Path) (how : Follow) (number : ℕ) → walk teller base path how ≡ Some (Refused number) → IsTrue (is_walk_refusal number)
+-- whoever tells, a walk is refused by one of these
+abbrev pub WalksRefuseByTheList : Type 0
+WalksRefuseByTheList = (teller : Teller) (base : ℕ) (path : Path) (how : Follow) (refusal : Refusal) → walk teller base path how ≡ Some (Refused refusal) → Contains walk_refusals refusal
 
-abbrev pub PlacesRefuseByThree : Type 0
-PlacesRefuseByThree = (teller : Teller) (base : ℕ) (path : Path) (number : ℕ) → place teller base path ≡ Some (Not number) → IsTrue (is_walk_refusal number)
+-- and so is the place of a path
+abbrev pub PlacesRefuseByTheList : Type 0
+PlacesRefuseByTheList = (teller : Teller) (base : ℕ) (path : Path) (refusal : Refusal) → place teller base path ≡ Some (Not refusal) → Contains walk_refusals refusal
 
 -- an outcome stays the same where more is told
 abbrev pub WalksStay : Type 0
@@ -54,10 +62,19 @@ PlacesStay = (old new : Teller) → Extends old new → (base : ℕ) (path : Pat
 abbrev pub TouchesTheListed : Type 0
 TouchesTheListed = (limit : ℕ) (t : Tree) (request : Request) → IsWellFormed t → (key : Key) → Touches limit t request key ↔ Contains (keys_touched limit t request) key
 
--- which are four at most
-abbrev pub TouchesFourAtMost : Type 0
-TouchesFourAtMost = (limit : ℕ) (t : Tree) (request : Request) → length (keys_touched limit t request) ≤ 4
+-- each key is listed, or has the same fact after the call
+abbrev pub OthersStay : Type 0
+OthersStay = (limit : ℕ) (t : Tree) (request : Request) → IsWellFormed t → (key : Key)
+    → Contains (keys_touched limit t request) key ⊎ (fact_at (tree_after limit t request) key ≡ fact_at t key)
 
--- so a call alters a tree exactly where it touches some key
+-- few keys are listed
+abbrev pub TouchesFew : Type 0
+TouchesFew = (limit : ℕ) (t : Tree) (request : Request) → length (keys_touched limit t request) ≤ MOST_TOUCHED
+
+-- and no key twice
+abbrev pub TouchesEachOnce : Type 0
+TouchesEachOnce = (limit : ℕ) (t : Tree) (request : Request) → IsWellFormed t → AllPairs (λ key other. key ≢ other) (keys_touched limit t request)
+
+-- a call alters a tree exactly where some key is listed
 abbrev pub AltersWhereItTouches : Type 0
 AltersWhereItTouches = (limit : ℕ) (t : Tree) (request : Request) → IsWellFormed t → Alters limit t request ↔ keys_touched limit t request ≢ []

@@ -1,6 +1,11 @@
 -- What each call answers on a tree, and the tree that it leaves.
 use Rattle.std.specs.Prelude.{ℕ, zero, suc, List, Bool, true, false, not, ◌==◌, ◌&&◌, ◌||◌, nat_le, length, Option, Some, None, is_some, if◌then◌else◌, Result, Ok, Err}
+use Rattle.dc_names.specs.declared.refusal.Refusal.{Refusal}
+use Rattle.dc_names.specs.declared.refusal.Refusal.TheVariants.{NotPermitted, NotFound, Busy, Exists, NotDirectory, IsDirectory, Invalid, NoSpace, TooManyNames, NotEmpty}
+use Rattle.dc_plain.specs.declared.TheConstants.{MOST_NAMES}
 use Rattle.dc_names.specs.Bytes.{is_empty}
+use Rattle.dc_names.specs.Lasts.{name_or, name_or_each}
+use Rattle.dc_names.specs.Refusals.{refusal_number}
 use Rattle.dc_plain.specs.Facts.{Target}
 use Rattle.dc_plain.specs.Facts.Label.{Entry}
 use Rattle.dc_plain.specs.Resolution.{is_directory}
@@ -9,23 +14,23 @@ use Rattle.dc_plain.specs.Trees.Inode.{Directory, Regular, Symbolic}
 use Rattle.dc_plain.specs.Requests.{Request, Answer}
 use Rattle.dc_plain.specs.Requests.Request.{Look, Readlink, Stat, List_names, Mkdir, Create, Hard_link, Symlink, Unlink, Rmdir, Rename}
 use Rattle.dc_plain.specs.Requests.Answer.{Done, Nothing, Refused}
-use Rattle.dc_plain.specs.Refusals.{◌>>=◌, refuse, path_or_fault, place_on, where_on, name_or, name_or_each, present, is_full}
+use Rattle.dc_plain.specs.Refusals.{◌>>=◌, refuse, path_or_fault, place_on, where_on, present, is_full}
 use Rattle.dc_plain.specs.Reads.{look, readlink, stat, list_names}
 use Rattle.dc_plain.specs.Effects.{with_new, with_entry_for, without_entry, without_entry_alone, without_there}
 
 -- the answer with the tree that is left, or a refusal
 abbrev pub Change : Type 0
-Change = Result (Answer × Tree) ℕ
+Change = Result (Answer × Tree) Refusal
 
 -- a new inode of this kind, with its entry (mkdir, mknod, symlink)
 abbrev pub make : ℕ → Tree → ℕ → List ℕ → Bool → Inode → Change
 make limit t base text may_end_in_slash inode = do
   at ← where_on t base text
-  name ← name_or 17 at.last
-  free ← refuse (is_some (entry_of t at.directory (Entry name))) 17
-  ends ← refuse (at.slash && not may_end_in_slash) 2
-  room ← refuse (is_full limit t) 28
-  Ok (Done t.next, with_new t at.directory name inode)
+  name ← name_or Exists at.last
+  free ← refuse (is_some (entry_of t at.dir (Entry name))) Exists
+  ends ← refuse (at.slash && not may_end_in_slash) NotFound
+  room ← refuse (is_full limit t) NoSpace
+  Ok (Done t.next, with_new t at.dir name inode)
 
 -- a further name of an inode (link: without AT_SYMLINK_FOLLOW)
 abbrev pub link : Tree → ℕ → List ℕ → List ℕ → Change
@@ -34,35 +39,35 @@ link t base old new = do
   new_path ← path_or_fault new
   from ← place_on t base old_path
   to ← place_on t base new_path
-  old_name ← name_or 1 from.last
-  new_name ← name_or 17 to.last
-  inode ← present 2 (entry_of t from.directory (Entry old_name))
-  no_directory ← refuse (is_directory inode) 1
-  old_ends ← refuse from.slash 20
-  free ← refuse (is_some (entry_of t to.directory (Entry new_name))) 17
-  new_ends ← refuse to.slash 2
-  room ← refuse (nat_le 65000 (names_of t inode.0)) 31
-  Ok (Done inode.0, with_entry_for t to.directory new_name inode.0)
+  old_name ← name_or NotPermitted from.last
+  new_name ← name_or Exists to.last
+  inode ← present NotFound (entry_of t from.dir (Entry old_name))
+  no_directory ← refuse (is_directory inode) NotPermitted
+  old_ends ← refuse from.slash NotDirectory
+  free ← refuse (is_some (entry_of t to.dir (Entry new_name))) Exists
+  new_ends ← refuse to.slash NotFound
+  room ← refuse (nat_le MOST_NAMES (names_of t inode.0)) TooManyNames
+  Ok (Done inode.0, with_entry_for t to.dir new_name inode.0)
 
--- a name that is no directory's goes
+-- a name of a file or of a link goes
 abbrev pub unlink : Tree → ℕ → List ℕ → Change
 unlink t base text = do
   at ← where_on t base text
-  name ← name_or 1 at.last
-  inode ← present 2 (entry_of t at.directory (Entry name))
-  no_directory ← refuse (is_directory inode) 1
-  ends ← refuse at.slash 20
-  Ok (Nothing, without_entry t at.directory name inode.0)
+  name ← name_or NotPermitted at.last
+  inode ← present NotFound (entry_of t at.dir (Entry name))
+  no_directory ← refuse (is_directory inode) NotPermitted
+  ends ← refuse at.slash NotDirectory
+  Ok (Nothing, without_entry t at.dir name inode.0)
 
 -- an empty directory goes
 abbrev pub rmdir : Tree → ℕ → List ℕ → Change
 rmdir t base text = do
   at ← where_on t base text
-  name ← name_or_each 16 22 39 at.last
-  inode ← present 2 (entry_of t at.directory (Entry name))
-  directory ← refuse (not (is_directory inode)) 20
-  empty ← refuse (not (is_empty (names_in t inode.0))) 39
-  Ok (Nothing, without_entry t at.directory name inode.0)
+  name ← name_or_each Busy Invalid NotEmpty at.last
+  inode ← present NotFound (entry_of t at.dir (Entry name))
+  dir ← refuse (not (is_directory inode)) NotDirectory
+  empty ← refuse (not (is_empty (names_in t inode.0))) NotEmpty
+  Ok (Nothing, without_entry t at.dir name inode.0)
 
 -- going up from d one meets n, or doesn't come to the root within so many steps
 abbrev pub is_beneath : ℕ → Tree → ℕ → ℕ → Bool
@@ -70,11 +75,11 @@ is_beneath zero t d n = true
 is_beneath (suc steps) t d n = d == n || not (d == 1) && if_held (holder_of t d) (λ up. is_beneath steps t up n)
 
 -- what may stand at the new name
-abbrev pub replaceable : Tree → Target → Option Target → Result Bool ℕ
+abbrev pub replaceable : Tree → Target → Option Target → Result Bool Refusal
 replaceable t moved None = Ok true
 replaceable t moved (Some there) =
-    if is_directory moved then (if not (is_directory there) then Err 20 else refuse (not (is_empty (names_in t there.0))) 39)
-    else refuse (is_directory there) 21
+    if is_directory moved then (if not (is_directory there) then Err NotDirectory else refuse (not (is_empty (names_in t there.0))) NotEmpty)
+    else refuse (is_directory there) IsDirectory
 
 -- whether both names lead to one inode
 abbrev pub same_inode : Target → Option Target → Bool
@@ -88,15 +93,15 @@ rename t base old new = do
   new_path ← path_or_fault new
   from ← place_on t base old_path
   to ← place_on t base new_path
-  old_name ← name_or_each 16 22 22 from.last
-  new_name ← name_or_each 16 22 22 to.last
-  moved ← present 2 (entry_of t from.directory (Entry old_name))
-  ends ← refuse (not (is_directory moved) && (from.slash || to.slash)) 20
-  let there = entry_of t to.directory (Entry new_name)
+  old_name ← name_or_each Busy Invalid Invalid from.last
+  new_name ← name_or_each Busy Invalid Invalid to.last
+  moved ← present NotFound (entry_of t from.dir (Entry old_name))
+  ends ← refuse (not (is_directory moved) && (from.slash || to.slash)) NotDirectory
+  let there = entry_of t to.dir (Entry new_name)
   if same_inode moved there then Ok (Nothing, t) else do
-    apart ← refuse (is_directory moved && is_beneath (length t.inodes) t to.directory moved.0) 22
+    apart ← refuse (is_directory moved && is_beneath (length t.inodes) t to.dir moved.0) Invalid
     may ← replaceable t moved there
-    Ok (Nothing, with_entry_for (without_entry_alone (without_there t to.directory new_name there) from.directory old_name) to.directory new_name moved.0)
+    Ok (Nothing, with_entry_for (without_entry_alone (without_there t to.dir new_name there) from.dir old_name) to.dir new_name moved.0)
 
 -- a link whose text has a path
 abbrev pub symlink : ℕ → Tree → ℕ → List ℕ → List ℕ → Change
@@ -105,7 +110,7 @@ symlink limit t base text path = do
   make limit t base path false (Symbolic text)
 
 -- a read, which leaves the tree as it is
-abbrev pub left_alone : Tree → Result Answer ℕ → Change
+abbrev pub left_alone : Tree → Result Answer Refusal → Change
 left_alone t answered = answered >>= λ answer. Ok (answer, t)
 
 -- by the request
@@ -122,10 +127,10 @@ change_of limit t (Unlink base path) = unlink t base path
 change_of limit t (Rmdir base path) = rmdir t base path
 change_of limit t (Rename base old new) = rename t base old new
 
--- a refusal leaves the tree as it was
+-- a refusal is told by its number, and leaves the tree as it was
 abbrev pub settled : Tree → Change → Answer × Tree
 settled t (Ok done) = done
-settled t (Err number) = (Refused number, t)
+settled t (Err refusal) = (Refused (refusal_number refusal), t)
 
 -- what a call answers with so many inodes allowed, and the tree after it
 abbrev pub operation : ℕ → Tree → Request → Answer × Tree

@@ -4,10 +4,10 @@ use Rattle.dc_plain.specs.declared.plan.New as rust_new
 use Rattle.dc_plain.specs.declared.plan.New.TheVariants as news
 use Rattle.dc_plain.specs.declared.plan.Change as rust_change
 use Rattle.dc_plain.specs.declared.plan.Change.TheVariants as changes
-use Rattle.dc_plain.specs.declared.plan.Spot as rust_spot
 use Rattle.dc_plain.specs.declared.plan.Plan as rust_plan
 use Rattle.dc_plain.specs.declared.plan.Plan.TheVariants as plans
 use Rattle.dc_plain.specs.Facts.{Target}
+use Rattle.dc_plain.specs.Spots.{spot_shown}
 use Rattle.dc_plain.specs.Trees.{Tree, Spot, Inode, entry_number}
 use Rattle.dc_plain.specs.Trees.Inode.{Directory, Regular, Symbolic}
 use Rattle.dc_plain.specs.Requests.{Request, Answer, answer_of}
@@ -20,22 +20,19 @@ new_shown news.Directory = Directory
 new_shown news.File = Regular
 new_shown (news.Link text) = Symbolic text.bytes.now
 
-abbrev pub spot_shown : rust_spot.Spot → Spot
-spot_shown s = record { directory = s.directory; name = s.name.bytes.now }
-
 -- without what stood at the new name, and without the old name
 abbrev pub without_moved : Tree → Spot → Spot → Option Target → Tree
-without_moved t from to there = without_entry_alone (without_there t to.directory to.name there) from.directory from.name
+without_moved t from to there = without_entry_alone (without_there t to.dir to.name there) from.dir from.name
 
 -- and with the inode at the new name
 abbrev pub with_moved : Tree → Target → Spot → Spot → Option Target → Tree
-with_moved t moved from to there = with_entry_for (without_moved t from to there) to.directory to.name moved.0
+with_moved t moved from to there = with_entry_for (without_moved t from to there) to.dir to.name moved.0
 
 -- what a change answers, and the tree that it makes
 abbrev pub changed : Tree → rust_change.Change → Answer × Tree
-changed t (changes.Make spot new) = (Done t.next, with_new t spot.directory spot.name.bytes.now (new_shown new))
-changed t (changes.Link spot number) = (Done number, with_entry_for t spot.directory spot.name.bytes.now number)
-changed t (changes.Drop spot number) = (Nothing, without_entry t spot.directory spot.name.bytes.now number)
+changed t (changes.Make spot new) = (Done t.next, with_new t spot.dir spot.name.bytes.now (new_shown new))
+changed t (changes.Link spot number) = (Done number, with_entry_for t spot.dir spot.name.bytes.now number)
+changed t (changes.Drop spot number) = (Nothing, without_entry t spot.dir spot.name.bytes.now number)
 changed t (changes.Move moved from to there) = (Nothing, with_moved t moved (spot_shown from) (spot_shown to) there)
 
 abbrev pub planned : Tree → rust_plan.Plan → Answer × Tree
@@ -45,7 +42,7 @@ planned t (plans.Change change) = changed t change
 -- where an entry was found to lead
 abbrev pub LeadsTo : Tree → ℕ → List ℕ → Option Target → Type 0
 LeadsTo t d name there =
-    let target = entry_number t (record { directory = d; name = name }) in
+    let target = entry_number t (record { dir = d; name = name }) in
     MatchOption there (target ≡ None) (λ place. target ≡ Some place.0)
 
 -- where the names of a change lead before it
@@ -53,7 +50,7 @@ abbrev pub HasSpots : Tree → rust_change.Change → Type 0
 HasSpots t (changes.Make spot new) = entry_number t (spot_shown spot) ≡ None
 HasSpots t (changes.Link spot number) = entry_number t (spot_shown spot) ≡ None
 HasSpots t (changes.Drop spot number) = entry_number t (spot_shown spot) ≡ Some number
-HasSpots t (changes.Move moved from to there) = LeadsTo t to.directory to.name.bytes.now there × (same_inode moved there ≡ false)
+HasSpots t (changes.Move moved from to there) = LeadsTo t to.dir to.name.bytes.now there × (same_inode moved there ≡ false)
 
 abbrev pub HasSpotsIfChange : Tree → rust_plan.Plan → Type 0
 HasSpotsIfChange t (plans.Answer reply) = Unit {0}

@@ -25,7 +25,7 @@ abbrev pub tree_after_all : ℕ → Tree → List Request → Tree
 tree_after_all limit t [] = t
 tree_after_all limit t (request ∷ requests) = tree_after_all limit (tree_after limit t request) requests
 
--- the call makes another tree
+-- the tree differs after the call
 abbrev pub Alters : ℕ → Tree → Request → Type 0
 Alters limit t request = tree_after limit t request ≢ t
 
@@ -36,14 +36,14 @@ same_inode (Symbolic a) (Symbolic b) = same_bytes a b
 same_inode _ _ = false
 
 abbrev pub same_spot : Spot → Spot → Bool
-same_spot a b = a.directory == b.directory && same_bytes a.name b.name
+same_spot a b = a.dir == b.dir && same_bytes a.name b.name
 
 -- whether two trees are one
 abbrev pub same_tree : Tree → Tree → Bool
 same_tree t u = pointwise (λ a b. same_spot a.0 b.0 && a.1 == b.1) t.entries u.entries
     && pointwise (λ a b. a.0 == b.0 && same_inode a.1 b.1) t.inodes u.inodes && t.next == u.next
 
--- whether a call makes another tree
+-- whether the tree differs after the call
 abbrev pub alters : ℕ → Tree → Request → Bool
 alters limit t request = not (same_tree (tree_after limit t request) t)
 
@@ -51,6 +51,6 @@ alters limit t request = not (same_tree (tree_after limit t request) t)
 abbrev pub clock_after : ℕ → Tree → Request → ℕ → ℕ
 clock_after limit t request clock = if alters limit t request then clock + 1 else clock
 
--- the call makes another fact of the key
+-- the fact under this key differs after the call
 abbrev pub Touches : ℕ → Tree → Request → Key → Type 0
 Touches limit t request key = fact_at (tree_after limit t request) key ≢ fact_at t key

@@ -1,11 +1,14 @@
 -- The keys whose facts a change alters: those of the names, and those of inodes that come, go or move.
 use Rattle.std.specs.Prelude.{ℕ, List, [], ◌∷◌, ◌++◌, Bool, false, not, ◌==◌, ◌&&◌, Option, Some, None, Result, Ok, Err, if◌then◌else◌}
+use Rattle.dc_names.specs.declared.refusal.Refusal.{Refusal}
 use Rattle.dc_plain.specs.Facts.{Key}
 use Rattle.dc_plain.specs.Facts.Label.{Entry, Parent, Text}
-use Rattle.dc_plain.specs.Trees.{Tree, Inode, inode_of, entry_number, names_of, is_live_directory}
-use Rattle.dc_plain.specs.Trees.Inode.{Directory, Regular, Symbolic}
-use Rattle.dc_plain.specs.Places.{Where, Last}
-use Rattle.dc_plain.specs.Places.Last.{Root, Dot, DotDot, Name}
+use Rattle.dc_names.specs.Lasts.{Last}
+use Rattle.dc_names.specs.Lasts.Last.{Root, Dot, DotDot, Name}
+use Rattle.dc_names.specs.declared.kind.Kind.{Kind}
+use Rattle.dc_names.specs.declared.kind.Kind.TheVariants.{Dir, File, Link}
+use Rattle.dc_plain.specs.Trees.{Tree, Spot, Inode, inode_of, entry_number, kind_of, names_of, is_live_directory}
+use Rattle.dc_plain.specs.Places.{Where}
 use Rattle.dc_plain.specs.Refusals.{where_on}
 use Rattle.dc_plain.specs.Requests.{Request}
 use Rattle.dc_plain.specs.Requests.Request.{Look, Readlink, Stat, List_names, Mkdir, Create, Hard_link, Symlink, Unlink, Rmdir, Rename}
@@ -20,15 +23,18 @@ parent_key n = record { number = n; label = Parent }
 abbrev pub text_key : ℕ → Key
 text_key n = record { number = n; label = Text }
 
+abbrev pub spot_key : Spot → Key
+spot_key spot = entry_key spot.dir spot.name
+
 -- the key that an inode has of its own: a directory its dot-dot, a link its text
-abbrev pub own_keys : ℕ → Inode → List Key
-own_keys n Directory = parent_key n ∷ []
-own_keys n Regular = []
-own_keys n (Symbolic text) = text_key n ∷ []
+abbrev pub own_keys : ℕ → Kind → List Key
+own_keys n Dir = parent_key n ∷ []
+own_keys n File = []
+own_keys n Link = text_key n ∷ []
 
 abbrev pub keys_at : ℕ → Option Inode → List Key
 keys_at n None = []
-keys_at n (Some inode) = own_keys n inode
+keys_at n (Some inode) = own_keys n (kind_of inode)
 
 -- of an inode that goes with its last name
 abbrev pub keys_gone : Tree → ℕ → List Key
@@ -40,7 +46,7 @@ with_number None keys = []
 with_number (Some n) keys = keys n
 
 abbrev pub keys_taken : Tree → ℕ → List ℕ → List Key
-keys_taken t d name = with_number (entry_number t (record { directory = d; name = name })) (keys_gone t)
+keys_taken t d name = with_number (entry_number t (record { dir = d; name = name })) (keys_gone t)
 
 -- the dot-dot of a directory that gets another parent
 abbrev pub keys_moved : Tree → ℕ → ℕ → ℕ → List Key
@@ -53,9 +59,9 @@ lead_to_one _ _ = false
 -- both names, the moved directory's dot-dot, and what goes
 abbrev pub keys_renamed : Tree → ℕ → List ℕ → ℕ → List ℕ → List Key
 keys_renamed t from old to new =
-    if lead_to_one (entry_number t (record { directory = from; name = old })) (entry_number t (record { directory = to; name = new })) then []
+    if lead_to_one (entry_number t (record { dir = from; name = old })) (entry_number t (record { dir = to; name = new })) then []
     else entry_key from old ∷ entry_key to new
-    ∷ with_number (entry_number t (record { directory = from; name = old })) (keys_moved t from to) ++ keys_taken t to new
+    ∷ with_number (entry_number t (record { dir = from; name = old })) (keys_moved t from to) ++ keys_taken t to new
 
 -- by the directory and the name in which a path ends
 abbrev pub by_last : Last → (List ℕ → List Key) → List Key
@@ -64,9 +70,9 @@ by_last Root keys = []
 by_last Dot keys = []
 by_last DotDot keys = []
 
-abbrev pub by_place : Result Where ℕ → (ℕ → List ℕ → List Key) → List Key
-by_place (Ok at) keys = by_last at.last (keys at.directory)
-by_place (Err number) keys = []
+abbrev pub by_place : Result Where Refusal → (ℕ → List ℕ → List Key) → List Key
+by_place (Ok at) keys = by_last at.last (keys at.dir)
+by_place (Err refusal) keys = []
 
 abbrev pub at_name : Tree → ℕ → List ℕ → (ℕ → List ℕ → List Key) → List Key
 at_name t base text keys = by_place (where_on t base text) keys
@@ -77,17 +83,17 @@ listed t (Look base path how) = []
 listed t (Readlink base path) = []
 listed t (Stat base path) = []
 listed t (List_names base path) = []
-listed t (Mkdir base path) = at_name t base path (λ d name. entry_key d name ∷ own_keys t.next Directory)
-listed t (Create base path) = at_name t base path (λ d name. entry_key d name ∷ own_keys t.next Regular)
+listed t (Mkdir base path) = at_name t base path (λ d name. entry_key d name ∷ own_keys t.next Dir)
+listed t (Create base path) = at_name t base path (λ d name. entry_key d name ∷ own_keys t.next File)
 listed t (Hard_link base old new) = at_name t base new (λ d name. entry_key d name ∷ [])
-listed t (Symlink base text path) = at_name t base path (λ d name. entry_key d name ∷ own_keys t.next (Symbolic text))
+listed t (Symlink base text path) = at_name t base path (λ d name. entry_key d name ∷ own_keys t.next Link)
 listed t (Unlink base path) = at_name t base path (λ d name. entry_key d name ∷ keys_taken t d name)
 listed t (Rmdir base path) = at_name t base path (λ d name. entry_key d name ∷ keys_taken t d name)
 listed t (Rename base old new) = at_name t base old (λ from a. at_name t base new (λ to b. keys_renamed t from a to b))
 
 abbrev pub unless_refused : Change → List Key → List Key
 unless_refused (Ok done) keys = keys
-unless_refused (Err number) keys = []
+unless_refused (Err refusal) keys = []
 
 abbrev pub keys_touched : ℕ → Tree → Request → List Key
 keys_touched limit t request = unless_refused (change_of limit t request) (listed t request)

@@ -25,12 +25,12 @@ kind_of (Symbolic text) = Link
 
 -- a directory's number and a name in it
 pub record Spot : Type 0 where
-  pub directory : ℕ
+  pub dir : ℕ
   pub name : List ℕ
 
 -- by the directory, and then by the name's bytes
 abbrev pub spot_cmp : Spot → Spot → Ordering
-spot_cmp a b = ordering_then (nat_cmp a.directory b.directory) (slice_cmp nat_cmp a.name b.name)
+spot_cmp a b = ordering_then (nat_cmp a.dir b.dir) (slice_cmp nat_cmp a.name b.name)
 
 -- the entries by their spots, in order, and the inodes by their numbers, in order
 pub record Tree : Type 0 where
@@ -69,11 +69,11 @@ is_live_directory t n = is_directory_inode (inode_of t n)
 
 -- the directory that has an entry for n
 abbrev pub holder_of : Tree → ℕ → Option ℕ
-holder_of t n = option_map (λ e. e.0.directory) (find (λ e. e.1 == n) t.entries)
+holder_of t n = option_map (λ e. e.0.dir) (find (λ e. e.1 == n) t.entries)
 
 -- where an entry or a dot-dot leads
 abbrev pub entry_of : Tree → ℕ → Label → Option Target
-entry_of t d (Entry name) = option_and_then (target_at t) (entry_number t (record { directory = d; name = name }))
+entry_of t d (Entry name) = option_and_then (target_at t) (entry_number t (record { dir = d; name = name }))
 entry_of t d Parent =
     if not (is_live_directory t d) then None
     else if d == 1 then Some root
@@ -120,7 +120,7 @@ names_of t n = how_many (λ e. e.1 == n) t.entries
 
 -- the names in a directory, by their bytes
 abbrev pub names_in : Tree → ℕ → List (List ℕ)
-names_in t d = map (λ e. e.0.name) (filter (λ e. e.0.directory == d) t.entries)
+names_in t d = map (λ e. e.0.name) (filter (λ e. e.0.dir == d) t.entries)
 
 -- a test of the directory that was found
 abbrev pub if_held : Option ℕ → (ℕ → Bool) → Bool

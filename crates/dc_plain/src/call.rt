@@ -1,3 +1,8 @@
+//! Calls and replies.
+
+ghost use Rattle.std.specs.Prelude.{◌≡◌};
+ghost use Rattle.dc_plain.specs.Requests.{request_of, sort_of};
+
 use dc_names::Kind;
 
 /// What becomes of a link that a path ends in.
@@ -13,7 +18,7 @@ pub enum Follow {
 
 /// A call on a tree. `base` is the number of the directory that a relative path starts from, and
 /// paths come as the bytes that the caller gave.
-#[derive(Clone, Copy)]
+#[derive(Clone, Copy, Debug, PartialEq, Eq)]
 pub enum Call<'a> {
     /// Where a path leads (POSIX.1-2017 XBD 4.13).
     Look {
@@ -74,6 +79,37 @@ pub enum Call<'a> {
         old: &'a [u8],
         new: &'a [u8],
     },
+}
+
+/// How a call is answered.
+#[derive(Clone, Copy, Debug, PartialEq, Eq)]
+pub enum Sort {
+    /// A change, which may alter the tree.
+    Change,
+    /// A look-up or a count, whose answer takes no memory.
+    Sought,
+    /// A text or a list of names, whose answer takes memory.
+    Told,
+}
+
+impl Call<'_> {
+    /// How the call is answered.
+    #[must_use]
+    pub fn sort(&self) -> Sort
+        ensures { result ≡ sort_of (request_of self.now) }
+    {
+        match self {
+            Call::Look { .. } | Call::Stat { .. } => Sort::Sought,
+            Call::Readlink { .. } | Call::List { .. } => Sort::Told,
+            Call::Mkdir { .. }
+            | Call::Create { .. }
+            | Call::Link { .. }
+            | Call::Symlink { .. }
+            | Call::Unlink { .. }
+            | Call::Rmdir { .. }
+            | Call::Rename { .. } => Sort::Change,
+        }
+    }
 }
 
 /// What a call is answered.

@@ -1,15 +1,17 @@
+//! Changes carried out on the rows.
+
 ghost use Rattle.std.specs.Prelude.{◌≡◌, ◌≤◌, ℕ, IfOk, OnOk, OnErr, vec_len, vec_capacity};
 ghost use Rattle.dc_plain.specs.Effects.{without_entry};
 ghost use Rattle.dc_plain.specs.Plain.{node_shown, tree_in};
-ghost use Rattle.dc_plain.specs.Plans.{new_shown, spot_shown, changed, without_moved, HasSpots, IsMade};
+ghost use Rattle.dc_plain.specs.Spots.{spot_shown};
+ghost use Rattle.dc_plain.specs.Plans.{new_shown, changed, without_moved, HasSpots, IsMade};
 ghost use Rattle.dc_plain.specs.Requests.{answer_of};
 
 use crate::counts::leading_to;
-use crate::plan::{Change, New, Spot};
-use crate::resolve::Target;
+use crate::plan::{Change, New};
 use crate::rows::{Entry, Inode, Node, insert_entry, insert_inode, remove_entry, remove_inode};
-use crate::{PlainTree, Reply};
-use dc_names::NoMemory;
+use crate::{PlainTree, Reply, Spot, Target};
+use dc_names::{NoMemory, parts_are_names_or_dots};
 use std::alloc::Global;
 
 impl New<'_> {
@@ -68,11 +70,14 @@ impl PlainTree {
         ensures err { OnErr result (self.new ≡ self.old) }
         ensures limit { self.new.limit ≡ self.old.limit }
     {
+        parts_are_names_or_dots();
         let number = self.next;
         let name = Vec::from_slice(alloc, spot.name.bytes())?;
         let node = new.node(alloc)?;
+        // An entry whose inode found no room would lead nowhere: so the room is taken before the entry
+        // goes in, and the inode's own step cannot fail.
         self.inodes.reserve(1)?;
-        insert_entry(&mut self.entries, spot.directory, name, number)?;
+        insert_entry(&mut self.entries, spot.dir, name, number)?;
         insert_inode(&mut self.inodes, number, node).unwrap();
         self.next += 1;
         Ok(number)
@@ -88,8 +93,9 @@ impl PlainTree {
         ensures err { OnErr result (self.new ≡ self.old) }
         ensures limit { self.new.limit ≡ self.old.limit }
     {
+        parts_are_names_or_dots();
         let name = Vec::from_slice(alloc, spot.name.bytes())?;
-        insert_entry(&mut self.entries, spot.directory, name, number)?;
+        insert_entry(&mut self.entries, spot.dir, name, number)?;
         Ok(())
     }
 
@@ -100,10 +106,11 @@ impl PlainTree {
         ensures tree { self.new.tree ≡ (changed self.old.tree (Change.Drop spot.entry number)).1 }
         ensures limit { self.new.limit ≡ self.old.limit }
     {
+        parts_are_names_or_dots();
         take_name(&mut self.entries, &mut self.inodes, spot, number);
     }
 
-    /// Moves an inode from one name to another. The room for it is made first; nothing fails then.
+    /// Moves an inode from one name to another, over what was found there.
     fn relocate(
         &mut self,
         alloc: Global,
@@ -120,10 +127,13 @@ impl PlainTree {
         ensures err { OnErr result (self.new ≡ self.old) }
         ensures limit { self.new.limit ≡ self.old.limit }
     {
+        parts_are_names_or_dots();
         let name = Vec::from_slice(alloc, to.name.bytes())?;
+        // A move that failed half way would have lost the old name: so the room for the new one is
+        // taken first, and nothing fails after the old one went.
         self.entries.reserve(1)?;
         make_way(&mut self.entries, &mut self.inodes, from, to, there);
-        insert_entry(&mut self.entries, to.directory, name, moved.0).unwrap();
+        insert_entry(&mut self.entries, to.dir, name, moved.0).unwrap();
         Ok(())
     }
 }
@@ -132,11 +142,11 @@ impl PlainTree {
 fn take_name(entries: &mut Vec<Entry>, inodes: &mut Vec<Inode>, spot: Spot, number: u64)
     ensures rows { (next : ℕ) → tree_in entries.new.items inodes.new.items next
         ≡ without_entry (tree_in entries.old.items inodes.old.items next)
-        spot.entry.directory spot.entry.name.bytes.now number }
+        spot.entry.dir spot.entry.name.bytes.now number }
     ensures bound { vec_len entries.new ≤ vec_len entries.old }
     ensures capacity { vec_capacity entries.new ≡ vec_capacity entries.old }
 {
-    remove_entry(entries, spot.directory, spot.name.bytes());
+    remove_entry(entries, spot.dir, spot.name.bytes());
     if leading_to(entries, number) == 0 {
         remove_inode(inodes, number);
     }
@@ -159,5 +169,5 @@ fn make_way(
     if let Some((number, _)) = there {
         take_name(entries, inodes, to, number);
     }
-    remove_entry(entries, from.directory, from.name.bytes());
+    remove_entry(entries, from.dir, from.name.bytes());
 }

@@ -6,9 +6,8 @@ ghost use Rattle.dc_plain.specs.Reads.{count_at};
 ghost use Rattle.dc_plain.specs.Plain.{entry_shown};
 ghost use Rattle.dc_plain.specs.Trees.{how_many, names_in as names_within, names_of as names_of_inode};
 
-use crate::PlainTree;
-use crate::resolve::{Target, is_directory};
 use crate::rows::Entry;
+use crate::{PlainTree, Target, is_directory};
 use dc_names::NoMemory;
 use std::alloc::Global;
 
@@ -23,25 +22,22 @@ pub(crate) fn leading_to(entries: &[Entry], number: u64) -> usize
 }
 
 /// How many entries stand in a directory.
-fn standing_in(entries: &[Entry], directory: u64) -> usize
+fn standing_in(entries: &[Entry], dir: u64) -> usize
     ensures { result
-        ≡ length (filter (λ e. e.0.directory == directory) (map entry_shown entries.now)) }
+        ≡ length (filter (λ e. e.0.dir == dir) (map entry_shown entries.now)) }
 {
-    entries
-        .iter()
-        .filter(|entry| entry.directory == directory)
-        .count()
+    entries.iter().filter(|entry| entry.dir == dir).count()
 }
 
 /// The names in a directory, by their bytes.
-fn names_in(alloc: Global, entries: &[Entry], directory: u64) -> Result<Vec<Vec<u8>>, NoMemory>
+fn names_in(alloc: Global, entries: &[Entry], dir: u64) -> Result<Vec<Vec<u8>>, NoMemory>
     ensures { IfOk result (λ names. map (λ name. name.items) names.items
         ≡ map (λ e. e.0.name)
-        (filter (λ e. e.0.directory == directory) (map entry_shown entries.now))) }
+        (filter (λ e. e.0.dir == dir) (map entry_shown entries.now))) }
 {
     let mut names = Vec::new(alloc);
     for entry in entries {
-        if entry.directory == directory {
+        if entry.dir == dir {
             names.push(entry.name.to_vec(alloc)?)?;
         }
     }
@@ -57,28 +53,28 @@ impl PlainTree {
     }
 
     /// Whether a directory has no entry.
-    pub(crate) fn is_empty(&self, directory: u64) -> bool
-        ensures { result ≡ is_empty (names_within self.now.tree directory) }
+    pub(crate) fn is_empty(&self, dir: u64) -> bool
+        ensures { result ≡ is_empty (names_within self.now.tree dir) }
     {
-        standing_in(&self.entries, directory) == 0
+        standing_in(&self.entries, dir) == 0
     }
 
     /// How many names an inode has, or how many entries as a directory.
-    pub(crate) fn count_at(&self, place: Target) -> u64
-        ensures { result ≡ count_at self.now.tree place }
+    pub(crate) fn count_at(&self, target: Target) -> u64
+        ensures { result ≡ count_at self.now.tree target }
     {
-        if is_directory(place) {
-            standing_in(&self.entries, place.0) as u64
+        if is_directory(target) {
+            standing_in(&self.entries, target.0) as u64
         } else {
-            self.names_of(place.0)
+            self.names_of(target.0)
         }
     }
 
     /// The names in a directory, by their bytes.
-    pub(crate) fn names_in(&self, alloc: Global, directory: u64) -> Result<Vec<Vec<u8>>, NoMemory>
+    pub(crate) fn names_in(&self, alloc: Global, dir: u64) -> Result<Vec<Vec<u8>>, NoMemory>
         ensures { IfOk result (λ names.
-            map (λ name. name.items) names.items ≡ names_within self.now.tree directory) }
+            map (λ name. name.items) names.items ≡ names_within self.now.tree dir) }
     {
-        names_in(alloc, &self.entries, directory)
+        names_in(alloc, &self.entries, dir)
     }
 }

@@ -6,23 +6,59 @@ mod call;
 mod carry;
 mod changes;
 mod counts;
+mod fact;
+#[cfg(test)]
+mod fact_tests;
+mod failure;
+mod holding;
 mod key;
 mod laws;
+mod own_call;
 mod place;
 mod plain;
 mod plan;
 mod reads;
+mod refusals;
 mod renames;
 mod resolve;
 mod rows;
-mod stop;
+mod spot;
+mod target;
 #[cfg(test)]
 mod tests;
+mod told;
 
-pub use call::{Call, Follow, Reply, Stamped};
+pub use call::{Call, Follow, Reply, Sort, Stamped};
+pub use fact::{Fact, answer};
 pub use key::{Key, Label};
 pub use laws::{
-    calls_touch_the_listed_keys, opening_tree_is_well_formed, operations_keep_trees_well_formed,
-    refusals_alter_nothing, resolution_refuses_with_few_numbers, resolution_stays_as_more_is_told,
+    alters_tells_whether_trees_differ, answers_from_true_facts_are_replies,
+    calls_touch_the_listed_keys, directories_have_one_holder, effects_change_what_they_name,
+    effects_keep_trees_well_formed, names_in_directories_are_in_order, names_lead_to_the_living,
+    opening_tree_is_well_formed, operations_keep_trees_well_formed, paths_lead_to_the_living,
+    refusals_alter_nothing, resolution_refuses_by_a_list, resolution_stays_as_more_is_told,
+    same_tree_tells_whether_trees_are_one, untouched_facts_stay,
 };
+pub use own_call::OwnCall;
 pub use plain::PlainTree;
+pub use refusals::{present, refuse};
+pub use spot::{Spot, Where};
+pub use target::{ROOT, Target, is_directory};
+
+/// The most links that one resolution follows: at least _POSIX_SYMLOOP_MAX.
+pub const MOST_LINKS: u64 = 8;
+
+/// The most names that a file or a link has.
+pub const MOST_NAMES: u64 = 65_000;
+
+/// The most inodes that a tree may be allowed.
+pub const MOST_INODES: u64 = 1_048_576;
+
+/// Every inode has a number below this one.
+pub const NUMBER_LIMIT: u64 = 1 << 63;
+
+/// The most keys that one call touches.
+pub const MOST_TOUCHED: usize = 4;
+
+/// The most that a clock, a pin's count or a sequence count comes to.
+pub const MOST_COUNT: u64 = 1 << 62;

@@ -1,13 +1,14 @@
+//! What a call is found to answer or to change.
+
 ghost use Rattle.std.specs.Prelude.{IfOk};
 ghost use Rattle.dc_plain.specs.Operations.{change_of};
 ghost use Rattle.dc_plain.specs.Plans.{planned, HasSpotsIfChange};
 ghost use Rattle.dc_plain.specs.Requests.{request_of};
-ghost use Rattle.dc_plain.specs.Stops.{Finds};
+ghost use Rattle.dc_plain.specs.Failures.{Finds};
 
-use crate::resolve::Target;
-use crate::stop::Stop;
-use crate::{Call, PlainTree, Reply};
-use dc_names::{Name, PathText};
+use crate::failure::Failure;
+use crate::{Call, PlainTree, Reply, Spot, Target};
+use dc_names::PathText;
 use std::alloc::Global;
 
 /// An inode that is to be made.
@@ -16,13 +17,6 @@ pub(crate) enum New<'a> {
     Directory,
     File,
     Link(PathText<'a>),
-}
-
-/// A name in a directory.
-#[derive(Clone, Copy)]
-pub(crate) struct Spot<'a> {
-    pub directory: u64,
-    pub name: Name<'a>,
 }
 
 /// What is to become of the tree.
@@ -52,7 +46,7 @@ pub(crate) enum Plan<'a> {
 
 impl PlainTree {
     /// What a call answers or changes.
-    pub(crate) fn plan<'c>(&self, alloc: Global, call: &Call<'c>) -> Result<Plan<'c>, Stop>
+    pub(crate) fn plan<'c>(&self, alloc: Global, call: &Call<'c>) -> Result<Plan<'c>, Failure>
         ensures found { Finds result (planned self.now.tree)
             (change_of self.now.limit self.now.tree (request_of call.now)) }
         ensures spots { IfOk result (HasSpotsIfChange self.now.tree) }

@@ -3,13 +3,13 @@
 ghost use Rattle.std.specs.Prelude.{◌≡◌, length, true, IfOk};
 ghost use Rattle.dc_plain.specs.Operations.{is_beneath, rename, replaceable, same_inode};
 ghost use Rattle.dc_plain.specs.Plans.{planned, HasSpotsIfChange};
-ghost use Rattle.dc_plain.specs.Stops.{Finds};
+ghost use Rattle.dc_plain.specs.Failures.{Finds};
 
-use crate::place::checked;
+use crate::failure::Failure;
+use crate::place::path_of;
 use crate::plan::{Change, Plan};
-use crate::resolve::{Target, is_directory};
-use crate::stop::{Stop, present, refuse};
-use crate::{PlainTree, Reply};
+use crate::{PlainTree, Reply, Target, is_directory, present, refuse};
+use dc_names::Refusal;
 use std::alloc::Global;
 
 impl PlainTree {
@@ -20,27 +20,32 @@ impl PlainTree {
         base: u64,
         old: &'c [u8],
         new: &'c [u8],
-    ) -> Result<Plan<'c>, Stop>
+    ) -> Result<Plan<'c>, Failure>
         ensures found { Finds result (planned self.now.tree)
             (rename self.now.tree base old.now new.now) }
         ensures spots { IfOk result (HasSpotsIfChange self.now.tree) }
     {
-        let old = checked(old)?;
-        let new = checked(new)?;
-        let from = self.place(alloc, base, old)?;
-        let to = self.place(alloc, base, new)?;
-        let old = from.last.name_or_each(16, 22, 22)?;
-        let new = to.last.name_or_each(16, 22, 22)?;
-        let moved = present(self.entry(from.directory, old.bytes()), 2)?;
-        refuse(!is_directory(moved) && (from.slash || to.slash), 20)?;
-        let there = self.entry(to.directory, new.bytes());
+        let old = path_of(old)?;
+        let new = path_of(new)?;
+        let from = self.place_on(alloc, base, old)?;
+        let to = self.place_on(alloc, base, new)?;
+        let old = from
+            .last
+            .name_or_each(Refusal::Busy, Refusal::Invalid, Refusal::Invalid)?;
+        let new = to
+            .last
+            .name_or_each(Refusal::Busy, Refusal::Invalid, Refusal::Invalid)?;
+        let moved = present(self.entry(from.dir, old.bytes()), Refusal::NotFound)?;
+        refuse(
+            !is_directory(moved) && (from.slash || to.slash),
+            Refusal::NotDirectory,
+        )?;
+        let there = self.entry(to.dir, new.bytes());
         if same_inode(moved, there) {
             return Ok(Plan::Answer(Reply::Unit));
         }
-        refuse(
-            is_directory(moved) && self.is_beneath(to.directory, moved.0),
-            22,
-        )?;
+        let moves_beneath = is_directory(moved) && self.is_beneath(to.dir, moved.0);
+        refuse(moves_beneath, Refusal::Invalid)?;
         self.replaceable(moved, there)?;
         Ok(Plan::Change(Change::Move {
             moved,
@@ -52,11 +57,11 @@ impl PlainTree {
 
     /// Whether going up from a directory one meets an inode, or doesn't come to the root.
     #[tactic(auto, using(crate::proofs::Climbs::climbs))]
-    fn is_beneath(&self, directory: u64, number: u64) -> bool
+    fn is_beneath(&self, dir: u64, number: u64) -> bool
         ensures { result
-            ≡ is_beneath (length self.now.tree.inodes) self.now.tree directory number }
+            ≡ is_beneath (length self.now.tree.inodes) self.now.tree dir number }
     {
-        let mut at = directory;
+        let mut at = dir;
         let mut left = self.inodes.len();
         'climb: while left > 0 {
             if at == number {
@@ -75,17 +80,19 @@ impl PlainTree {
     }
 
     /// Tests what stands at the new name.
-    fn replaceable(&self, moved: Target, there: Option<Target>) -> Result<(), Stop>
+    fn replaceable(&self, moved: Target, there: Option<Target>) -> Result<(), Failure>
         ensures { Finds result (λ _. true) (replaceable self.now.tree moved there) }
     {
         let Some(there) = there else {
             return Ok(());
         };
         if !is_directory(moved) {
-            return refuse(is_directory(there), 21);
+            refuse(is_directory(there), Refusal::IsDirectory)?;
+            return Ok(());
         }
-        refuse(!is_directory(there), 20)?;
-        refuse(!self.is_empty(there.0), 39)
+        refuse(!is_directory(there), Refusal::NotDirectory)?;
+        refuse(!self.is_empty(there.0), Refusal::NotEmpty)?;
+        Ok(())
     }
 }
 

@@ -1,29 +1,27 @@
-ghost use Rattle.std.specs.Prelude.{◌≡◌, ℕ, List, Bool, Option, Some, map, not, ◌&&◌, ◌||◌, if◌then◌else◌, ◌++◌, IfOk, OnOk};
+//! Where parts lead, one after the other, and links with them.
+
+ghost use Rattle.std.specs.Prelude.{◌≡◌, ℕ, List, Bool, Option, Some, map, option_map, not, ◌&&◌, ◌||◌, if◌then◌else◌, ◌++◌, IfOk, OnOk};
 ghost use Rattle.dc_names.specs.Names.{part_shown};
 ghost use Rattle.dc_names.specs.Paths.{Part as SpecPart, parts_of, has_end_slash, begins_with_slash};
 ghost use Rattle.dc_plain.specs.Facts.{Target as SpecTarget};
-ghost use Rattle.dc_plain.specs.Resolution.{root, Outcome, resolve, settled_walk, over_parts, at_part, met_by, is_directory, keeps_link, wants_directory, ending};
-ghost use Rattle.dc_plain.specs.Trees.{told_of};
+ghost use Rattle.dc_plain.specs.Resolution.{root, Outcome, resolve, settled_walk, over_parts, at_part, met_by, keeps_link, wants_directory, ending};
 ghost use Rattle.dc_plain.specs.Walks.{met_shown, outcome_of, stacked, walked_shown};
 
-use crate::{Follow, PlainTree};
-use dc_names::{Kind, NoMemory, Part, PathText};
+use crate::told::Told;
+use crate::{Follow, Label, MOST_LINKS, ROOT, Target, is_directory};
+use dc_names::{Kind, NoMemory, Part, PathText, Refusal};
 use std::alloc::Global;
 
-/// An inode with its kind.
-pub type Target = (u64, Kind);
-
-pub const ROOT: Target = (1, Kind::Dir);
-
 /// Where a walk ends.
+#[derive(Drop)]
 pub(crate) enum Walked {
     Found(Target),
-    Refused(u64),
+    Refused(Refusal),
 }
 
-/// A walk over parts, up to its end or a link that must be followed.
+/// A walk over parts, up to its end, to what isn't told, or to a link that must be followed.
 enum Step {
-    Ended(Walked),
+    Ended(Option<Walked>),
     AtLink(Target, u64),
 }
 
@@ -42,7 +40,7 @@ fn wants_directory(follow: Follow) -> bool
 /// What a part leads to.
 enum Reached {
     Goes(Target),
-    Stops(u64),
+    Stops(Refusal),
     Meets(Target),
 }
 
@@ -50,7 +48,7 @@ fn on_to(there: Option<Target>) -> Reached
     ensures { Some (met_shown result) ≡ met_by (Some (there)) }
 {
     let Some(spot) = there else {
-        return Reached::Stops(2);
+        return Reached::Stops(Refusal::NotFound);
     };
     match spot.1 {
         Kind::Link => Reached::Meets(spot),
@@ -58,26 +56,20 @@ fn on_to(there: Option<Target>) -> Reached
     }
 }
 
-/// From a place, one part on.
-fn at_part(tree: &PlainTree, place: Target, part: Part) -> Reached
-    ensures { Some (met_shown result)
-        ≡ at_part (told_of tree.now.tree) place (part_shown part.entry) }
+/// From a place, one part on: `None` where that isn't told.
+fn at_part<T: Told>(told: &T, place: Target, part: Part) -> Option<Reached>
+    ensures { option_map met_shown result
+        ≡ at_part (T.teller told.now) place (part_shown part.entry) }
 {
     if !is_directory(place) {
-        return Reached::Stops(20);
+        return Some(Reached::Stops(Refusal::NotDirectory));
     }
     match part {
-        Part::Dot => Reached::Goes(place),
-        Part::Normal(name) => on_to(tree.entry(place.0, name.bytes())),
-        Part::DotDot if place.0 == 1 => Reached::Goes(place),
-        Part::DotDot => on_to(tree.parent(place.0)),
+        Part::Dot => Some(Reached::Goes(place)),
+        Part::Normal(name) => Some(on_to(told.leads(place.0, Label::Name(name))?)),
+        Part::DotDot if place.0 == 1 => Some(Reached::Goes(place)),
+        Part::DotDot => Some(on_to(told.leads(place.0, Label::DotDot)?)),
     }
-}
-
-pub(crate) fn is_directory(place: Target) -> bool
-    ensures { result ≡ is_directory place }
-{
-    matches!(place.1, Kind::Dir)
 }
 
 /// Where a walk ends that has no part left.
@@ -85,7 +77,7 @@ fn ending(follow: Follow, place: Target, slash: bool) -> Walked
     ensures { walked_shown result ≡ ending follow place slash }
 {
     if (slash || wants_directory(follow)) && !is_directory(place) {
-        Walked::Refused(20)
+        Walked::Refused(Refusal::NotDirectory)
     } else {
         Walked::Found(place)
     }
@@ -100,31 +92,34 @@ fn is_kept(follow: Follow, is_last: bool, slash: bool) -> bool
 
 /// Goes over the parts on the stack, of which the last comes first.
 #[tactic(auto, using(crate::proofs::Stacks::walk_steps))]
-fn walk_parts(
-    tree: &PlainTree,
+fn walk_parts<T: Told>(
+    told: &T,
     start: Target,
     rest: &mut Vec<Part>,
     slash: bool,
     follow: Follow,
 ) -> Step
     ensures { (follow_link : SpecTarget → ℕ → List SpecPart → Bool → Option Outcome) →
-        over_parts (told_of tree.now.tree) follow follow_link start (stacked rest.old.items) slash
+        over_parts (T.teller told.now) follow follow_link start (stacked rest.old.items) slash
         ≡ outcome_of result follow_link (stacked rest.new.items) slash }
 {
     let mut place = start;
     'parts: while let Some(part) = rest.pop() {
-        match at_part(tree, place, part) {
+        let Some(reached) = at_part(told, place, part) else {
+            return Step::Ended(None);
+        };
+        match reached {
             Reached::Goes(next) => place = next,
-            Reached::Stops(number) => return Step::Ended(Walked::Refused(number)),
+            Reached::Stops(refusal) => return Step::Ended(Some(Walked::Refused(refusal))),
             Reached::Meets(link) => {
                 if is_kept(follow, rest.is_empty(), slash) {
-                    return Step::Ended(Walked::Found(link));
+                    return Step::Ended(Some(Walked::Found(link)));
                 }
                 return Step::AtLink(place, link.0);
             }
         }
     }
-    Step::Ended(ending(follow, place, slash))
+    Step::Ended(Some(ending(follow, place, slash)))
 }
 
 /// The parts of a path, from first to last.
@@ -160,19 +155,17 @@ fn base_of(text: PathText, at: Target) -> Target
     if text.is_absolute() { ROOT } else { at }
 }
 
-const MOST_LINKS: u64 = 8;
-
-/// Where parts lead from a place. Links are followed.
-pub(crate) fn resolve<'a>(
+/// Where parts lead from a place, or `None` where that isn't told. Links are followed.
+pub(crate) fn resolve<'a, T: Told>(
     alloc: Global,
-    tree: &'a PlainTree,
+    told: &'a T,
     start: Target,
     parts: Vec<Part<'a>>,
     slash: bool,
     follow: Follow,
-) -> Result<Walked, NoMemory>
-    ensures { IfOk result (λ walked. settled_walk (resolve (told_of tree.now.tree) follow 8 start
-        (map part_shown parts.entry.items) slash) ≡ walked_shown walked) }
+) -> Result<Option<Walked>, NoMemory>
+    ensures { IfOk result (λ walked. resolve (T.teller told.now) follow MOST_LINKS start
+        (map part_shown parts.entry.items) slash ≡ option_map walked_shown walked) }
 {
     let mut rest = Vec::new(alloc);
     push_parts(&mut rest, parts)?;
@@ -180,14 +173,14 @@ pub(crate) fn resolve<'a>(
     let mut slash = slash;
     let mut links = MOST_LINKS;
     'links: loop {
-        match walk_parts(tree, place, &mut rest, slash, follow) {
+        match walk_parts(told, place, &mut rest, slash, follow) {
             Step::Ended(walked) => return Ok(walked),
             Step::AtLink(at, link) => {
                 if links == 0 {
-                    return Ok(Walked::Refused(40));
+                    return Ok(Some(Walked::Refused(Refusal::TooManyLinks)));
                 }
-                let Some(text) = tree.text(link) else {
-                    return Ok(Walked::Refused(2));
+                let Some(text) = told.says(link) else {
+                    return Ok(None);
                 };
                 links -= 1;
                 slash = slash_after(slash, rest.is_empty(), text);
@@ -196,4 +189,11 @@ pub(crate) fn resolve<'a>(
             }
         }
     }
+}
+
+/// Where a walk ends on a tree, which answers every question.
+pub(crate) fn settled(walked: Option<Walked>) -> Walked
+    ensures { walked_shown result ≡ settled_walk (option_map walked_shown walked) }
+{
+    walked.unwrap_or(Walked::Refused(Refusal::NotFound))
 }

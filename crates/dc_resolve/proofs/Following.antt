@@ -9,26 +9,26 @@ use Rattle.dc_plain.specs.Resolution.Outcome.{Refused}
 use Rattle.dc_plain.specs.Tellers.{Extends}
 use Rattle.dc_resolve.specs.Steps.{outcome_of}
 use Rattle.dc_resolve.specs.Walks.{GoesOn, IsReplaced, LeadsTo}
-use Rattle.dc_resolve.specs.declared.step.End.{End}
-use Rattle.dc_resolve.specs.declared.step.Step.{Step}
-use Rattle.dc_resolve.specs.declared.step.End.TheVariants as ends
-use Rattle.dc_resolve.specs.declared.step.Refusal.TheVariants.{ManyLinks}
-use Rattle.dc_resolve.specs.declared.step.Step.TheVariants.{Ended, AtLink}
+use Rattle.dc_resolve.specs.declared.outcome.End.{End}
+use Rattle.dc_resolve.specs.declared.outcome.Step.{Step}
+use Rattle.dc_resolve.specs.declared.outcome.End.TheVariants as ends
+use Rattle.dc_names.specs.declared.refusal.Refusal.TheVariants.{TooManyLinks}
+use Rattle.dc_resolve.specs.declared.outcome.Step.TheVariants.{Ended, AtLink}
 use Rattle.dc_resolve.proofs.Going.{told_still}
 
 -- what comes of a link, where so many may be followed
 unfoldable pub following : Teller → Follow → ℕ → Target → ℕ → List Part → Bool → Option Outcome
-following teller how zero at link rest slash = Some (Refused 40)
+following teller how zero at link rest slash = Some (Refused TooManyLinks)
 following teller how (suc links) at link rest slash = with_text (teller.text link) (λ text.
     resolve teller how links (if begins_with_slash text then root else at) (parts_of text ++ rest) (slash || is_empty rest && has_end_slash text))
 
-resolve_is : (teller : Teller) (how : Follow) (links : ℕ) (place : Target) (parts : List Part) (slash : Bool)
+pub resolve_is : (teller : Teller) (how : Follow) (links : ℕ) (place : Target) (parts : List Part) (slash : Bool)
     → resolve teller how links place parts slash ≡ over_parts teller how (following teller how links) place parts slash
 unfolding resolve following
 resolve_is teller how zero place parts slash = refl
 resolve_is teller how (suc links) place parts slash = refl
 
-pub too_many : (teller : Teller) (how : Follow) (links : ℕ) (at : Target) (link : ℕ) (rest : List Part) (slash : Bool) → links ≡ 0 → following teller how links at link rest slash ≡ Some (Refused 40)
+pub too_many : (teller : Teller) (how : Follow) (links : ℕ) (at : Target) (link : ℕ) (rest : List Part) (slash : Bool) → links ≡ 0 → following teller how links at link rest slash ≡ Some (Refused TooManyLinks)
 unfolding following
 too_many teller how zero at link rest slash e = refl
 too_many teller how (suc links) at link rest slash e = absurd (omega arith)
@@ -46,7 +46,7 @@ pub ended : (said : Teller) (how : Follow) (links : ℕ) (place : Target) (befor
 ended said how links place before after slash step end goes is = record { ends = λ teller more. up_to links goes is more }
 
 pub refused : {said : Teller} {how : Follow} {links : ℕ} {place at : Target} {before after : List Part} {slash : Bool} {step : Step} {link : ℕ}
-    → GoesOn said how slash place before (Break step) after → step ≡ AtLink at link → links ≡ 0 → LeadsTo said how links place before slash (ends.Refused ManyLinks)
+    → GoesOn said how slash place before (Break step) after → step ≡ AtLink at link → links ≡ 0 → LeadsTo said how links place before slash (ends.Refused TooManyLinks)
 refused {how = how} {links = links} {at = at} {after = after} {slash = slash} {link = link} goes is none = record { ends = λ teller more. up_to links goes is more ∙ too_many teller how links at link after slash none }
 
 with_told : (teller : Teller) (how : Follow) (links : ℕ) (at : Target) (link : ℕ) (rest : List Part) (slash : Bool) (text : List ℕ) → 0 < links → teller.text link ≡ Some text
@@ -58,7 +58,7 @@ with_told teller how (suc links) at link rest slash text some e =
     let same : suc links - 1 ≡ links = omega arith in
     rw (same, e) refl
 
-over_link : {said teller : Teller} (how : Follow) (links : ℕ) {at : Target} {link : ℕ} {before after : List Part} {slash : Bool} {on : Target × Bool}
+pub over_link : {said teller : Teller} (how : Follow) (links : ℕ) {at : Target} {link : ℕ} {before after : List Part} {slash : Bool} {on : Target × Bool}
     → 0 < links → IsReplaced said at link before slash on after → Extends said teller → following teller how links at link before slash ≡ resolve teller how (links - 1) on.0 after on.1
 over_link {teller = teller} how links {at = at} {link = link} {before = before} {slash = slash} some put more =
     with_told teller how links at link before slash put.text some (more.text link put.text put.told)

@@ -1,5 +1,8 @@
 pub mod Stacks
 pub mod Takes
-pub mod Lasts
+pub mod Placing
+pub mod Answering
+pub mod Fronts
 pub mod Going
 pub mod Following
+pub mod Needed

@@ -1,10 +1,13 @@
 -- What a walk asks, and where it ends.
 pub mod Asked
 pub mod Cuts
-pub mod Lefts
+pub mod Fronts
+pub mod Remainders
 pub mod Steps
 pub mod Walks
 pub mod Ends
 pub mod Fits
-pub mod Spots
 pub mod Tables
+pub mod Finders
+pub mod Needs
+pub mod Unasked

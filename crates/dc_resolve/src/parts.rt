@@ -1,76 +1,101 @@
-ghost use Rattle.std.specs.Prelude.{◌≡◌, ◌+◌, ◌<◌, ◌≤◌, ◌≢◌, not, length, [], ◌++◌, None, IfOk, OnOk, OnErr, IfSome, IfNone, OnSome, IsTrue, true};
+//! The parts that are left, taken one after the other. Each is split from its text once, as it is asked for.
+
+ghost use Rattle.std.specs.Prelude.{◌≡◌, ◌==◌, ◌+◌, ◌<◌, ◌≤◌, not, length, [], ◌++◌, IfOk, OnOk, IfSome, IfNone, OnSome, IsTrue};
+ghost use Rattle.std.specs.List.{list_any};
 ghost use Rattle.arrayvec.specs.ArrayVec.{array_vec_len};
 ghost use Rattle.dc_names.specs.Bytes.{has_parts, is_empty};
 ghost use Rattle.dc_names.specs.Paths.{parts_of, fault_of};
-ghost use Rattle.dc_resolve.specs.Cuts.{last_bytes, parts_kept};
-ghost use Rattle.dc_resolve.specs.Lefts.{parts_in, parts_held, parts_left};
-ghost use Rattle.dc_resolve.specs.Steps.{IsTaken};
+ghost use Rattle.dc_resolve.specs.Cuts.{last_bytes};
+ghost use Rattle.dc_resolve.specs.Finders.{KeepsAnswering};
+ghost use Rattle.dc_resolve.specs.Needs.{MayAskFirst};
+ghost use Rattle.dc_resolve.specs.Remainders.{parts_in, parts_left};
+ghost use Rattle.dc_resolve.specs.Steps.{Takes, TakesFirst};
 
-use crate::left::{Cut, Left};
-use crate::part::{has_part, tail};
-use crate::step::{Reached, Target, ask};
+use crate::outcome::Reached;
+use crate::remaining::{Remaining, Rest};
+use crate::step::step_on;
 use crate::{Bytes, Finder, Stop};
 use arrayvec::ArrayVec;
 use dc_names::{PathText, first_part};
+use dc_plain::{MOST_LINKS, Target};
 
-impl<'p, T: Bytes + Drop> Left<'p, T> {
-    /// All parts of a path, or all but the last.
-    pub fn new(path: PathText<'p>, whole: bool) -> Left<'p, T>
-        ensures parts { parts_left result ≡ parts_kept whole (parts_of path.entry.bytes.now) }
+/// Whether a part is left in some bytes: it looks no further than the first byte of it.
+#[tactic(auto, using(crate::proofs::Fronts::beyond_slashes))]
+fn has_part(bytes: &[u8]) -> bool
+    ensures { result ≡ not (is_empty (parts_of bytes.now)) }
+{
+    is_beyond_slashes(bytes)
+}
+
+/// Whether a byte is no slash.
+fn is_beyond_slashes(bytes: &[u8]) -> bool
+    ensures { result ≡ list_any (λ b. not (b == 47)) bytes.now }
+{
+    bytes.iter().any(|b| *b != b'/')
+}
+
+impl<T: Bytes> Rest<T> {
+    /// What is left of the text.
+    fn bytes(&self) -> &[u8]
+        ensures { result.now ≡ last_bytes self.now.left (T.bytes self.now.text) }
+    {
+        let bytes = self.text.bytes();
+        &bytes[bytes.len() - self.left..]
+    }
+}
+
+impl<'p, T: Bytes + Drop> Remaining<'p, T> {
+    /// All parts of some bytes.
+    pub(crate) fn new(path: &'p [u8]) -> Remaining<'p, T>
+        requires { IsTrue (has_parts path.now) }
+        ensures parts { parts_left result ≡ parts_of path.entry.now }
         ensures room { array_vec_len result.texts ≡ 0 }
     {
-        Left {
+        Remaining {
             texts: ArrayVec::new(),
-            path: path.bytes(),
-            whole,
+            path,
         }
     }
 
     /// Whether no part is left.
-    pub fn is_done(&self) -> bool
+    pub(crate) fn is_done(&self) -> bool
         ensures { result ≡ is_empty (parts_left self.now) }
     {
-        self.texts.is_empty() && !self.has_path_part()
-    }
-
-    /// Whether a part of the path is left.
-    fn has_path_part(&self) -> bool
-        ensures { result ≡ not (is_empty (parts_kept self.now.whole (parts_of self.now.path.now))) }
-    {
-        match first_part(self.path) {
-            None => false,
-            Some((_, rest)) => self.whole || has_part(rest),
-        }
+        self.texts.is_empty() && !has_part(self.path)
     }
 
     /// Puts a text before what is left.
-    pub fn put(&mut self, text: T)
-        requires room { array_vec_len self.old.texts < 8 }
+    pub(crate) fn put(&mut self, text: T)
+        requires room { array_vec_len self.old.texts < MOST_LINKS }
         requires path { fault_of (T.bytes text) ≡ None }
         ensures parts { parts_left self.new ≡ parts_of (T.bytes text) ++ parts_left self.old }
         ensures room { array_vec_len self.new.texts ≤ array_vec_len self.old.texts + 1 }
     {
         let left = PathText::new(text.bytes()).bytes().len();
-        self.push(Cut::of(text, left));
+        self.push(text, left);
     }
 
-    /// Puts what is held of a text before what is left.
-    fn push(&mut self, held: Option<Cut<T>>)
-        requires room { array_vec_len self.old.texts < 8 }
-        ensures parts { parts_left self.new ≡ parts_held held ++ parts_left self.old }
+    /// Puts the last bytes of a text before what is left.
+    fn push(&mut self, text: T, left: usize)
+        requires room { array_vec_len self.old.texts < MOST_LINKS }
+        requires fits { left ≤ length (T.bytes text) }
+        requires valid { IsTrue (has_parts (last_bytes left (T.bytes text))) }
+        ensures parts { parts_left self.new
+            ≡ parts_of (last_bytes left (T.bytes text)) ++ parts_left self.old }
         ensures room { array_vec_len self.new.texts ≤ array_vec_len self.old.texts + 1 }
     {
-        if let Some(cut) = held {
-            self.texts.push(Some(cut));
+        let bytes = text.bytes();
+        // Slashes alone would hide that what is below them is all that is left, or nothing.
+        if has_part(&bytes[bytes.len() - left..]) {
+            self.texts.push(Some(Rest { text, left }));
         }
     }
 
     /// Takes the text off that comes first.
-    fn pop(&mut self) -> Option<Cut<T>>
-        ensures none { IfNone result (parts_left self.old
-            ≡ parts_kept self.new.whole (parts_of self.new.path.now)) }
-        ensures some { IfSome result (λ cut.
-            parts_left self.old ≡ parts_in cut ++ parts_left self.new) }
+    fn pop(&mut self) -> Option<Rest<T>>
+        ensures none { IfNone result (parts_left self.old ≡ parts_of self.new.path.now) }
+        ensures some { IfSome result (λ rest.
+            parts_left self.old ≡ parts_in rest ++ parts_left self.new) }
         ensures empty { IfNone result (self.new.texts.items ≡ []) }
         ensures room { OnSome result (array_vec_len self.new.texts + 1
             ≡ array_vec_len self.old.texts) }
@@ -79,48 +104,48 @@ impl<'p, T: Bytes + Drop> Left<'p, T> {
     }
 }
 
-/// Asks at the first part of some bytes, and answers how many of them are left too.
-fn ask_first<F: Finder>(
+/// Asks at the first part of some bytes, if there is one, and answers the bytes after it too.
+fn ask_first<'b, F: Finder>(
     finder: &mut F,
     place: Target,
-    bytes: &[u8],
-) -> Result<(Reached, usize), Stop>
+    bytes: &'b [u8],
+) -> Result<Option<(Reached, &'b [u8])>, Stop>
     requires valid { IsTrue (has_parts bytes.now) }
-    requires begun { parts_of bytes.now ≢ [] }
-    ensures taken { IfOk result (λ met. IsTaken (F.said finder.new) place
-        (parts_of bytes.entry.now) (parts_of (last_bytes met.1 bytes.entry.now)) met.0) }
-    ensures fits { IfOk result (λ met. met.1 ≤ length bytes.entry.now) }
-    ensures valid { IfOk result (λ met. IsTrue (has_parts (last_bytes met.1 bytes.entry.now))) }
-    ensures same { OnOk result (F.has_stopped finder.new ≡ F.has_stopped finder.old) }
-    ensures becomes { F.becomes finder.old finder.new }
-    ensures stopped { OnErr result (F.has_stopped finder.new ≡ true) }
+    requires may { MayAskFirst (F.may_ask finder.old) place (parts_of bytes.now) }
+    ensures taken { IfOk result (λ met. TakesFirst (F.said finder.new) place bytes.entry.now met) }
+    ensures kept { KeepsAnswering F.Finder finder.old finder.new result }
 {
-    let Some((part, rest)) = first_part(bytes) else {
-        unreachable!();
+    let Some((part, after)) = first_part(bytes) else {
+        return Ok(None);
     };
-    Ok((ask(finder, place, part)?, rest.len()))
+    Ok(Some((step_on(finder, place, part)?, after)))
 }
 
-/// Asks at the first part that is left.
-pub fn ask_next<F: Finder>(
+/// Asks at the first part that is left, if one is.
+pub(crate) fn ask_next<F: Finder>(
     finder: &mut F,
     place: Target,
-    left: &mut Left<'_, F::Text>,
-) -> Result<Reached, Stop>
-    requires { parts_left left.old ≢ [] }
-    ensures taken { IfOk result (IsTaken (F.said finder.new) place
+    left: &mut Remaining<'_, F::Text>,
+) -> Result<Option<Reached>, Stop>
+    requires { MayAskFirst (F.may_ask finder.old) place (parts_left left.old) }
+    ensures taken { IfOk result (Takes (F.said finder.new) place
         (parts_left left.old) (parts_left left.new)) }
     ensures room { OnOk result (array_vec_len left.new.texts ≤ array_vec_len left.old.texts) }
-    ensures same { OnOk result (F.has_stopped finder.new ≡ F.has_stopped finder.old) }
-    ensures becomes { F.becomes finder.old finder.new }
-    ensures stopped { OnErr result (F.has_stopped finder.new ≡ true) }
+    ensures kept { KeepsAnswering F.Finder finder.old finder.new result }
 {
-    let Some(cut) = left.pop() else {
-        let (reached, after) = ask_first(finder, place, left.path)?;
-        left.path = tail(left.path, after);
-        return Ok(reached);
+    let Some(rest) = left.pop() else {
+        let Some((reached, after)) = ask_first(finder, place, left.path)? else {
+            return Ok(None);
+        };
+        left.path = after;
+        return Ok(Some(reached));
     };
-    let (reached, after) = ask_first(finder, place, cut.rest())?;
-    left.push(cut.cut_to(after));
-    Ok(reached)
+    let Some((reached, after)) = ask_first(finder, place, rest.bytes())? else {
+        // A text without a part would come here, but is never put on the others.
+        unreachable!();
+    };
+    let after = after.len();
+    let Rest { text, left: _ } = rest;
+    left.push(text, after);
+    Ok(Some(reached))
 }

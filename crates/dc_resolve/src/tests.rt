@@ -3,10 +3,10 @@ ghost use Rattle.std.proofs.Common.{sym, subst, ◌∙◌};
 ghost use Rattle.dc_plain.specs.Tellers.{Extends};
 ghost use Rattle.dc_resolve.specs.Tables.{target_in, parent_in, text_in, said_by};
 
-use crate::{Finder, Last, Placed, Stop, Walked, place, walk};
+use crate::{Finder, Placed, Stop, Walked, place, walk, walk_alone};
 use arrayvec::ArrayVec;
-use dc_names::{Kind, Part, PathText, TextFault, parse};
-use dc_plain::Follow;
+use dc_names::{Kind, Last, Name, Part, Refusal, TextFault, parse};
+use dc_plain::{Follow, Where};
 use std::test::Fail;
 
 /// A name in a directory, and where it leads.
@@ -50,7 +50,7 @@ struct Table<'a> {
 #[derive(Drop)]
 struct Fixed<'a> {
     table: Table<'a>,
-    asked: ArrayVec<(u64, u8), 32>,
+    asked: ArrayVec<Asked, 32>,
     stopped: bool,
 }
 
@@ -78,6 +78,8 @@ impl<'a> Finder for Fixed<'a> {
     ghost has_stopped = { λ fixed. fixed.stopped };
 
     ghost becomes = { λ f g. g.table ≡ f.table };
+
+    ghost may_ask = { λ f number label. Unit {0} };
 
     fn find(&mut self, dir: u64, part: Part<'_>) -> Result<Option<(u64, Kind)>, Stop> {
         self.note(dir, first_byte(part));
@@ -184,11 +186,36 @@ fn walks(rt: HostRuntime) -> Result<(), Fail> {
         (4, b".", Follow::Yes, Walked::Found(4, Kind::Dir)),
         (1, b"/", Follow::Dir, Walked::Found(1, Kind::Dir)),
         (1, b"/../..", Follow::Yes, Walked::Found(1, Kind::Dir)),
-        (1, b"/d/f/", Follow::Yes, Walked::Refused(20)),
-        (1, b"/d/f/e", Follow::Yes, Walked::Refused(20)),
-        (1, b"/d/f/..", Follow::Yes, Walked::Refused(20)),
-        (1, b"/d/f", Follow::Dir, Walked::Refused(20)),
-        (1, b"/none/e", Follow::Yes, Walked::Refused(2)),
+        (
+            1,
+            b"/d/f/",
+            Follow::Yes,
+            Walked::Refused(Refusal::NotDirectory),
+        ),
+        (
+            1,
+            b"/d/f/e",
+            Follow::Yes,
+            Walked::Refused(Refusal::NotDirectory),
+        ),
+        (
+            1,
+            b"/d/f/..",
+            Follow::Yes,
+            Walked::Refused(Refusal::NotDirectory),
+        ),
+        (
+            1,
+            b"/d/f",
+            Follow::Dir,
+            Walked::Refused(Refusal::NotDirectory),
+        ),
+        (
+            1,
+            b"/none/e",
+            Follow::Yes,
+            Walked::Refused(Refusal::NotFound),
+        ),
         (1, b"/r", Follow::No, Walked::Found(10, Kind::Link)),
         (1, b"/r", Follow::Yes, Walked::Found(4, Kind::Dir)),
         (1, b"/r", Follow::Dir, Walked::Found(4, Kind::Dir)),
@@ -197,19 +224,44 @@ fn walks(rt: HostRuntime) -> Result<(), Fail> {
         (1, b"/d/a/.", Follow::Yes, Walked::Found(4, Kind::Dir)),
         (1, b"/d/p", Follow::Yes, Walked::Found(3, Kind::File)),
         (1, b"/d/q", Follow::Yes, Walked::Found(3, Kind::File)),
-        (1, b"/d/q/", Follow::No, Walked::Refused(20)),
+        (
+            1,
+            b"/d/q/",
+            Follow::No,
+            Walked::Refused(Refusal::NotDirectory),
+        ),
         (1, b"/d/s", Follow::No, Walked::Found(16, Kind::Link)),
-        (1, b"/d/s", Follow::Yes, Walked::Refused(20)),
-        (1, b"/x", Follow::Yes, Walked::Refused(2)),
-        (1, b"/l", Follow::Yes, Walked::Refused(40)),
+        (
+            1,
+            b"/d/s",
+            Follow::Yes,
+            Walked::Refused(Refusal::NotDirectory),
+        ),
+        (1, b"/x", Follow::Yes, Walked::Refused(Refusal::NotFound)),
+        (
+            1,
+            b"/l",
+            Follow::Yes,
+            Walked::Refused(Refusal::TooManyLinks),
+        ),
         (1, b"/bad", Follow::Yes, Walked::Stopped),
         (1, b"/c8", Follow::Yes, Walked::Found(2, Kind::Dir)),
-        (1, b"/c9", Follow::Yes, Walked::Refused(40)),
+        (
+            1,
+            b"/c9",
+            Follow::Yes,
+            Walked::Refused(Refusal::TooManyLinks),
+        ),
         (1, b"/c9", Follow::No, Walked::Found(29, Kind::Link)),
         (1, b"/c7/q", Follow::Yes, Walked::Found(3, Kind::File)),
-        (1, b"/c8/q", Follow::Yes, Walked::Refused(40)),
+        (
+            1,
+            b"/c8/q",
+            Follow::Yes,
+            Walked::Refused(Refusal::TooManyLinks),
+        ),
         (1, &[b'n'; 255], Follow::Yes, Walked::Found(30, Kind::File)),
-        (3, b"f", Follow::Yes, Walked::Refused(2)),
+        (3, b"f", Follow::Yes, Walked::Refused(Refusal::NotFound)),
         (99, b"/d/f", Follow::Yes, Walked::Found(3, Kind::File)),
     ];
     for (base, path, follow, want) in cases {
@@ -218,72 +270,133 @@ fn walks(rt: HostRuntime) -> Result<(), Fail> {
     Ok(())
 }
 
-#[test]
-fn counts_the_paths_apart(rt: HostRuntime) -> Result<(), Fail> {
-    let mut finder = new_fixed(&ROWS, &PARENTS, &TEXTS);
-    let path = parse(b"/c8")?;
-    let first = walk(&mut finder, 1, path, Follow::Yes);
-    let second = walk(&mut finder, 1, path, Follow::Yes);
-    assert_eq!(rt; first, Walked::Found(2, Kind::Dir));
-    assert_eq!(rt; second, Walked::Found(2, Kind::Dir));
-    Ok(())
-}
+/// A question: a number with the first byte of a name, `.` for dot-dot, or `@` for a text.
+type Asked = (u64, u8);
 
 #[test]
-fn asks_in_order(rt: HostRuntime) -> Result<(), Fail> {
-    let cases: [(u64, &[u8], &[(u64, u8)]); 6] = [
+fn walks_ask_in_order(rt: HostRuntime) -> Result<(), Fail> {
+    let cases: [(u64, &[u8], Follow, &[Asked]); 13] = [
         (
             4,
             b"../q/.",
+            Follow::No,
             &[(4, b'.'), (4, b'.'), (2, b'q'), (15, b'@'), (2, b'f')],
         ),
-        (4, b".", &[(4, b'.')]),
-        (1, b"d/..", &[(1, b'd'), (2, b'.')]),
-        (4, b"/../d", &[(1, b'd')]),
-        (1, b".././", &[]),
-        (1, b"/d/q", &[(1, b'd'), (2, b'q')]),
+        (4, b".", Follow::No, &[(4, b'.')]),
+        (1, b"d/..", Follow::No, &[(1, b'd'), (2, b'.')]),
+        (4, b"/../d", Follow::No, &[(1, b'd')]),
+        (1, b".././", Follow::No, &[]),
+        (1, b"/d/q", Follow::No, &[(1, b'd'), (2, b'q')]),
+        (
+            1,
+            b"/d/q",
+            Follow::Yes,
+            &[(1, b'd'), (2, b'q'), (15, b'@'), (2, b'f')],
+        ),
+        (
+            1,
+            b"/r",
+            Follow::Yes,
+            &[(1, b'r'), (10, b'@'), (1, b'd'), (2, b'e')],
+        ),
+        (
+            99,
+            b"/r/",
+            Follow::Dir,
+            &[(1, b'r'), (10, b'@'), (1, b'd'), (2, b'e')],
+        ),
+        (
+            4,
+            b"../p",
+            Follow::Dir,
+            &[
+                (4, b'.'),
+                (4, b'.'),
+                (2, b'p'),
+                (12, b'@'),
+                (2, b'e'),
+                (4, b'.'),
+                (2, b'f'),
+            ],
+        ),
+        (1, b"/x/f", Follow::Yes, &[(1, b'x'), (14, b'@'), (1, b'n')]),
+        (1, b"/d/f/../e", Follow::Dir, &[(1, b'd'), (2, b'f')]),
+        (99, b"f", Follow::Yes, &[(99, b'.')]),
     ];
-    for (base, path, want) in cases {
+    for (base, path, follow, want) in cases {
         let mut finder = new_fixed(&ROWS, &PARENTS, &TEXTS);
-        let _ = walk(&mut finder, base, parse(path)?, Follow::No);
+        let _ = walk(&mut finder, base, parse(path)?, follow);
         assert!(rt; finder.asked.as_slice() == want);
     }
     Ok(())
 }
 
-/// The directory, the last part as it is spelled, and the slash.
-fn shown<'p>(placed: Placed<'p>) -> Result<(u64, &'p [u8], bool), u64> {
-    match placed {
-        Placed::At(dir, Last::Root, slash) => Ok((dir, b"/", slash)),
-        Placed::At(dir, Last::Dot, slash) => Ok((dir, b".", slash)),
-        Placed::At(dir, Last::DotDot, slash) => Ok((dir, b"..", slash)),
-        Placed::At(dir, Last::Normal(name), slash) => Ok((dir, name.bytes(), slash)),
-        Placed::Refused(number) => Err(number),
-        Placed::Stopped => Err(0),
+#[test]
+fn places_ask_in_order(rt: HostRuntime) -> Result<(), Fail> {
+    let cases: [(u64, &[u8], &[Asked]); 9] = [
+        (1, b"/d/f", &[(1, b'd')]),
+        (99, b"/d/q//", &[(1, b'd')]),
+        (1, b"/l", &[]),
+        (2, b"///", &[]),
+        (2, b"/../x", &[]),
+        (4, b".", &[(4, b'.')]),
+        (4, b"../g", &[(4, b'.'), (4, b'.')]),
+        (1, b"/r/g", &[(1, b'r'), (10, b'@'), (1, b'd'), (2, b'e')]),
+        (1, b"/d/f/g/h", &[(1, b'd'), (2, b'f')]),
+    ];
+    for (base, path, want) in cases {
+        let mut finder = new_fixed(&ROWS, &PARENTS, &TEXTS);
+        let _ = place(&mut finder, base, parse(path)?);
+        assert!(rt; finder.asked.as_slice() == want);
     }
+    Ok(())
+}
+
+#[test]
+fn walks_alone_to_the_root(rt: HostRuntime) -> Result<(), Fail> {
+    let path = parse(b"/../.")?;
+    assert_eq!(rt;
+        walk_alone(4, path, Follow::Dir),
+        Walked::Found(1, Kind::Dir)
+    );
+    Ok(())
+}
+
+fn named(name: &[u8]) -> Last<'_> {
+    match Name::new(name) {
+        Some(name) => Last::Normal(name),
+        None => Last::Root,
+    }
+}
+
+fn at(dir: u64, last: Last<'_>, slash: bool) -> Placed<'_> {
+    Placed::At(Where { dir, last, slash })
 }
 
 #[test]
 fn places(rt: HostRuntime) -> Result<(), Fail> {
-    let cases: [(u64, &[u8], Result<(u64, &[u8], bool), u64>); 14] = [
-        (1, b"/d/f", Ok((2, b"f", false))),
-        (1, b"/d/new//", Ok((2, b"new", true))),
-        (1, b"///", Ok((1, b"/", false))),
-        (1, b"/d/..", Ok((2, b"..", false))),
-        (4, b".", Ok((4, b".", false))),
-        (4, b"../g", Ok((2, b"g", false))),
-        (1, b"/l", Ok((1, b"l", false))),
-        (1, b"/r/g", Ok((4, b"g", false))),
-        (1, b"/c8/g", Ok((2, b"g", false))),
-        (1, b"/c9/g", Err(40)),
-        (1, b"/d/q/g", Err(20)),
-        (1, b"/none/g", Err(2)),
-        (3, b"g", Err(2)),
-        (1, b"/bad/g", Err(0)),
+    let cases: [(u64, &[u8], Placed<'_>); 17] = [
+        (1, b"/d/f", at(2, named(b"f"), false)),
+        (1, b"/d/new//", at(2, named(b"new"), true)),
+        (1, b"///", at(1, Last::Root, false)),
+        (1, b"/d/..", at(2, Last::DotDot, false)),
+        (2, b"a///b/.//", Placed::Refused(Refusal::NotFound)),
+        (1, b"d//e///", at(2, named(b"e"), true)),
+        (2, b"f", at(2, named(b"f"), false)),
+        (4, b".", at(4, Last::Dot, false)),
+        (4, b"../g", at(2, named(b"g"), false)),
+        (1, b"/l", at(1, named(b"l"), false)),
+        (1, b"/r/g", at(4, named(b"g"), false)),
+        (1, b"/c8/g", at(2, named(b"g"), false)),
+        (1, b"/c9/g", Placed::Refused(Refusal::TooManyLinks)),
+        (1, b"/d/q/g", Placed::Refused(Refusal::NotDirectory)),
+        (1, b"/none/g", Placed::Refused(Refusal::NotFound)),
+        (3, b"g", Placed::Refused(Refusal::NotFound)),
+        (1, b"/bad/g", Placed::Stopped),
     ];
     for (base, path, want) in cases {
         let mut finder = new_fixed(&ROWS, &PARENTS, &TEXTS);
-        assert!(rt; shown(place(&mut finder, base, parse(path)?)) == want);
+        assert_eq!(rt; place(&mut finder, base, parse(path)?), want);
     }
     Ok(())
 }

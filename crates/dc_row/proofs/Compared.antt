@@ -1,8 +1,11 @@
 -- Words that are compared from the second on.
-use Rattle.std.proofs.Common.{◌≡◌, ℕ, suc, ◌+◌, ◌-◌, ◌<◌, ◌≤◌, List, [], ◌∷◌, length, get_or, take, drop, Option, refl, sym, ap, ◌∙◌, arith}
+use Rattle.std.proofs.Common.{◌≡◌, ℕ, zero, suc, ◌+◌, ◌-◌, ◌<◌, ◌≤◌, List, [], ◌∷◌, length, get_or, take, drop, Option, Some, IsTrue, refl, subst, sym, ap, ◌∙◌, arith}
 use Rattle.std.proofs.lemmas.List.{get_or-take, get_or-drop}
-use Rattle.dc_plain.specs.Facts.{Fact}
-use Rattle.dc_row.specs.Spelling.{Spells}
+use Rattle.dc_names.specs.Words.{AreBytes}
+use Rattle.dc_plain.specs.Facts.{Target, Label, Fact, label_bytes}
+use Rattle.dc_plain.specs.Facts.Fact.{Leads}
+use Rattle.dc_row.specs.Laws.{CountsTellNothing}
+use Rattle.dc_row.specs.Spelling.{fields, has_spelling, kind_code, target_number, word_at, IsSpelled, Spells}
 use Rattle.dc_row.specs.declared.TheConstants.{ROW_WORDS}
 
 from_second : (ws : List ℕ) (n i : ℕ) → 0 < i → i ≤ n → get_or (take n (drop 1 ws)) (i - 1) 0 ≡ get_or ws i 0
@@ -36,3 +39,25 @@ rest_same (x ∷ xs) (y ∷ ys) size same = all_same xs ys (omega arith) (λ k h
 -- a row has one spelling
 pub spelled_alike : {ws vs : List ℕ} {fact : Option Fact} → Spells vs fact → Spells ws fact → drop 1 vs ≡ drop 1 ws
 spelled_alike {ws} {vs} {fact} s t = rest_same vs ws (s.size ∙ sym t.size) (λ i pos lt. s.spelled i pos (rw (← s.size) lt) ∙ sym (t.spelled i pos (rw (← s.size) lt)))
+
+later_same : (m n : ℕ) (words : List ℕ) (i : ℕ) → 0 < i → get_or (n ∷ words) i 0 ≡ get_or (m ∷ words) i 0
+later_same m n words zero pos = absurd (omega arith)
+later_same m n words (suc i) pos = refl
+
+pub any_count : CountsTellNothing
+any_count m n words fact s = record {
+  size = s.size;
+  allowed = s.allowed;
+  bytes = s.bytes;
+  spelled = λ i pos lt. later_same m n words i pos ∙ s.spelled i pos lt;
+}
+
+-- words with the fields of an entry spell it
+pub entry_spelled : {words text : List ℕ} {kind number value : ℕ} {label : Label} {target : Option Target} → length words ≡ ROW_WORDS → IsTrue (has_spelling (Some (Leads number label target))) → AreBytes text
+    → kind ≡ kind_code target → value ≡ target_number target → text ≡ label_bytes label → IsSpelled words (fields 1 kind number value text) → Spells words (Some (Leads number label target))
+entry_spelled {number = number} size allowed bytes kind value text spelled = record {
+  size = size;
+  allowed = allowed;
+  bytes = subst AreBytes text bytes;
+  spelled = λ i pos lt. spelled i pos lt ∙ (λ j. word_at (fields 1 (kind j) number (value j) (text j)) i);
+}

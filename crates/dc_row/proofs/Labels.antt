@@ -3,10 +3,10 @@ use Rattle.std.proofs.Common.{◌≡◌, ℕ, List, [], ◌∷◌, true, false, 
 use Rattle.std.specs.Cmp.Lexicographic.{pointwise}
 use Rattle.std.proofs.lemmas.Slice.Eq.{bytes_eq-Decides}
 use Rattle.dc_names.specs.Bytes.{is_name}
-use Rattle.dc_plain.specs.Facts.{Target, Label}
+use Rattle.dc_plain.specs.Facts.{Target, Label, label_bytes}
 use Rattle.dc_plain.specs.Facts.Label.{Entry, Parent, Text}
 use Rattle.dc_plain.specs.Facts.Fact.{Leads}
-use Rattle.dc_row.specs.Spelling.{has_spelling, label_bytes}
+use Rattle.dc_row.specs.Spelling.{has_spelling}
 use Rattle.dc_row.proofs.Read.{both}
 
 -- dot-dot is no name

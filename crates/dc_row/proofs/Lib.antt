@@ -3,3 +3,5 @@ pub mod Read
 pub mod Labels
 pub mod Compared
 pub mod Filled
+pub mod Packed
+pub mod Decoded

@@ -19,25 +19,25 @@ room_of : (text : List ℕ) → has_room text ≡ true → length text ≤ ROW_T
 room_of text room = grind (arith, common_steps)
 
 -- how large the fields of a row are
-record AreSmall (f : Fields) : Type 0 where
-  tag : f.tag ≤ 2
-  kind : f.kind ≤ 3
-  text : length f.text ≤ ROW_TEXT
+pub record AreSmall (f : Fields) : Type 0 where
+  pub tag : f.tag ≤ 2
+  pub kind : f.kind ≤ 3
+  pub text : length f.text ≤ ROW_TEXT
 
-kind_small : (target : Option Target) → kind_code target ≤ 3
+pub kind_small : (target : Option Target) → kind_code target ≤ 3
 kind_small None = omega arith
 kind_small (Some (n, Dir)) = omega arith
 kind_small (Some (n, File)) = omega arith
 kind_small (Some (n, Link)) = omega arith
 
-small : (fact : Option Fact) → has_spelling fact ≡ true → AreSmall (fields_of fact)
+pub small : (fact : Option Fact) → has_spelling fact ≡ true → AreSmall (fields_of fact)
 small None ok = record { tag = omega arith; kind = omega arith; text = omega arith }
 small (Some (Leads d (Entry name) target)) ok = record { tag = omega arith; kind = kind_small target; text = room_of name (both _ _ (both _ _ ok).0).1 }
 small (Some (Leads d Parent target)) ok = record { tag = omega arith; kind = kind_small target; text = omega arith }
 small (Some (Leads d Text target)) ok = absurd (cc)
 small (Some (Reads n text)) ok = record { tag = omega arith; kind = omega arith; text = room_of text (both _ _ ok).1 }
 
-head_is : {words : List ℕ} {fact : Option Fact} → Spells words fact → get_or words 1 0 ≡ (fields_of fact).tag + 256 * length (fields_of fact).text + 16777216 * (fields_of fact).kind
+pub head_is : {words : List ℕ} {fact : Option Fact} → Spells words fact → get_or words 1 0 ≡ (fields_of fact).tag + 256 * length (fields_of fact).text + 16777216 * (fields_of fact).kind
 head_is s = s.spelled 1 (omega arith) (omega arith)
 
 pub tag_is : {words : List ℕ} {fact : Option Fact} → Spells words fact → get_or words 1 0 % 256 ≡ (fields_of fact).tag
@@ -64,7 +64,7 @@ part_short text m = grind (arith, common_steps)
 part_at : (text : List ℕ) (n m i : ℕ) → i < n → get_or (take n (drop m text)) i 0 ≡ get_or text (m + i) 0
 part_at text n m i within = get_or-take n (drop m text) i 0 within ∙ get_or-drop m text i 0
 
-byte_is : {words : List ℕ} {fact : Option Fact} → Spells words fact → (i b : ℕ) → i < ROW_TEXT → ((bytes : List ℕ) → length bytes ≤ 8 → AreBytes bytes → get_or words (4 + i / 8) 0 ≡ word_of bytes → b ≡ get_or bytes (i % 8) 0) → b ≡ get_or (fields_of fact).text i 0
+pub byte_is : {words : List ℕ} {fact : Option Fact} → Spells words fact → (i b : ℕ) → i < ROW_TEXT → ((bytes : List ℕ) → length bytes ≤ 8 → AreBytes bytes → get_or words (4 + i / 8) 0 ≡ word_of bytes → b ≡ get_or bytes (i % 8) 0) → b ≡ get_or (fields_of fact).text i 0
 byte_is {words} {fact} s i b within reads =
     let text = (fields_of fact).text in
     let at : 4 + i / 8 < ROW_WORDS = omega arith in

@@ -2,3 +2,5 @@
 pub mod Rooms
 pub mod Rows
 pub mod Spelling
+pub mod Decoding
+pub mod Laws

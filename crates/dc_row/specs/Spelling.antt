@@ -1,10 +1,10 @@
 -- The words of a row: after the sequence count the head, the number, the value, and then the text.
-use Rattle.std.specs.Prelude.{ℕ, List, [], ◌∷◌, Bool, true, false, not, ◌&&◌, ◌≡◌, ◌==◌, ◌+◌, ◌-◌, ◌*◌, ◌/◌, ◌%◌, ◌<◌, ◌≤◌, nat_lt, length, take, drop, slice_index, if◌then◌else◌, Option, Some, None, IsTrue}
+use Rattle.std.specs.Prelude.{ℕ, List, [], Bool, true, false, not, ◌&&◌, ◌≡◌, ◌==◌, ◌+◌, ◌-◌, ◌*◌, ◌/◌, ◌%◌, ◌<◌, ◌≤◌, nat_lt, length, take, drop, slice_index, if◌then◌else◌, Option, Some, None, IsTrue}
 use Rattle.dc_names.specs.Bytes.{is_name}
 use Rattle.dc_names.specs.Paths.{fault_of}
 use Rattle.dc_names.specs.Words.{AreBytes, word_of}
 use Rattle.dc_names.specs.declared.kind.Kind.TheVariants.{Dir, File, Link}
-use Rattle.dc_plain.specs.Facts.{Target, Label, Fact}
+use Rattle.dc_plain.specs.Facts.{Target, Label, Fact, label_bytes}
 use Rattle.dc_plain.specs.Facts.Label.{Entry, Parent, Text}
 use Rattle.dc_plain.specs.Facts.Fact.{Leads, Reads}
 use Rattle.dc_row.specs.declared.TheConstants.{ROW_WORDS, ROW_TEXT}
@@ -17,11 +17,6 @@ kind_code (Some place) = elim place.1 [ Dir ↦ 1 | File ↦ 2 | Link ↦ 3 ]
 abbrev pub target_number : Option Target → ℕ
 target_number None = 0
 target_number (Some place) = place.0
-
-abbrev pub label_bytes : Label → List ℕ
-label_bytes (Entry name) = name
-label_bytes Parent = 46 ∷ 46 ∷ []
-label_bytes Text = []
 
 -- what stands in the words of a row
 pub record Fields : Type 0 where
@@ -93,7 +88,3 @@ TellsTarget words result = (d : ℕ) (label : Label) (target : Option Target) �
 
 abbrev pub TellsByte : List ℕ → ℕ → ℕ → Type 0
 TellsByte words k result = (bytes : List ℕ) → length bytes ≤ 8 → AreBytes bytes → slice_index words (4 + k / 8) ≡ word_of bytes → result ≡ slice_index bytes (k % 8)
-
--- the words of a row after its sequence count are always the same
-abbrev pub HasOneSpelling : Type 0
-HasOneSpelling = (fact : Option Fact) (v w : List ℕ) → Spells v fact → Spells w fact → drop 1 v ≡ drop 1 w

@@ -1,6 +1,7 @@
 //! Rows of the cache as words of 64 bits. Nothing here takes memory.
 #![tactic(auto)]
 
+mod entry;
 mod fields;
 mod laws;
 mod reading;
@@ -10,8 +11,12 @@ mod tests;
 mod text;
 mod writing;
 
+pub use entry::entry_in;
 pub use fields::{kind, length, number, tag, value};
-pub use laws::{rows_have_one_spelling, words_spell_one_row};
+pub use laws::{
+    counts_tell_nothing, empty_row_spells_nothing, rows_have_one_spelling,
+    words_have_the_fact_they_spell, words_spell_one_row,
+};
 pub use reading::decode;
 pub use row::{Row, RowLabel};
 pub use text::RowText;
@@ -22,3 +27,6 @@ pub const ROW_WORDS: usize = 8;
 
 /// The most bytes that the text of a row has.
 pub const ROW_TEXT: usize = 32;
+
+/// The words of a row that tells nothing.
+pub const EMPTY_ROW: [u64; ROW_WORDS] = [0; ROW_WORDS];

@@ -51,7 +51,7 @@ fn label_in(words: &[u64]) -> Option<RowLabel>
     }
 }
 
-fn target_in(words: &[u64]) -> Option<(u64, Kind)>
+pub(crate) fn target_in(words: &[u64]) -> Option<(u64, Kind)>
     ensures { TellsTarget words.now result }
 {
     match kind(words) {

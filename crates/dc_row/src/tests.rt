@@ -1,8 +1,10 @@
 use crate::{
-    ROW_WORDS, Row, RowLabel, RowText, decode, encode, kind, length, number,
-    rows_have_one_spelling, tag, value, words_spell_one_row,
+    EMPTY_ROW, ROW_WORDS, Row, RowLabel, RowText, counts_tell_nothing, decode,
+    empty_row_spells_nothing, encode, entry_in, kind, length, number, rows_have_one_spelling, tag,
+    value, words_have_the_fact_they_spell, words_spell_one_row,
 };
-use dc_names::Kind;
+use dc_names::{Kind, Name};
+use dc_plain::{Key, Label};
 
 /// Whether the row is spelled by these words, whatever the sequence count is.
 fn is_spelled_by(row: &Row, words: &[u64; ROW_WORDS]) -> bool {
@@ -57,7 +59,53 @@ fn spells_the_examples(rt: HostRuntime) {
         assert_eq!(rt; decode(&EXAMPLES[at]), example(at));
         words_spell_one_row(&EXAMPLES[at]);
     }
+    assert_eq!(rt; decode(&EMPTY_ROW), Some(Row::Empty));
     rows_have_one_spelling();
+    words_have_the_fact_they_spell();
+    counts_tell_nothing();
+    empty_row_spells_nothing();
+}
+
+/// What the words say of a directory's entry, or of its dot-dot.
+fn sought(words: &[u64], dir: u64, name: &[u8]) -> Option<Option<(u64, Kind)>> {
+    let label = match Name::new(name) {
+        Some(name) => Label::Name(name),
+        None => Label::DotDot,
+    };
+    entry_in(words, Key { number: dir, label })
+}
+
+#[test]
+fn finds_entries_by_their_words(rt: HostRuntime) {
+    let cases: [(usize, u64, &[u8], Option<Option<(u64, Kind)>>); 11] = [
+        (0, 1, b"usr", Some(Some((2, Kind::Dir)))),
+        (0, 2, b"usr", None),
+        (0, 1, b"us", None),
+        (0, 1, b"usx", None),
+        (0, 1, b"..", None),
+        (1, 1, b"x", Some(None)),
+        (1, 1, &[b'x'; 33], None),
+        (2, 2, b"..", Some(Some((1, Kind::Dir)))),
+        (2, 1, b"..", None),
+        (3, 4, b"./d", None),
+        (4, 0, b"..", None),
+    ];
+    for (at, dir, name, want) in cases {
+        assert_eq!(rt; sought(&EXAMPLES[at], dir, name), want);
+    }
+    let text = Key {
+        number: 4,
+        label: Label::Text,
+    };
+    assert_eq!(rt; entry_in(&EXAMPLES[3], text), None);
+    assert_eq!(rt; sought(&EXAMPLES[0][..7], 1, b"usr"), None);
+}
+
+#[test]
+fn finds_entries_under_any_count(rt: HostRuntime) {
+    let mut words = EXAMPLES[0];
+    words[0] = u64::MAX;
+    assert_eq!(rt; sought(&words, 1, b"usr"), Some(Some((2, Kind::Dir))));
 }
 
 #[test]

@@ -54,7 +54,7 @@ fn has_spelling(row: &Row) -> bool
     }
 }
 
-fn is_numbered(target: &Option<(u64, Kind)>) -> bool
+pub(crate) fn is_numbered(target: &Option<(u64, Kind)>) -> bool
     ensures { result ≡ is_numbered target.now }
 {
     match target {
@@ -63,7 +63,7 @@ fn is_numbered(target: &Option<(u64, Kind)>) -> bool
     }
 }
 
-fn kind_code(target: &Option<(u64, Kind)>) -> u64
+pub(crate) fn kind_code(target: &Option<(u64, Kind)>) -> u64
     ensures { result ≡ kind_code target.now }
 {
     match target {
@@ -74,7 +74,7 @@ fn kind_code(target: &Option<(u64, Kind)>) -> u64
     }
 }
 
-fn target_number(target: &Option<(u64, Kind)>) -> u64
+pub(crate) fn target_number(target: &Option<(u64, Kind)>) -> u64
     ensures { result ≡ target_number target.now }
 {
     match target {
@@ -84,7 +84,7 @@ fn target_number(target: &Option<(u64, Kind)>) -> u64
 }
 
 /// The words of a row with these fields.
-fn spell(tag: u64, kind: u64, number: u64, value: u64, text: &[u8]) -> [u64; ROW_WORDS]
+pub(crate) fn spell(tag: u64, kind: u64, number: u64, value: u64, text: &[u8]) -> [u64; ROW_WORDS]
     requires tag { tag ≤ 2 }
     requires kind { kind ≤ 3 }
     requires room { length text.now ≤ ROW_TEXT }

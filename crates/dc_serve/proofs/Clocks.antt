@@ -4,8 +4,8 @@ use Rattle.std.specs.List.{onto_first, slice_split}
 use Rattle.std.proofs.lemmas.List.{length-append}
 use Rattle.std.proofs.Math.Nat.{le_refl}
 use Rattle.dc_plain.specs.Runs.{alters}
-use Rattle.dc_lang.specs.Commands.{Order, Said}
-use Rattle.dc_lang.specs.Commands.Said.{Sync, Orders}
+use Rattle.dc_lang.specs.Commands.{Order, Meaning}
+use Rattle.dc_lang.specs.Commands.Meaning.{Sync, Orders}
 use Rattle.dc_serve.specs.Bytes.{IsServiceFault}
 use Rattle.dc_serve.specs.Input.{AllSay}
 use Rattle.dc_serve.specs.Lines.{lines_of}
@@ -14,6 +14,9 @@ use Rattle.dc_serve.specs.Serving.{State, after, after_all, opening, request_in}
 use Rattle.dc_serve.specs.declared.fault.ServeFault.{ServeFault}
 use Rattle.dc_serve.specs.declared.fault.ServeFault.TheVariants.{BadSize, Read, BadLine, NoMemory, Spent, Write}
 use Rattle.dc_serve.proofs.Served.{after_all-append, of_sessions-next, state_more}
+use Rattle.dc_plain.specs.declared.TheConstants.{MOST_COUNT}
+use Rattle.dc_lang.specs.declared.TheConstants.{SESSIONS}
+use Rattle.dc_serve.specs.declared.TheConstants.{MOST_BYTES}
 
 -- an order moves the clock by one at most
 after-clock : (state : State) (order : Order) → (state.clock ≤ (after state order).clock) × ((after state order).clock ≤ state.clock + 1)
@@ -61,11 +64,11 @@ sessions-rise state orders n (suc k) =
     subst (λ (m : ℕ). (after_all state (of_sessions n orders)).clock ≤ (after_all state (of_sessions m orders)).clock) same (rw (after_all-append state done these) (omega arith))
 
 -- where the orders of a session stop, those of the phase do
-pub session_fails : (start self : State) (orders : List Order) (session : ℕ) (fault : ServeFault) → session < 16 → self ≡ after_all start (of_sessions session orders)
+pub session_fails : (start self : State) (orders : List Order) (session : ℕ) (fault : ServeFault) → session < SESSIONS → self ≡ after_all start (of_sessions session orders)
     → IsServiceFault (after_all self (of_session session orders)).clock fault → IsServiceFault (after_all start (by_session orders)).clock fault
 session_fails start self orders session fault within state is =
     let k = 15 - session in
-    let all : k + (session + 1) ≡ 16 = omega arith in
+    let all : k + (session + 1) ≡ SESSIONS = omega arith in
     let next = state_more start self _ (of_sessions session orders) (of_session session orders) state refl ∙ ap (after_all start) (sym (of_sessions-next session orders)) in
     let rises = subst (λ (n : ℕ). (after_all start (of_sessions (session + 1) orders)).clock ≤ (after_all start (of_sessions n orders)).clock) all (sessions-rise start orders (session + 1) k) in
     fault_later _ _ fault rises (subst (λ (end : State). IsServiceFault end.clock fault) next is)
@@ -84,31 +87,31 @@ sessions-length (suc n) orders =
     let these = length_kept (λ order. order.session == n) orders in
     rw (length-append (of_sessions n orders) (of_session n orders)) (omega arith)
 
-orders_in-length : (said : List Said) → length (orders_in said) ≤ length said
+orders_in-length : (said : List Meaning) → length (orders_in said) ≤ length said
 orders_in-length [] = omega arith
 orders_in-length (Sync ∷ said) = let rest = orders_in-length said in omega arith
 orders_in-length (Orders order ∷ said) = let rest = orders_in-length said in omega arith
 
 -- how much is said in all parts
-abbrev total : List (List Said) → ℕ
+abbrev total : List (List Meaning) → ℕ
 total [] = 0
 total (part ∷ parts) = length part + total parts
 
-split-total : (said : List Said) → total (slice_split is_sync said) ≤ length said
+split-total : (said : List Meaning) → total (slice_split is_sync said) ≤ length said
 split-total [] = le_refl 0
 split-total (one ∷ said) =
     let rest = split-total said in
     let more = onto_first-total one (slice_split is_sync said) in
     elim (is_sync one) as (λ t. total (cond t ([] ∷ slice_split is_sync said) (onto_first one (slice_split is_sync said))) ≤ length (one ∷ said)) [ true ↦ omega arith | false ↦ omega arith ]
   where
-    onto_first-total : (one : Said) (parts : List (List Said)) → total (onto_first one parts) ≤ total parts + 1
+    onto_first-total : (one : Meaning) (parts : List (List Meaning)) → total (onto_first one parts) ≤ total parts + 1
     onto_first-total one [] = omega arith
     onto_first-total one (part ∷ parts) = omega arith
 
-in_order-length : (parts : List (List Said)) → length (in_order (map orders_in parts)) ≤ 16 * total parts
+in_order-length : (parts : List (List Meaning)) → length (in_order (map orders_in parts)) ≤ SESSIONS * total parts
 in_order-length [] = omega arith
 in_order-length (part ∷ parts) =
-    let these = sessions-length 16 (orders_in part) in
+    let these = sessions-length SESSIONS (orders_in part) in
     let orders = orders_in-length part in
     let rest = in_order-length parts in
     rw (length-append (by_session (orders_in part)) (in_order (map orders_in parts))) (omega arith)
@@ -124,14 +127,14 @@ lines_of-length (b ∷ bytes) =
     onto_first-length b [] = omega arith
     onto_first-length b (line ∷ lines) = omega arith
 
-says-length : (lines : List (List ℕ)) (said : List Said) → AllSay lines said → length said ≤ length lines
+says-length : (lines : List (List ℕ)) (said : List Meaning) → AllSay lines said → length said ≤ length lines
 says-length [] [] all = omega arith
 says-length [] (one ∷ said) all = absurd all
 says-length (line ∷ lines) [] all = absurd all
 says-length (line ∷ lines) (one ∷ said) all = let rest = says-length lines said all.1 in omega arith
 
 -- the lines of a whole input don't bring the clock to its limit
-pub never_spent : (limit : ℕ) (input : List ℕ) (said : List Said) → length input ≤ 1048576 → AllSay (lines_of input) said → 2 ^ 62 ≤ (after_all (opening limit) (in_order (phases said))).clock → ⊥
+pub never_spent : (limit : ℕ) (input : List ℕ) (said : List Meaning) → length input ≤ MOST_BYTES → AllSay (lines_of input) said → MOST_COUNT ≤ (after_all (opening limit) (in_order (phases said))).clock → ⊥
 never_spent limit input said fits says spent =
     let clock = clock-bound (opening limit) (in_order (phases said)) in
     let orders = in_order-length (slice_split is_sync said) in

@@ -1,6 +1,6 @@
 -- How a run ends that stops while it serves.
 use Rattle.std.proofs.Common.{ℕ, List, inr}
-use Rattle.dc_lang.specs.Commands.{Said}
+use Rattle.dc_lang.specs.Commands.{Meaning}
 use Rattle.dc_serve.specs.Endings.{EndsBy, ServesFront, Streams, Understood}
 use Rattle.dc_serve.specs.Phases.{phases}
 use Rattle.dc_serve.specs.Serving.{opening}
@@ -8,7 +8,7 @@ use Rattle.dc_serve.specs.declared.fault.ServeFault.{ServeFault}
 use Rattle.dc_serve.specs.declared.fault.ServeFault.TheVariants.{BadSize, Read, BadLine, NoMemory, Spent, Write}
 use Rattle.dc_serve.proofs.Clocks.{never_spent}
 
-pub serving_ends : (limit : ℕ) (streams : Streams) (said : List Said) (fault : ServeFault) → Understood streams said
+pub serving_ends : (limit : ℕ) (streams : Streams) (said : List Meaning) (fault : ServeFault) → Understood streams said
     → ServesFront (opening limit) (phases said) streams.old streams.new fault → EndsBy limit streams fault
 serving_ends limit streams said BadSize good is = absurd is
 serving_ends limit streams said Read good is = absurd is

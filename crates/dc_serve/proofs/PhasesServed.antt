@@ -5,7 +5,7 @@ use Rattle.std.proofs.lemmas.List.Concat.{flat_map-append}
 use Rattle.std.specs.Io.KnownBytes.{Appends}
 use Rattle.std.specs.Borrow.{Bor}
 use Rattle.dc_lang.specs.declared.line.Line.{Line}
-use Rattle.dc_lang.specs.Commands.{Order, said_by}
+use Rattle.dc_lang.specs.Commands.{Order, meaning_of}
 use Rattle.dc_serve.specs.Bytes.{AppendsFront, IsServiceFault, WritesFront}
 use Rattle.dc_serve.specs.Endings.{ServesFront}
 use Rattle.dc_serve.specs.declared.fault.ServeFault.{ServeFault}
@@ -90,7 +90,7 @@ phase_stops start self phases i old mid Write so_far is = absurd is
 
 -- the orders of a borrowed phase
 abbrev pub orders_of : Bor (List Line) → List Order
-orders_of phase = orders_in (map said_by phase.now)
+orders_of phase = orders_in (map meaning_of phase.now)
 
 pub this_phase : (phases : List (Bor (List Line))) (i : ℕ) (phase : Bor (List Line)) → i < length phases → phase ≡ get_or phases i phase → get_or (map orders_of phases) i [] ≡ orders_of phase
 this_phase phases i phase within is = get_or-map orders_of phases i phase [] within ∙ ap orders_of (sym is)

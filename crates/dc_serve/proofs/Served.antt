@@ -3,8 +3,8 @@ use Rattle.std.proofs.Common.{◌≡◌, ℕ, ◌+◌, List, [], ◌∷◌, ◌+
 use Rattle.std.specs.List.{slice_split, onto_first}
 use Rattle.std.proofs.lemmas.List.Elements.{filter-append}
 use Rattle.dc_plain.specs.Runs.{replies_of, tree_after_all}
-use Rattle.dc_lang.specs.Commands.{Order, Said}
-use Rattle.dc_lang.specs.Commands.Said.{Sync, Orders}
+use Rattle.dc_lang.specs.Commands.{Order, Meaning}
+use Rattle.dc_lang.specs.Commands.Meaning.{Sync, Orders}
 use Rattle.dc_serve.specs.Phases.{orders_in, of_session, of_sessions}
 use Rattle.dc_serve.specs.Serving.{State, after, after_all, answer_in, answers_in, reply_in, replies_in, requests_in}
 
@@ -27,11 +27,11 @@ tree-run state [] = refl
 tree-run state (order ∷ orders) = tree-run (after state order) orders
 
 -- the orders of the first of what is said, and those of the rest
-pub orders_in-first : (said : Said) (rest : List Said) → orders_in (said ∷ rest) ≡ orders_in (said ∷ []) ++ orders_in rest
+pub orders_in-first : (said : Meaning) (rest : List Meaning) → orders_in (said ∷ rest) ≡ orders_in (said ∷ []) ++ orders_in rest
 orders_in-first Sync rest = refl
 orders_in-first (Orders order) rest = refl
 
-pub of_session-first : (session : ℕ) (said : Said) (rest : List Said) → of_session session (orders_in (said ∷ rest)) ≡ of_session session (orders_in (said ∷ [])) ++ of_session session (orders_in rest)
+pub of_session-first : (session : ℕ) (said : Meaning) (rest : List Meaning) → of_session session (orders_in (said ∷ rest)) ≡ of_session session (orders_in (said ∷ [])) ++ of_session session (orders_in rest)
 of_session-first session said rest =
     ap (of_session session) (orders_in-first said rest) ∙ filter-append (λ order. order.session == session) (orders_in (said ∷ [])) (orders_in rest)
 

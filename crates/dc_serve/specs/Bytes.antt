@@ -3,12 +3,14 @@ use Rattle.std.specs.Prelude.{◌≡◌, ℕ, ◌≤◌, ◌^◌, List, ◌++◌
 use Rattle.std.specs.Io.KnownBytes.{Consumes, IsAtEnd, Appends}
 use Rattle.dc_serve.specs.declared.fault.ServeFault.{ServeFault}
 use Rattle.dc_serve.specs.declared.fault.ServeFault.TheVariants.{Read, NoMemory, Spent, Write}
+use Rattle.dc_plain.specs.declared.TheConstants.{MOST_COUNT}
+use Rattle.dc_serve.specs.declared.TheConstants.{MOST_BYTES}
 
--- an input of at most 1,048,576 bytes was read up to its end
+-- an input of at most MOST_BYTES was read up to its end
 pub record ReadWhole (before after : Option (List ℕ)) (input : List ℕ) : Type 0 where
   pub consumed : Consumes before after input
   pub ended : IsAtEnd after
-  pub fits : length input ≤ 1048576
+  pub fits : length input ≤ MOST_BYTES
 
 -- reading ends with these faults alone
 abbrev pub IsReadFault : ServeFault → Type 0
@@ -19,7 +21,7 @@ IsReadFault _ = ⊥
 -- answering ends with these faults alone, `Spent` only where the clock gets as far as this limit
 abbrev pub IsServiceFault : ℕ → ServeFault → Type 0
 IsServiceFault clock NoMemory = Unit {0}
-IsServiceFault clock Spent = 2 ^ 62 ≤ clock
+IsServiceFault clock Spent = MOST_COUNT ≤ clock
 IsServiceFault clock _ = ⊥
 
 -- known bytes have grown by a front of the text

@@ -8,6 +8,7 @@ use Rattle.dc_lang.specs.declared.line.Verb.{Verb}
 use Rattle.dc_lang.specs.declared.line.Verb.TheVariants.{Cd}
 use Rattle.dc_lang.specs.Commands.{Order, request_from}
 use Rattle.dc_lang.specs.Replies.{reply_text}
+use Rattle.dc_lang.specs.declared.TheConstants.{SESSIONS}
 
 -- how many inodes may live, the tree, how many calls have altered it, and where each session starts
 pub record State : Type 0 where
@@ -16,9 +17,9 @@ pub record State : Type 0 where
   pub clock : ℕ
   pub bases : List ℕ
 
--- an empty tree, and each of the 16 sessions starts at the root
+-- an empty tree, and each session starts at the root
 abbrev pub opening : ℕ → State
-opening limit = record { limit = limit; tree = empty_tree; clock = 0; bases = replicate 16 1 }
+opening limit = record { limit = limit; tree = empty_tree; clock = 0; bases = replicate SESSIONS 1 }
 
 -- the call of an order, from its session's starting directory
 abbrev pub request_in : State → Order → Request

@@ -2,12 +2,11 @@ ghost use Rattle.std.specs.Prelude.{OnOk, IfOk, IfErr};
 ghost use Rattle.std.specs.Io.KnownBytes.{Appends};
 ghost use Rattle.dc_serve.specs.Bytes.{ReadWhole, IsReadFault, WritesFront};
 
-use crate::ServeFault;
+use crate::{MOST_BYTES, ServeFault};
 use std::alloc::Global;
 use std::io::{Read, Write};
 
-const MOST_BYTES: usize = 1_048_576;
-
+/// How many reads are made at most: one for each byte, one more that finds the end, and one to spare.
 const MOST_READS: u32 = 1_048_578;
 
 /// All bytes of the input, by reads up to one that gives none.
@@ -19,6 +18,8 @@ pub fn read_whole<R: Read>(alloc: Global, reader: &mut R) -> Result<Vec<u8>, Ser
     let mut input = Vec::new(alloc);
     let mut buffer = [0u8; 4096];
     'reads: for _ in 0..MOST_READS {
+        // An interrupted read is a fault like any other and is not tried again: a reader that is
+        // always interrupted would keep the server for ever.
         let Ok(count) = reader.read(&mut buffer) else {
             return Err(ServeFault::Read);
         };
@@ -28,9 +29,7 @@ pub fn read_whole<R: Read>(alloc: Global, reader: &mut R) -> Result<Vec<u8>, Ser
         if count > MOST_BYTES - input.len() {
             return Err(ServeFault::Read);
         }
-        let Ok(()) = input.extend_from_slice(&buffer[..count]) else {
-            return Err(ServeFault::NoMemory);
-        };
+        input.extend_from_slice(&buffer[..count])?;
     }
     Err(ServeFault::Read)
 }

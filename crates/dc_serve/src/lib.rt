@@ -23,7 +23,15 @@ pub use laws::replies_are_those_of_a_run;
 pub use running::run;
 pub use sizes::Options;
 
+/// The most bytes that an input may have.
+pub const MOST_BYTES: usize = 1_048_576;
+
+/// The most buckets that a cache may have.
+pub const MOST_BUCKETS: u64 = 1024;
+
 #[cfg(test)]
 mod rows;
 #[cfg(test)]
 mod tests;
+#[cfg(test)]
+mod tests_of_streams;

@@ -39,9 +39,7 @@ pub fn lines_in(alloc: Global, text: &[u8]) -> Result<Vec<&[u8]>, ServeFault>
     let mut rest = text;
     'lines: while !rest.is_empty() {
         let (line, after) = first_line(rest);
-        let Ok(()) = lines.push(line) else {
-            return Err(ServeFault::NoMemory);
-        };
+        lines.push(line)?;
         rest = after;
     }
     Ok(lines)

@@ -1,5 +1,5 @@
 ghost use Rattle.std.specs.Prelude.{◌≡◌, IfOk, map};
-ghost use Rattle.dc_lang.specs.Commands.{said_by};
+ghost use Rattle.dc_lang.specs.Commands.{meaning_of};
 ghost use Rattle.dc_serve.specs.Phases.{is_sync, orders_in, phases};
 
 use crate::ServeFault;
@@ -7,7 +7,7 @@ use dc_lang::Line;
 use std::alloc::{AllocError, Global};
 
 fn is_sync(line: &Line) -> bool
-    ensures { result ≡ is_sync (said_by line.now) }
+    ensures { result ≡ is_sync (meaning_of line.now) }
 {
     matches!(line, Line::Sync)
 }
@@ -15,8 +15,8 @@ fn is_sync(line: &Line) -> bool
 /// The lines between those that say `sync`.
 pub fn phases(alloc: Global, lines: &[Line]) -> Result<Vec<&[Line]>, AllocError>
     ensures { IfOk result (λ parts.
-        map (λ part. orders_in (map said_by part.now)) parts.items
-        ≡ phases (map said_by lines.now)) }
+        map (λ part. orders_in (map meaning_of part.now)) parts.items
+        ≡ phases (map meaning_of lines.now)) }
 {
     lines.split(|line| is_sync(line)).collect(alloc)
 }

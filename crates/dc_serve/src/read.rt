@@ -1,5 +1,5 @@
 ghost use Rattle.std.specs.Prelude.{IfOk, IfErr, map};
-ghost use Rattle.dc_lang.specs.Commands.{Says, said_by};
+ghost use Rattle.dc_lang.specs.Commands.{Means, meaning_of};
 ghost use Rattle.dc_serve.specs.Input.{AllSay, IsLineFault, IsLinesFault};
 ghost use Rattle.dc_serve.specs.Lines.{lines_of};
 
@@ -10,7 +10,7 @@ use std::alloc::Global;
 
 /// What the line of a number says.
 fn read_numbered(alloc: Global, number: u64, line: &[u8]) -> Result<Line, ServeFault>
-    ensures ok { IfOk result (λ said. Says line.now (said_by said)) }
+    ensures ok { IfOk result (λ said. Means line.now (meaning_of said)) }
     ensures err { IfErr result (IsLineFault number line.now) }
 {
     match read_line(alloc, line) {
@@ -23,7 +23,7 @@ fn read_numbered(alloc: Global, number: u64, line: &[u8]) -> Result<Line, ServeF
 /// What lines say.
 fn said_by_all(alloc: Global, lines: &[&[u8]]) -> Result<Vec<Line>, ServeFault>
     ensures ok { IfOk result (λ said.
-        AllSay (map (λ line. line.now) lines.now) (map said_by said.items)) }
+        AllSay (map (λ line. line.now) lines.now) (map meaning_of said.items)) }
     ensures err { IfErr result (IsLinesFault (map (λ line. line.now) lines.now)) }
 {
     let mut said = Vec::new(alloc);
@@ -35,7 +35,7 @@ fn said_by_all(alloc: Global, lines: &[&[u8]]) -> Result<Vec<Line>, ServeFault>
 
 /// What the lines of an input say.
 pub fn read_lines(alloc: Global, input: &[u8]) -> Result<Vec<Line>, ServeFault>
-    ensures ok { IfOk result (λ said. AllSay (lines_of input.now) (map said_by said.items)) }
+    ensures ok { IfOk result (λ said. AllSay (lines_of input.now) (map meaning_of said.items)) }
     ensures err { IfErr result (IsLinesFault (lines_of input.now)) }
 {
     let lines = lines_in(alloc, input)?;

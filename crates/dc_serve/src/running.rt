@@ -7,7 +7,7 @@ use crate::read::read_lines;
 use crate::serve::serve;
 use crate::server::Server;
 use crate::{Gate, Options, ServeFault};
-use dc_store::MapStore;
+use dc_store::SlabStore;
 use std::alloc::Global;
 use std::io::{Read, Write};
 use std::thread::Threads;
@@ -30,7 +30,7 @@ fn answer_input<R: Read, W: Write, G: Gate>(
 {
     let input = read_whole(alloc, reader)?;
     let lines = read_lines(alloc, &input)?;
-    let mut server = Server::new(MapStore::new(alloc)?, inodes);
+    let mut server = Server::new(SlabStore::new(alloc)?, inodes);
     serve(&mut server, alloc, &lines, gate, writer)?;
     match writer.flush() {
         Ok(()) => Ok(()),

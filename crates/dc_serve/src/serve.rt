@@ -1,6 +1,6 @@
 ghost use Rattle.std.specs.Prelude.{OnOk, IfErr, map};
 ghost use Rattle.std.specs.Io.KnownBytes.{Appends};
-ghost use Rattle.dc_lang.specs.Commands.{said_by};
+ghost use Rattle.dc_lang.specs.Commands.{meaning_of};
 ghost use Rattle.dc_serve.specs.Endings.{ServesFront};
 ghost use Rattle.dc_serve.specs.Phases.{in_order, orders_in, phases};
 ghost use Rattle.dc_serve.specs.Serving.{replies_in};
@@ -24,15 +24,17 @@ fn serve_phases<S: Store + Drop, G: Gate, W: Write>(
 ) -> Result<(), ServeFault>
     ensures ok { OnOk result (Appends (W.contents writer.old) (W.contents writer.new)
         (replies_in server.old (in_order
-        (map (λ phase. orders_in (map said_by phase.now)) phases.now)))) }
+        (map (λ phase. orders_in (map meaning_of phase.now)) phases.now)))) }
     ensures err { IfErr result (ServesFront server.old
-        (map (λ phase. orders_in (map said_by phase.now)) phases.now)
+        (map (λ phase. orders_in (map meaning_of phase.now)) phases.now)
         (W.contents writer.old) (W.contents writer.new)) }
 {
     let mut first = 1u64;
     for phase in phases {
         let text = server.serve_phase(alloc, first, phase, gate)?;
         write_whole(writer, &text)?;
+        // A line's number would be wrong past 2^64. An input has at most 1,048,576 bytes, and so
+        // fewer lines than that.
         first = first.saturating_add(phase.len() as u64 + 1);
     }
     Ok(())
@@ -47,8 +49,8 @@ pub fn serve<S: Store + Drop, G: Gate, W: Write>(
     writer: &mut W,
 ) -> Result<(), ServeFault>
     ensures ok { OnOk result (Appends (W.contents writer.old) (W.contents writer.new)
-        (replies_in server.old (in_order (phases (map said_by lines.now))))) }
-    ensures err { IfErr result (ServesFront server.old (phases (map said_by lines.now))
+        (replies_in server.old (in_order (phases (map meaning_of lines.now))))) }
+    ensures err { IfErr result (ServesFront server.old (phases (map meaning_of lines.now))
         (W.contents writer.old) (W.contents writer.new)) }
 {
     let phases = phases(alloc, lines)?;

@@ -3,24 +3,19 @@ ghost use Rattle.dc_plain.specs.Requests.{answer_of, request_of};
 ghost use Rattle.dc_plain.specs.Runs.{reply_of};
 ghost use Rattle.dc_plain.specs.Trees.{empty_tree};
 ghost use Rattle.dc_ops.specs.Asked.{IsChange};
-ghost use Rattle.dc_lang.specs.Commands.{order_of, said_by};
+ghost use Rattle.dc_lang.specs.Commands.{order_of, meaning_of};
 ghost use Rattle.dc_serve.specs.Phases.{by_session, orders_for, orders_in};
 ghost use Rattle.dc_serve.specs.Serving.{State, opening, called, bases_after, reply_in, after};
 ghost use Rattle.dc_serve.specs.Serving.{replies_in, after_all};
 ghost use Rattle.dc_serve.specs.Bytes.{IsServiceFault};
 
 use crate::{Gate, ServeFault};
-use dc_lang::{Command, Line, Verb, call, write_reply};
+use dc_lang::{Command, Line, SESSIONS, Verb, call, write_reply};
 use dc_ops::{ask, carry, plan, seek};
-use dc_plain::{Call, Reply, Stamped};
+use dc_plain::{Call, MOST_COUNT, Reply, Sort, Stamped};
 use dc_store::Store;
 use std::alloc::Global;
 use std::marker::Model;
-
-/// The clock never goes further.
-const MOST_POINTS: u64 = 1 << 62;
-
-const SESSIONS: u64 = 16;
 
 /// A store, how many inodes may live in it, how many calls have altered it, and where each session
 /// starts.
@@ -69,7 +64,7 @@ impl<S: Store + Drop> Server<S> {
             Ok(plan) => plan,
             Err(reply) => return Ok(reply),
         };
-        if self.clock >= MOST_POINTS {
+        if self.clock >= MOST_COUNT {
             return Err(ServeFault::Spent);
         }
         let reply = carry(alloc, &mut self.store, plan)?;
@@ -84,22 +79,16 @@ impl<S: Store + Drop> Server<S> {
         ensures new { OnOk result (self.new ≡ called self.old (request_of call.now)) }
         ensures err { IfErr result (IsServiceFault self.old.clock) }
     {
-        match call {
-            Call::Look { .. } | Call::Stat { .. } => Ok(seek(&self.store, call)),
-            Call::Readlink { .. } | Call::List { .. } => Ok(ask(alloc, &self.store, call)?),
-            Call::Mkdir { .. }
-            | Call::Create { .. }
-            | Call::Link { .. }
-            | Call::Symlink { .. }
-            | Call::Unlink { .. }
-            | Call::Rmdir { .. }
-            | Call::Rename { .. } => self.change(alloc, call),
+        match call.sort() {
+            Sort::Sought => Ok(seek(&self.store, call)),
+            Sort::Told => Ok(ask(alloc, &self.store, call)?),
+            Sort::Change => self.change(alloc, call),
         }
     }
 
-    /// Lets a session start where its `cd` led.
+    /// After a `cd` that found a directory, its session's relative paths start there.
     fn go(&mut self, command: &Command, reply: &Reply)
-        requires { command.now.session < 16 }
+        requires { command.now.session < SESSIONS }
         ensures { self.new ≡ record self.old {
           bases = bases_after command.now.verb command.now.session (answer_of reply.now)
               self.old.bases;
@@ -112,7 +101,7 @@ impl<S: Store + Drop> Server<S> {
 
     /// Answers a command with its line.
     fn obey(&mut self, alloc: Global, command: &Command) -> Result<Vec<u8>, ServeFault>
-        requires { command.now.session < 16 }
+        requires { command.now.session < SESSIONS }
         ensures reply { IfOk result (λ text.
             text.items ≡ reply_in self.old (order_of command.now)) }
         ensures new { OnOk result (self.new ≡ after self.old (order_of command.now)) }
@@ -135,11 +124,11 @@ impl<S: Store + Drop> Server<S> {
         gate: &G,
         text: &mut Vec<u8>,
     ) -> Result<(), ServeFault>
-        requires { session < 16 }
+        requires { session < SESSIONS }
         ensures text { OnOk result (text.new.items
-            ≡ text.old.items ++ replies_in self.old (orders_for session (said_by line.now ∷ []))) }
+            ≡ text.old.items ++ replies_in self.old (orders_for session (meaning_of line.now ∷ []))) }
         ensures new { OnOk result (self.new
-            ≡ after_all self.old (orders_for session (said_by line.now ∷ []))) }
+            ≡ after_all self.old (orders_for session (meaning_of line.now ∷ []))) }
         ensures err { IfErr result (IsServiceFault self.old.clock) }
     {
         let Line::Command(command) = line else {
@@ -165,15 +154,16 @@ impl<S: Store + Drop> Server<S> {
         gate: &G,
         text: &mut Vec<u8>,
     ) -> Result<(), ServeFault>
-        requires { session < 16 }
+        requires { session < SESSIONS }
         ensures text { OnOk result (text.new.items
-            ≡ text.old.items ++ replies_in self.old (orders_for session (map said_by phase.now))) }
+            ≡ text.old.items ++ replies_in self.old (orders_for session (map meaning_of phase.now))) }
         ensures new { OnOk result (self.new
-            ≡ after_all self.old (orders_for session (map said_by phase.now))) }
+            ≡ after_all self.old (orders_for session (map meaning_of phase.now))) }
         ensures err { IfErr result (IsServiceFault
-            (after_all self.old (orders_for session (map said_by phase.now))).clock) }
+            (after_all self.old (orders_for session (map meaning_of phase.now))).clock) }
     {
         for (at, line) in phase.iter().enumerate() {
+            // The sum would be wrong past 2^64, which no number of a line of the input comes near.
             let number = first.saturating_add(at as u64);
             self.obey_if(alloc, session, number, line, gate, text)?;
         }
@@ -189,11 +179,11 @@ impl<S: Store + Drop> Server<S> {
         gate: &G,
     ) -> Result<Vec<u8>, ServeFault>
         ensures text { IfOk result (λ text.
-            text.items ≡ replies_in self.old (by_session (orders_in (map said_by phase.now)))) }
+            text.items ≡ replies_in self.old (by_session (orders_in (map meaning_of phase.now)))) }
         ensures new { OnOk result (self.new
-            ≡ after_all self.old (by_session (orders_in (map said_by phase.now)))) }
+            ≡ after_all self.old (by_session (orders_in (map meaning_of phase.now)))) }
         ensures err { IfErr result (IsServiceFault
-            (after_all self.old (by_session (orders_in (map said_by phase.now)))).clock) }
+            (after_all self.old (by_session (orders_in (map meaning_of phase.now)))).clock) }
     {
         let mut text = Vec::new(alloc);
         for session in 0..SESSIONS {

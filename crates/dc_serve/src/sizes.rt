@@ -1,6 +1,9 @@
 ghost use Rattle.std.specs.Prelude.{◌≡◌};
 ghost use Rattle.dc_serve.specs.Sizes.{are_right};
 
+use crate::MOST_BUCKETS;
+use dc_plain::MOST_INODES;
+
 /// The sizes that a server is started with.
 #[derive(Clone, Copy, Debug, PartialEq, Eq)]
 pub struct Options {
@@ -15,8 +18,8 @@ impl Options {
     pub fn are_right(&self) -> bool
         ensures { result ≡ are_right self.now.buckets self.now.inodes }
     {
-        (1..=1024).contains(&self.buckets)
+        (1..=MOST_BUCKETS).contains(&self.buckets)
             && self.buckets.is_power_of_two()
-            && (1..=1_048_576).contains(&self.inodes)
+            && (1..=MOST_INODES).contains(&self.inodes)
     }
 }

@@ -1,10 +1,7 @@
 use crate::{
-    FreeGate, Gate, Options, OptionsFault, ServeFault, options, replies_are_those_of_a_run, run,
+    FreeGate, Options, OptionsFault, ServeFault, options, replies_are_those_of_a_run, run,
 };
 use std::alloc::{AllocError, Global};
-use std::io;
-use std::io::{Read, Write};
-use std::sync::atomic::{AtomicU64, Ordering};
 use std::test::Fail;
 use std::thread::Threads;
 
@@ -15,7 +12,7 @@ pub const USUAL: Options = Options {
 };
 
 /// What a run with these sizes answers and writes.
-fn served<T: Threads + Sync>(
+pub fn served<T: Threads + Sync>(
     rt: &T,
     alloc: Global,
     sizes: Options,
@@ -87,6 +84,99 @@ fn long_names(rt: HostRuntime) -> Result<(), Fail> {
     Ok(())
 }
 
+/// Lines whose parts are a text and how often it stands there.
+fn input_of(alloc: Global, parts: &[(&str, usize)]) -> Result<Vec<u8>, AllocError> {
+    let mut input = Vec::new(alloc);
+    for (text, times) in parts {
+        for _ in 0..*times {
+            input.extend_from_slice(text.as_bytes())?;
+        }
+    }
+    Ok(input)
+}
+
+/// A text that is not the shortest or the usual is answered like any other: memory is at hand.
+#[test]
+fn longest_names_and_texts(rt: HostRuntime) -> Result<(), Fail> {
+    let name = ("n", 255);
+    let text = ("t/", 2047);
+    let input = input_of(
+        rt.alloc(),
+        &[
+            ("13 create /", 1),
+            name,
+            ("\n13 symlink ", 1),
+            text,
+            ("t /l\n13 list /\n", 1),
+            ("13 readlink /l\n13 rename /l /", 1),
+            name,
+            ("\n13 list /\n", 1),
+        ],
+    )?;
+    let want = input_of(
+        rt.alloc(),
+        &[
+            ("13 ok 2 @0\n13 ok 3 @1\n13 names l ", 1),
+            name,
+            (" @2\n13 text ", 1),
+            text,
+            ("t @2\n13 ok @2\n13 names ", 1),
+            name,
+            (" @3\n", 1),
+        ],
+    )?;
+    let (result, output) = served(&rt, rt.alloc(), USUAL, &input);
+    assert_eq!(rt; result, Ok(()));
+    assert!(rt; output == want);
+    Ok(())
+}
+
+/// Names go by their bytes, those above 127 after all others.
+#[test]
+fn names_of_any_bytes(rt: HostRuntime) {
+    let input = b"0 create \xff\n0 create \x7f\n0 create \x80a\n0 create \x80\n0 list /\n";
+    let want = b"0 ok 2 @0\n0 ok 3 @1\n0 ok 4 @2\n0 ok 5 @3\n0 names \x7f \x80 \x80a \xff @4\n";
+    let (result, output) = served(&rt, rt.alloc(), USUAL, input.as_slice());
+    assert_eq!(rt; result, Ok(()));
+    assert!(rt; output.as_slice() == want.as_slice(), "{output:?}");
+}
+
+#[test]
+fn sixteen_sessions_in_a_phase(rt: HostRuntime) -> Result<(), Fail> {
+    let mut input = Vec::new(rt.alloc());
+    let mut want = Vec::new(rt.alloc());
+    for session in 0..16u64 {
+        let line = format!(in rt.alloc(); "{} mkdir /{session}\n", 15 - session)?;
+        input.extend_from_slice(line.as_bytes())?;
+        let reply = format!(in rt.alloc(); "{session} ok {} @{session}\n", session + 2)?;
+        want.extend_from_slice(reply.as_bytes())?;
+    }
+    let (result, output) = served(&rt, rt.alloc(), USUAL, &input);
+    assert_eq!(rt; result, Ok(()));
+    assert!(rt; output == want, "{output:?}");
+    Ok(())
+}
+
+/// Whichever allocation is refused, the replies of whole phases alone are written, and all of them
+/// where none is.
+#[test]
+fn runs_of_little_memory(rt: HostRuntime) {
+    let phases = b"0 mkdir /a\nsync\n1 list /\n1 create /b\n".as_slice();
+    let whole = b"0 ok 2 @0\n1 names a @1\n1 ok 3 @1\n".as_slice();
+    let (result, output) = served(&rt, rt.alloc(), USUAL, phases);
+    match result {
+        Ok(()) => assert!(rt; output.as_slice() == whole, "{output:?}"),
+        Err(fault) => {
+            assert_eq!(rt; fault, ServeFault::NoMemory);
+            let ends = [0, 10, whole.len()];
+            assert!(rt;
+                ends.iter().any(|end| output.as_slice() == &whole[..*end]),
+                "{output:?}"
+            );
+        }
+    }
+}
+
 #[test]
 fn refused_inputs(rt: HostRuntime) {
     for (input, number) in [
@@ -117,59 +207,6 @@ fn refused_sizes(rt: HostRuntime) {
     }
 }
 
-/// Gives a byte at a time, `left` of them, and fails or ends there.
-#[derive(Drop)]
-struct ByteByByte {
-    given: usize,
-    left: u32,
-    fails: bool,
-    reads: u32,
-}
-
-impl Read for ByteByByte {
-    fn read(&mut self, buf: &mut [u8]) -> io::Result<usize> {
-        self.reads = self.reads.saturating_add(1);
-        if self.left == 0 && self.fails {
-            return Err(io::Error::from(io::ErrorKind::Interrupted));
-        }
-        if self.left == 0 || buf.is_empty() {
-            return Ok(0);
-        }
-        self.left -= 1;
-        buf[0] = b"0 look /\n"[self.given % 9];
-        self.given = (self.given % 9 + 1) % 9;
-        Ok(1)
-    }
-}
-
-fn lines_of_looks(left: u32, fails: bool) -> ByteByByte {
-    ByteByByte {
-        given: 0,
-        left,
-        fails,
-        reads: 0,
-    }
-}
-
-#[test]
-fn inputs_that_end_badly(rt: HostRuntime) -> Result<(), Fail> {
-    for (left, fails, want, reads) in [
-        (18, false, Ok(()), 19),
-        (18, true, Err(ServeFault::Read), 19),
-        (0, true, Err(ServeFault::Read), 1),
-        (9, true, Err(ServeFault::Read), 10),
-        (u32::MAX, false, Err(ServeFault::Read), 1_048_577),
-    ] {
-        let mut reader = lines_of_looks(left, fails);
-        let mut output = Vec::new(rt.alloc());
-        let result = run(&rt, rt.alloc(), &mut reader, &mut output, USUAL, &FreeGate);
-        assert_eq!(rt; result, want, "{left}");
-        assert_eq!(rt; reader.reads, reads, "{left}");
-        assert!(rt; want.is_ok() || output.is_empty());
-    }
-    Ok(())
-}
-
 /// A line that looks a path of so many slashes up, without its newline.
 fn look_of_slashes(alloc: Global, slashes: u32) -> Result<Vec<u8>, AllocError> {
     let mut line = Vec::from_slice(alloc, b"0 look ")?;
@@ -190,107 +227,6 @@ fn largest_inputs(rt: HostRuntime) -> Result<(), Fail> {
     assert_eq!(rt; result, Err(ServeFault::Read));
     assert!(rt; output.is_empty());
     Ok(())
-}
-
-/// Writes down each call as three digits: the session, the line, and whether it came before or
-/// after.
-#[derive(Drop)]
-struct Recorder {
-    calls: AtomicU64,
-}
-
-impl Recorder {
-    fn record(&self, session: u64, line: u64, when: u64) {
-        let call = session
-            .wrapping_mul(100)
-            .wrapping_add(line.wrapping_mul(10))
-            .wrapping_add(when);
-        let before = self.calls.load(Ordering::SeqCst);
-        self.calls.store(
-            before.wrapping_mul(1000).wrapping_add(call),
-            Ordering::SeqCst,
-        );
-    }
-}
-
-impl Gate for Recorder {
-    fn before(&self, session: u64, line: u64) {
-        self.record(session, line, 1);
-    }
-
-    fn after(&self, session: u64, line: u64) {
-        self.record(session, line, 2);
-    }
-}
-
-#[test]
-fn gates_are_called_round_each_command(rt: HostRuntime) {
-    let gate = Recorder {
-        calls: AtomicU64::new(0),
-    };
-    let mut rest = b"1 look /\n0 look /x\nsync\n0 look /".as_slice();
-    let mut output = Vec::new(rt.alloc());
-    let result = run(&rt, rt.alloc(), &mut rest, &mut output, USUAL, &gate);
-    assert_eq!(rt; result, Ok(()));
-    assert_eq!(rt; gate.calls.load(Ordering::SeqCst), 21_022_111_112_041_042);
-}
-
-/// Takes so many bytes, one at each write, and then fails or takes none.
-#[derive(Drop)]
-struct Taker {
-    taken: Vec<u8>,
-    room: usize,
-    fails: bool,
-    flushes: u32,
-    refuses_flush: bool,
-}
-
-impl Write for Taker {
-    fn write(&mut self, buf: &[u8]) -> io::Result<usize> {
-        if self.taken.len() >= self.room && self.fails {
-            return Err(io::Error::from(io::ErrorKind::Interrupted));
-        }
-        if self.taken.len() >= self.room || buf.is_empty() {
-            return Ok(0);
-        }
-        self.taken.push(buf[0])?;
-        Ok(1)
-    }
-
-    fn flush(&mut self) -> io::Result<()> {
-        self.flushes = self.flushes.saturating_add(1);
-        if self.refuses_flush {
-            return Err(io::Error::from(io::ErrorKind::Other));
-        }
-        Ok(())
-    }
-}
-
-#[test]
-fn outputs_that_end_badly(rt: HostRuntime) {
-    let input = b"0 mkdir /a\nsync\n0 look /a\n";
-    let whole = b"0 ok 2 @0\n0 is 2 dir @1\n";
-    for (room, fails, refuses_flush, want) in [
-        (usize::MAX, false, false, Ok(())),
-        (usize::MAX, false, true, Err(ServeFault::Write)),
-        (0, false, false, Err(ServeFault::Write)),
-        (13, false, false, Err(ServeFault::Write)),
-        (13, true, false, Err(ServeFault::Write)),
-    ] {
-        let mut writer = Taker {
-            taken: Vec::new(rt.alloc()),
-            room,
-            fails,
-            flushes: 0,
-            refuses_flush,
-        };
-        let mut rest = input.as_slice();
-        let result = run(&rt, rt.alloc(), &mut rest, &mut writer, USUAL, &FreeGate);
-        let taken = room.min(whole.len());
-        assert_eq!(rt; result, want, "{room}");
-        assert!(rt; writer.taken.as_slice() == &whole[..taken], "{room}");
-        assert_eq!(rt; writer.flushes, u32::from(taken == whole.len()), "{room}");
-    }
 }
 
 #[test]

@@ -3,3 +3,5 @@ pub mod Entries
 pub mod Orders
 pub mod Listed
 pub mod Steps
+pub mod Uses
+pub mod Promoted

@@ -1,5 +1,5 @@
 -- What the parts of a shrinker are after the steps of its calls.
-use Rattle.std.proofs.Common.{◌≡◌, ℕ, ◌*◌, ◌<◌, ◌≤◌, ◌^◌, ◌/◌, Bool, true, false, not, ◌||◌, List, [], ◌∷◌, length, Option, Some, None, is_some, IfSome, map, slice_index_or, refl, ap, sym, subst, ◌∙◌, arith, nat_eq}
+use Rattle.std.proofs.Common.{◌≡◌, ℕ, ◌*◌, ◌<◌, ◌≤◌, ◌/◌, Bool, true, false, not, ◌||◌, List, [], ◌∷◌, length, Option, Some, None, is_some, IfSome, map, slice_index_or, refl, ap, sym, subst, ◌∙◌, arith, nat_eq}
 use Rattle.std.specs.List.{filter, range_with_len, IsDistinct}
 use Rattle.std.specs.Int.{div_ceil}
 use Rattle.std.proofs.lemmas.List.Elements.{filter_agree}
@@ -15,11 +15,12 @@ use Rattle.std.specs.Vec.{with_items}
 use Rattle.std.proofs.lemmas.List.{with_items_is, length-set}
 use Rattle.std.proofs.lemmas.Map.Entries.{length-keys_of}
 use Rattle.lru.specs.LruCache.{LruCache, lru_cache, promoted, put_entries}
+use Rattle.dc_shrink.specs.declared.TheConstants.{MOST_PINS}
 use Rattle.dc_shrink.specs.Listings.{Listing, listing, dropped, pins_of, is_in, is_used, in_bucket, without, IsListing}
 use Rattle.dc_shrink.specs.Orders.{promoted_in, IsKept, four_rows}
 use Rattle.dc_shrink.proofs.Lists.{without_absent}
-use Rattle.dc_shrink.proofs.Entries.{keys-promoted, keys-put, keys-remove_entry, get_removed}
-use Rattle.dc_shrink.proofs.Listed.{listing_first, listing_dropped, listing_pinned, room, used_listed, not_listed, gone}
+use Rattle.dc_shrink.proofs.Entries.{keys-promoted, keys-put, keys-remove_entry}
+use Rattle.dc_shrink.proofs.Listed.{listing_first, listing_dropped, listing_pinned, room, used_listed, not_listed}
 use Rattle.dc_shrink.proofs.Orders.{orders_first, orders_dropped, orders_new}
 
 -- the buckets after one row went first
@@ -60,7 +61,7 @@ module _ {n : ℕ} {listed : List ℕ} {pins : map.FinMap nat_cmp ℕ} {buckets 
   pub kept_dropped : IsKept (listing n (without row listed) (map.remove pins row)) buckets
   kept_dropped = (listing_dropped kept.0 row, orders_dropped kept.1 row)
 
-  pub kept_pinned : (v : ℕ) → row < n → 1 ≤ v → v ≤ 2 ^ 62 → IsKept (listing n (without row listed) (map.insert pins row v)) buckets
+  pub kept_pinned : (v : ℕ) → row < n → 1 ≤ v → v ≤ MOST_PINS → IsKept (listing n (without row listed) (map.insert pins row v)) buckets
   kept_pinned v below some most = (listing_pinned kept.0 row v below some most, orders_dropped kept.1 row)
 
   pub unused : not (is_used (listing n listed pins) row) ≡ true → (is_in listed row ≡ false) × (map.get pins row ≡ None)
@@ -108,18 +109,10 @@ pub pins_some : (o : Option ℕ) → 0 < unwrap_or o 0 → is_some o ≡ true
 pins_some None h = absurd (omega arith)
 pins_some (Some v) h = refl
 
-pub pins_limit : (o : Option ℕ) → IfSome o (λ pins. (1 ≤ pins) × (pins ≤ 2 ^ 62)) → unwrap_or o 0 ≤ 2 ^ 62
+pub pins_limit : (o : Option ℕ) → IfSome o (λ pins. (1 ≤ pins) × (pins ≤ MOST_PINS)) → unwrap_or o 0 ≤ MOST_PINS
 pins_limit None h = omega arith
 pins_limit (Some v) h = h.1
 
 -- a pinned row isn't in the list
 pub dropped_pinned : (s : Listing) → IsListing s → (row : ℕ) → 0 < pins_of s row → dropped s row ≡ listing s.rows s.listed (map.remove s.pins row)
 dropped_pinned s is row h = ap (λ l. listing s.rows l (map.remove s.pins row)) (without_absent row s.listed (not_listed is row (pins_some (map.get s.pins row) h)))
-
--- a row out of use
-pub dropped_unused : (s : Listing) (row : ℕ) → not (is_used (dropped s row) row) ≡ true
-dropped_unused s row = rw (gone row s.listed, get_removed s.pins row row, eq-eqb row row refl) refl
-
--- where no row has a pin, a row that isn't listed is unused
-pub unlisted_unused : {s : Listing} {n : ℕ} {rows : List ℕ} → s ≡ listing n rows map.empty → (row : ℕ) → is_in rows row ≡ false → not (is_used s row) ≡ true
-unlisted_unused e row h = rw (e, h, get-empty nat_cmp row) refl

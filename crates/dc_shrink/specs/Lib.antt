@@ -1,3 +1,4 @@
 -- The rows in use, by last use, and their pins.
 pub mod Listings
 pub mod Orders
+pub mod Uses

@@ -1,10 +1,11 @@
 -- The unpinned rows by last use, and the pins of the others.
-use Rattle.std.specs.Prelude.{◌≡◌, ℕ, ◌+◌, ◌-◌, ◌==◌, if◌then◌else◌, ◌/◌, ◌<◌, ◌≤◌, ◌^◌, Bool, true, not, ◌||◌, List, ◌∷◌, length, slice_get, filter, is_some, nat_eq, Option, None, IfSome, refl}
+use Rattle.std.specs.Prelude.{◌≡◌, ℕ, ◌+◌, ◌-◌, ◌==◌, if◌then◌else◌, ◌/◌, ◌<◌, ◌≤◌, Bool, true, not, ◌||◌, List, ◌∷◌, length, slice_get, filter, is_some, nat_eq, Option, None, IfSome, refl}
 use Rattle.std.specs.List.{list_any, IsDistinct}
 use Rattle.std.specs.Option.{unwrap_or}
 use Rattle.std.specs.Ordering.{nat_cmp}
 use Rattle.std.specs.Coded.{Coded, code_by, coded×, coded_list, coded_ℕ}
 use Rattle.std.specs.FinMap as map
+use Rattle.dc_shrink.specs.declared.TheConstants.{MOST_PINS}
 
 -- how many rows there are, the unpinned ones in use with the most recently used first, and the pins of the pinned ones
 pub record Listing : Type 0 where
@@ -69,5 +70,5 @@ unpinned_once s row =
 pub record IsListing (s : Listing) : Type 0 where
   pub distinct : IsDistinct nat_eq s.listed
   pub apart : (row : ℕ) → is_in s.listed row ≡ true → map.get s.pins row ≡ None
-  pub pinned : (row : ℕ) → IfSome (map.get s.pins row) (λ pins. (1 ≤ pins) × (pins ≤ 2 ^ 62))
+  pub pinned : (row : ℕ) → IfSome (map.get s.pins row) (λ pins. (1 ≤ pins) × (pins ≤ MOST_PINS))
   pub within : (row : ℕ) → is_used s row ≡ true → row < s.rows

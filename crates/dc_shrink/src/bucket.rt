@@ -12,18 +12,15 @@ use std::marker::Model;
 /// The four rows of a bucket. The listed ones stand as in the list, the others anywhere.
 #[derive(Drop)]
 pub(crate) struct Bucket {
-    first: u64,
-    second: u64,
-    third: u64,
-    last: u64,
+    rows: [u64; 4],
 }
 
 impl Model for Bucket {
-    ghost use Rattle.std.specs.Prelude.{ℕ, List, [], ◌∷◌};
+    ghost use Rattle.std.specs.Prelude.{ℕ, List};
 
     ghost Value = { List ℕ };
 
-    ghost view = { λ b. b.first ∷ b.second ∷ b.third ∷ b.last ∷ [] };
+    ghost view = { λ b. b.rows };
 }
 
 impl Bucket {
@@ -33,10 +30,7 @@ impl Bucket {
     {
         let first = 4 * number;
         Bucket {
-            first,
-            second: first + 1,
-            third: first + 2,
-            last: first + 3,
+            rows: [first, first + 1, first + 2, first + 3],
         }
     }
 
@@ -45,16 +39,9 @@ impl Bucket {
         requires { length (filter (nat_eq row) self.old) ≡ 1 }
         ensures { self.new ≡ row ∷ without row self.old }
     {
-        if self.first != row {
-            if self.second != row {
-                if self.third != row {
-                    self.last = self.third;
-                }
-                self.third = self.second;
-            }
-            self.second = self.first;
+        if let Some(at) = self.rows.iter().position(|own| *own == row) {
+            self.rows[..at + 1].rotate_right(1);
         }
-        self.first = row;
     }
 
     /// The last of the rows that are listed.
@@ -62,17 +49,8 @@ impl Bucket {
         ensures { result
             ≡ last_of (filter (λ row. is_some (lookup (nat_eq row) listed.now.entries)) self.now) }
     {
-        if listed.contains(&self.last) {
-            Some(self.last)
-        } else if listed.contains(&self.third) {
-            Some(self.third)
-        } else if listed.contains(&self.second) {
-            Some(self.second)
-        } else if listed.contains(&self.first) {
-            Some(self.first)
-        } else {
-            None
-        }
+        let mut last_first = self.rows.iter().rev();
+        last_first.find(|row| listed.contains(*row)).copied()
     }
 }
 

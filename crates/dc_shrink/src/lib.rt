@@ -2,9 +2,13 @@
 #![tactic(auto)]
 
 mod bucket;
+mod fault;
 mod shrinker;
-
-pub use shrinker::{PinFault, Shrinker};
-
 #[cfg(test)]
 mod tests;
+
+pub use fault::PinFault;
+pub use shrinker::Shrinker;
+
+/// The most pins that a row can have: 2^62.
+pub const MOST_PINS: u64 = 1 << 62;

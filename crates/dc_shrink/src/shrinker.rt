@@ -1,27 +1,18 @@
-ghost use Rattle.std.specs.Prelude.{◌≡◌, ◌↔◌, ◌<◌, ◌≤◌, ◌^◌, [], Err, IfOk, OnOk, OnErr, filter, IsTrue, not};
+ghost use Rattle.std.specs.Prelude.{◌≡◌, ◌↔◌, ◌<◌, ◌≤◌, [], Err, IfOk, OnOk, OnErr, filter, IsTrue, not, true, false};
 ghost use Rattle.std.specs.FinMap as map;
-ghost use Rattle.dc_shrink.specs.declared.shrinker.PinFault.TheVariants as fault;
+ghost use Rattle.dc_shrink.specs.declared.TheConstants.{MOST_PINS};
+ghost use Rattle.dc_shrink.specs.declared.fault.PinFault.TheVariants as fault;
 ghost use Rattle.dc_shrink.specs.Listings.{listing, added, touched, with_pins, pinned_once, unpinned_once, dropped, is_in, is_used, pins_of, last_of, in_bucket, IsListing};
+ghost use Rattle.dc_shrink.specs.Uses.{KeepsUse, SetsUse, UsesNone};
 
 use crate::bucket::{Bucket, buckets_of, promote};
+use crate::{MOST_PINS, PinFault};
 use dc_names::NoMemory;
 use lru::LruCache;
 use std::alloc::Global;
 use std::collections::HashMap;
 use std::marker::Model;
 use std::num::NonZeroUsize;
-
-/// The most pins that a row can have.
-const MOST_PINS: u64 = 1 << 62;
-
-/// Why a row gets no further pin.
-#[derive(Clone, Copy, Debug, PartialEq, Eq)]
-pub enum PinFault {
-    /// Memory was refused.
-    NoMemory,
-    /// The row has 2^62 pins.
-    Most,
-}
 
 /// The rows in use: the unpinned ones by last use, and the pins of the others.
 ///
@@ -55,7 +46,8 @@ impl Shrinker {
     /// Nothing is in use. The rows count from 0 to below `rows`, at least one.
     pub fn new(alloc: Global, rows: u64) -> Result<Shrinker, NoMemory>
         requires { 0 < rows }
-        ensures { IfOk result (λ s. s ≡ listing rows [] map.empty) }
+        ensures new { IfOk result (λ s. s ≡ listing rows [] map.empty) }
+        ensures unused { IfOk result UsesNone }
     {
         let buckets = buckets_of(alloc, rows)?;
         let most = NonZeroUsize::new(rows as usize).unwrap();
@@ -71,12 +63,10 @@ impl Shrinker {
         requires within { row < self.old.rows }
         requires unused { IsTrue (not (is_used self.old row)) }
         ensures first { OnOk result (self.new ≡ added self.old row) }
+        ensures used { OnOk result (SetsUse row true self.old self.new) }
         ensures err { OnErr result (self.new ≡ self.old) }
     {
-        match self.listed.put(row, ()) {
-            Ok(_) => {}
-            Err(_) => return Err(NoMemory),
-        }
+        self.listed.put(row, ())?;
         promote(&mut self.buckets, row);
         Ok(())
     }
@@ -84,7 +74,8 @@ impl Shrinker {
     /// Makes a listed row the most recently used.
     pub fn touch(&mut self, row: u64)
         requires { IsTrue (is_in self.old.listed row) }
-        ensures { self.new ≡ touched self.old row }
+        ensures touched { self.new ≡ touched self.old row }
+        ensures same_use { KeepsUse self.old self.new }
     {
         self.listed.promote(&row);
         promote(&mut self.buckets, row);
@@ -94,18 +85,16 @@ impl Shrinker {
     pub fn pin(&mut self, row: u64) -> Result<(), PinFault>
         requires { IsTrue (is_used self.old row) }
         ensures pinned { OnOk result (self.new ≡ pinned_once self.old row) }
-        ensures most { (result ≡ Err fault.Most) ↔ (pins_of self.old row ≡ 2 ^ 62) }
+        ensures most { (result ≡ Err fault.Most) ↔ (pins_of self.old row ≡ MOST_PINS) }
         ensures no_memory { result ≡ Err fault.NoMemory → pins_of self.old row ≡ 0 }
         ensures err { OnErr result (self.new ≡ self.old) }
+        ensures same_use { KeepsUse self.old self.new }
     {
         let pins = self.pins(row);
         if pins == MOST_PINS {
             return Err(PinFault::Most);
         }
-        match self.set_pins(row, pins + 1) {
-            Ok(()) => Ok(()),
-            Err(NoMemory) => Err(PinFault::NoMemory),
-        }
+        Ok(self.set_pins(row, pins + 1)?)
     }
 
     /// Takes a pin from a pinned row. With none left the row is listed, as the most recently used.
@@ -114,8 +103,10 @@ impl Shrinker {
     pub fn unpin(&mut self, row: u64) -> Result<(), NoMemory>
         requires { 0 < pins_of self.old row }
         ensures unpinned { OnOk result (self.new ≡ unpinned_once self.old row) }
+        ensures same_use { OnOk result (KeepsUse self.old self.new) }
         ensures last { OnErr result (pins_of self.old row ≡ 1) }
         ensures dropped { OnErr result (self.new ≡ dropped self.old row) }
+        ensures unused { OnErr result (SetsUse row false self.old self.new) }
     {
         let pins = self.pins(row);
         if pins > 1 {
@@ -128,15 +119,14 @@ impl Shrinker {
     /// Makes a row in use have so many pins. `NoMemory` comes only where it had none.
     fn set_pins(&mut self, row: u64, pins: u64) -> Result<(), NoMemory>
         requires used { IsTrue (is_used self.old row) }
-        requires limits { (1 ≤ pins) × (pins ≤ 2 ^ 62) }
+        requires limits { (1 ≤ pins) × (pins ≤ MOST_PINS) }
         ensures set { OnOk result (self.new ≡ with_pins self.old row pins) }
         ensures err { OnErr result (self.new ≡ self.old) }
         ensures first { OnErr result (pins_of self.old row ≡ 0) }
+        ensures same_use { KeepsUse self.old self.new }
     {
-        match self.pins.insert(row, pins) {
-            Ok(_) => self.listed.pop(&row),
-            Err(_) => return Err(NoMemory),
-        };
+        self.pins.insert(row, pins)?;
+        self.listed.pop(&row);
         Ok(())
     }
 
@@ -150,7 +140,8 @@ impl Shrinker {
 
     /// Takes a row out of use, with all its pins.
     pub fn remove(&mut self, row: u64)
-        ensures { self.new ≡ dropped self.old row }
+        ensures dropped { self.new ≡ dropped self.old row }
+        ensures unused { SetsUse row false self.old self.new }
     {
         self.listed.pop(&row);
         self.pins.remove(&row);
@@ -163,7 +154,8 @@ impl Shrinker {
         self.listed.peek_lru().map(|(row, _)| *row)
     }
 
-    /// The same among the rows `4 * bucket` to `4 * bucket + 3`.
+    /// The unpinned row in use that was least recently used, of the rows `4 * bucket` to
+    /// `4 * bucket + 3`.
     pub fn victim_of(&self, bucket: u64) -> Option<u64>
         ensures victim { result ≡ last_of (filter (in_bucket bucket) self.now.listed) }
         ensures valid { IsListing self.now }

@@ -29,12 +29,12 @@ names_counted n entries =
     ∙ sym (how_many-map (λ (e : Spot × ℕ). e.1 == n) entry_shown entries)
 
 -- a key is for an entry in a directory exactly where its number is the directory's
-is_held : (d : ℕ) (key : List ℕ) → d < 2 ^ 64 → IsKey key → bytes_eq (take 8 key) (number_bytes d) ≡ ((spot_in key).directory == d)
+is_held : (d : ℕ) (key : List ℕ) → d < 2 ^ 64 → IsKey key → bytes_eq (take 8 key) (number_bytes d) ≡ ((spot_in key).dir == d)
 is_held d key fits is =
-    let front : take 8 key ≡ number_bytes (spot_in key).directory =
-    (λ i. take 8 (sym is.spelled i)) ∙ (λ i. take (sym (length-number_bytes (spot_in key).directory) i) (key_of (spot_in key))) ∙ take-append_seam (number_bytes (spot_in key).directory) (drop 8 key) in
-    ap (λ f. bytes_eq f (number_bytes d)) front ∙ sym (is_eq-slice_cmp (number_bytes (spot_in key).directory) (number_bytes d))
-    ∙ ap is_eq (cmp-number_bytes (spot_in key).directory d is.fits fits) ∙ unsigned_tied (spot_in key).directory d
+    let front : take 8 key ≡ number_bytes (spot_in key).dir =
+    (λ i. take 8 (sym is.spelled i)) ∙ (λ i. take (sym (length-number_bytes (spot_in key).dir) i) (key_of (spot_in key))) ∙ take-append_seam (number_bytes (spot_in key).dir) (drop 8 key) in
+    ap (λ f. bytes_eq f (number_bytes d)) front ∙ sym (is_eq-slice_cmp (number_bytes (spot_in key).dir) (number_bytes d))
+    ∙ ap is_eq (cmp-number_bytes (spot_in key).dir d is.fits fits) ∙ unsigned_tied (spot_in key).dir d
 
 module _ (d : ℕ) (fits : d < 2 ^ 64) where
   -- the names of the keys are the names of the entries
@@ -43,8 +43,8 @@ module _ (d : ℕ) (fits : d < 2 ^ 64) where
   names_listed [] all = refl
   names_listed (e ∷ es) all =
       ap (λ b. option_to_list (if b then Some (drop 8 e.0.items) else None) ++ names_held d (map (λ key. key.items) (map (λ (x : Vec ℕ × ℕ). x.0) es))) (is_held d e.0.items fits all.0)
-      ∙ elim ((spot_in e.0.items).directory == d) as (λ b. option_to_list (if b then Some (drop 8 e.0.items) else None) ++ names_held d (map (λ key. key.items) (map (λ (x : Vec ℕ × ℕ). x.0) es))
-      ≡ map (λ (x : Spot × ℕ). x.0.name) (cond b (entry_shown e ∷ filter (λ (x : Spot × ℕ). x.0.directory == d) (map entry_shown es)) (filter (λ (x : Spot × ℕ). x.0.directory == d) (map entry_shown es)))) [
+      ∙ elim ((spot_in e.0.items).dir == d) as (λ b. option_to_list (if b then Some (drop 8 e.0.items) else None) ++ names_held d (map (λ key. key.items) (map (λ (x : Vec ℕ × ℕ). x.0) es))
+      ≡ map (λ (x : Spot × ℕ). x.0.name) (cond b (entry_shown e ∷ filter (λ (x : Spot × ℕ). x.0.dir == d) (map entry_shown es)) (filter (λ (x : Spot × ℕ). x.0.dir == d) (map entry_shown es)))) [
         | true ↦ ap (λ l. drop 8 e.0.items ∷ l) (names_listed es all.1)
         | false ↦ names_listed es all.1
       ]

@@ -14,7 +14,7 @@ use Rattle.dc_plain.specs.Trees.{Tree, Spot, spot_cmp, how_many, inode_of, entry
 use Rattle.dc_plain.specs.Trees.Inode.{Directory}
 use Rattle.dc_store.specs.Dropped.{is_full_directory, CanDrop}
 use Rattle.dc_store.specs.Maps.{inode_shown, node_shown, node_at, nodes_after, tree_in}
-use Rattle.dc_store.specs.Spots.{spot_at}
+use Rattle.dc_plain.specs.Spots.{spot_at}
 use Rattle.dc_store.specs.declared.node.Node as rust_node
 use Rattle.dc_store.specs.declared.node.Node.TheVariants as kinds
 use Rattle.dc_store.proofs.Maps.{remove_shown, all_of_each}
@@ -88,7 +88,7 @@ pub if_some_at : {X : Type 0} {o : Option X} {x : X} (P : X → Type 0) → o �
 if_some_at P e h = subst (λ o. IfSome o P) (sym e) h
 
 -- with what the steps of the code answered
-pub after_drop : {entries less : List (Spot × ℕ)} {nodes fewer : List (ℕ × rust_node.Node)} {next : ℕ} {t : Tree} {lost : Option ℕ} (d : ℕ) (name : List ℕ) → Shows entries nodes next t → CanDrop t d name
+pub after_drop : {entries less : List (Spot × ℕ)} {nodes fewer : List (ℕ × rust_node.Node)} {next : ℕ} {t : Tree} {lost : Option ℕ} (d : ℕ) (name : List ℕ) → Shows entries nodes next t → CanDrop t (spot_at d name)
     → less ≡ without_spot (spot_at d name) entries → lost ≡ find spot_cmp (spot_at d name) entries → fewer ≡ nodes_after lost less nodes
     → ((q : ℕ) (node : rust_node.Node) → node_at fewer q ≡ Some node → node_at nodes q ≡ Some node) → (n : ℕ) × (entry_number t (spot_at d name) ≡ Some n) × Shows less fewer next (without_entry t d name n)
 after_drop {nodes = nodes} {fewer = fewer} {next = next} {t = t} d name now can taken was cut kept =

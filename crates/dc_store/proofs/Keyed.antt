@@ -15,7 +15,7 @@ use Rattle.dc_store.specs.Keys.{key_of, spot_in, entry_shown, IsKey, AreKept}
 use Rattle.dc_store.proofs.Keys.{cmp-key, spot_in-key_of, key_of-IsKey}
 use Rattle.dc_store.proofs.Maps.{Agree, lookup_shown, insert_shown, keys_insert, remove_shown, keys_remove}
 
-module _ {entries : List (Vec ℕ × ℕ)} (kept : AreKept entries) (spot : Spot) (fits : spot.directory < 2 ^ 64) where
+module _ {entries : List (Vec ℕ × ℕ)} (kept : AreKept entries) (spot : Spot) (fits : spot.dir < 2 ^ 64) where
   agrees : (key : List ℕ) → key ≡ key_of spot → Agree {X = ℕ} spot_cmp (λ (k : Vec ℕ). spot_in k.items) (λ n. n) (λ k. slice_cmp nat_cmp key k.items) spot entries
   agrees key is = All-weaker (λ e. IsKey e.0.items) _ (λ e good. ap (λ (k : List ℕ). slice_cmp nat_cmp k e.0.items) is ∙ cmp-key spot e.0.items fits good) entries kept.keys
 

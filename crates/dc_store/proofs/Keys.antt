@@ -91,23 +91,23 @@ unfolding number_bytes number_in
 number_in-number_bytes n p = from_be_bytes-to_be_bytes_8 n p
 
 -- two keys compare as their spots
-pub cmp-keys : (a b : Spot) → a.directory < 2 ^ 64 → b.directory < 2 ^ 64 → slice_cmp nat_cmp (key_of a) (key_of b) ≡ spot_cmp a b
+pub cmp-keys : (a b : Spot) → a.dir < 2 ^ 64 → b.dir < 2 ^ 64 → slice_cmp nat_cmp (key_of a) (key_of b) ≡ spot_cmp a b
 cmp-keys a b p q =
-    cmp-append (number_bytes a.directory) (number_bytes b.directory) a.name b.name (length-number_bytes a.directory ∙ sym (length-number_bytes b.directory))
-    ∙ ap (λ o. ordering_then o (slice_cmp nat_cmp a.name b.name)) (cmp-number_bytes a.directory b.directory p q)
+    cmp-append (number_bytes a.dir) (number_bytes b.dir) a.name b.name (length-number_bytes a.dir ∙ sym (length-number_bytes b.dir))
+    ∙ ap (λ o. ordering_then o (slice_cmp nat_cmp a.name b.name)) (cmp-number_bytes a.dir b.dir p q)
 
-pub spot_in-key_of : (a : Spot) → a.directory < 2 ^ 64 → spot_in (key_of a) ≡ a
-spot_in-key_of a p = λ i. record { directory = number i; name = rest i }
+pub spot_in-key_of : (a : Spot) → a.dir < 2 ^ 64 → spot_in (key_of a) ≡ a
+spot_in-key_of a p = λ i. record { dir = number i; name = rest i }
   where
-    number : number_in (take 8 (key_of a)) ≡ a.directory
-    number = ap number_in (ap (λ k. take k (key_of a)) (sym (length-number_bytes a.directory)) ∙ take-append_seam (number_bytes a.directory) a.name) ∙ number_in-number_bytes a.directory p
+    number : number_in (take 8 (key_of a)) ≡ a.dir
+    number = ap number_in (ap (λ k. take k (key_of a)) (sym (length-number_bytes a.dir)) ∙ take-append_seam (number_bytes a.dir) a.name) ∙ number_in-number_bytes a.dir p
 
     rest : drop 8 (key_of a) ≡ a.name
-    rest = ap (λ k. drop k (key_of a)) (sym (length-number_bytes a.directory)) ∙ drop-append_seam (number_bytes a.directory) a.name
+    rest = ap (λ k. drop k (key_of a)) (sym (length-number_bytes a.dir)) ∙ drop-append_seam (number_bytes a.dir) a.name
 
-pub key_of-IsKey : (a : Spot) → a.directory < 2 ^ 64 → IsKey (key_of a)
-key_of-IsKey a p = record { spelled = ap key_of (spot_in-key_of a p); fits = subst (λ s. s.directory < 2 ^ 64) (sym (spot_in-key_of a p)) p }
+pub key_of-IsKey : (a : Spot) → a.dir < 2 ^ 64 → IsKey (key_of a)
+key_of-IsKey a p = record { spelled = ap key_of (spot_in-key_of a p); fits = subst (λ s. s.dir < 2 ^ 64) (sym (spot_in-key_of a p)) p }
 
 -- a key in a map compares as its spot
-pub cmp-key : (a : Spot) (key : List ℕ) → a.directory < 2 ^ 64 → IsKey key → slice_cmp nat_cmp (key_of a) key ≡ spot_cmp a (spot_in key)
+pub cmp-key : (a : Spot) (key : List ℕ) → a.dir < 2 ^ 64 → IsKey key → slice_cmp nat_cmp (key_of a) key ≡ spot_cmp a (spot_in key)
 cmp-key a key p is = ap (slice_cmp nat_cmp (key_of a)) (sym is.spelled) ∙ cmp-keys a (spot_in key) p is.fits

@@ -10,3 +10,17 @@ pub mod Made
 pub mod Dropped
 pub mod MovedEntries
 pub mod Moves
+pub mod Slots
+pub mod SlotSteps
+pub mod Named
+pub mod Changes
+pub mod Entered
+pub mod Changed
+pub mod Listed
+pub mod NodesKept
+pub mod CountedInodes
+pub mod MovedCounts
+pub mod Lost
+pub mod Keeps
+pub mod KeepsMoved
+pub mod KeepsRead

@@ -7,7 +7,7 @@ use Rattle.dc_plain.proofs.Made.{some_in}
 use Rattle.dc_plain.specs.Effects.{with_entry_for}
 use Rattle.dc_plain.specs.Trees.{Tree, Spot, spot_cmp, inode_of, entry_number, is_directory_inode, is_live_directory}
 use Rattle.dc_store.specs.Added.{CanBeNamed}
-use Rattle.dc_store.specs.Spots.{spot_at}
+use Rattle.dc_plain.specs.Spots.{spot_at}
 use Rattle.dc_store.specs.declared.node.Node as rust_node
 use Rattle.dc_store.specs.declared.node.Node.TheVariants as kinds
 use Rattle.dc_store.proofs.Stores.{Shows, lives_as}

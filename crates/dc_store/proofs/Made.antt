@@ -1,5 +1,5 @@
 -- A store with a new node and an entry for it.
-use Rattle.std.proofs.Common.{◌≡◌, ℕ, ◌+◌, ◌<◌, ◌^◌, ◌==◌, List, Bool, true, false, cond, Option, Some, None, Ok, Err, is_ok, IsTrue, map, option_map, refl, ap, sym, ◌∙◌, subst, arith}
+use Rattle.std.proofs.Common.{◌≡◌, ℕ, ◌+◌, ◌<◌, ◌==◌, List, Bool, true, false, cond, Option, Some, None, Ok, Err, is_ok, IsTrue, map, option_map, refl, ap, sym, ◌∙◌, subst, arith}
 use Rattle.std.specs.BTreeMap.{is_at, insert_entry}
 use Rattle.std.specs.Cmp.{nat_cmp_total}
 use Rattle.std.specs.FinMap.Entries.{put}
@@ -10,10 +10,11 @@ use Rattle.dc_names.specs.Bytes.{is_name}
 use Rattle.dc_names.specs.Paths.{path_in}
 use Rattle.dc_plain.proofs.Made.{IsGood, unused_number, with_new-IsWellFormed, holder_kept, holder_new, same_number, itself}
 use Rattle.dc_plain.specs.Effects.{with_new}
+use Rattle.dc_plain.specs.declared.TheConstants.{NUMBER_LIMIT}
 use Rattle.dc_plain.specs.Trees.{Tree, Spot, spot_cmp, entry_number, is_live_directory, holder_of}
 use Rattle.dc_plain.specs.Trees.Inode.{Directory}
 use Rattle.dc_store.specs.Maps.{inode_shown, node_shown, node_at, parent_in, CanKeep}
-use Rattle.dc_store.specs.Spots.{spot_at}
+use Rattle.dc_plain.specs.Spots.{spot_at}
 use Rattle.dc_store.specs.declared.node.Node as rust_node
 use Rattle.dc_store.specs.declared.node.Node.TheVariants as kinds
 use Rattle.dc_store.proofs.Maps.{insert_shown, all_of_each, remove_inserted, lookup_inserted}
@@ -45,7 +46,7 @@ module _ {entries : List (Spot × ℕ)} {nodes : List (ℕ × rust_node.Node)} {
       let before = gone ∙ ap (remove_entry (is_at (nat_cmp next))) is ∙ remove_inserted nat_cmp_total next node nodes absent in
       subst (λ es. Shows es back next t) (sym still) (subst (λ ns. Shows entries ns next t) (sym before) now)
 
-  module _ (d : ℕ) (name : List ℕ) (node : rust_node.Node) (directory : IsTrue (is_live_directory t d)) (free : entry_number t (spot_at d name) ≡ None) (room : t.next < 2 ^ 63)
+  module _ (d : ℕ) (name : List ℕ) (node : rust_node.Node) (directory : IsTrue (is_live_directory t d)) (free : entry_number t (spot_at d name) ≡ None) (room : t.next < NUMBER_LIMIT)
       (named : IsTrue (is_name name)) (can : CanKeep d node) where
     abbrev made : Tree
     made = with_new t d name (node_shown node)

@@ -73,7 +73,7 @@ remove_inserted {K} {X} {R} o k v es absent = by_list es absent
         ] refl none
 
 module _ {K X : Type 0} {R : K → K → Ordering} (o : IsTotalOrder R) where
-  insert_put : (k : K) (v : X) (es : List (K × X)) → insert_entry R es k v ≡ put R k v es
+  pub insert_put : (k : K) (v : X) (es : List (K × X)) → insert_entry R es k v ≡ put R k v es
   insert_put k v [] = refl
   insert_put k v (e ∷ es) =
       elim (R k e.0) as (λ r. match_ordering r ((k, v) ∷ e ∷ es) ((e.0, v) ∷ es) (e ∷ insert_entry R es k v) ≡ by_order r ((k, v) ∷ e ∷ es) ((e.0, v) ∷ es) (e ∷ put R k v es)) [
@@ -82,7 +82,7 @@ module _ {K X : Type 0} {R : K → K → Ordering} (o : IsTotalOrder R) where
         | Greater ↦ ap (λ l. e ∷ l) (insert_put k v es)
       ]
 
-  lookup_find : (q : K) (es : List (K × X)) → lookup (is_at (R q)) es ≡ lookup_entry R q es
+  pub lookup_find : (q : K) (es : List (K × X)) → lookup (is_at (R q)) es ≡ lookup_entry R q es
   lookup_find q [] = refl
   lookup_find q (e ∷ es) = ap (cond (eq_by_cmp R q e.0) (Some e.1)) (lookup_find q es)
 

@@ -24,7 +24,7 @@ use Rattle.dc_plain.specs.Trees.Inode.{Directory, Regular, Symbolic}
 use Rattle.dc_store.specs.Dropped.{is_full_directory}
 use Rattle.dc_store.specs.Maps.{inode_shown, node_at, nodes_after, parent_in, with_parent}
 use Rattle.dc_store.specs.Moved.{CanStandAt, CanMove, tree_moved}
-use Rattle.dc_store.specs.Spots.{spot_at}
+use Rattle.dc_plain.specs.Spots.{spot_at}
 use Rattle.dc_store.specs.declared.node.Node as rust_node
 use Rattle.dc_store.specs.declared.node.Node.TheVariants as kinds
 use Rattle.dc_store.proofs.Dropped.{unentered, dropped}
@@ -37,7 +37,7 @@ kind_is n Regular = refl
 kind_is n (Symbolic text) = refl
 
 -- an entry leads to what lives
-lives_there : (t : Tree) (spot : Spot) (n : ℕ) → IsWellFormed t → entry_number t spot ≡ Some n → (i : Inode) × (inode_of t n ≡ Some i)
+pub lives_there : (t : Tree) (spot : Spot) (n : ℕ) → IsWellFormed t → entry_number t spot ≡ Some n → (i : Inode) × (inode_of t n ≡ Some i)
 lives_there t spot n well e =
     some_in (inode_of t n) (All-lookup spot_cmp (λ k. IsTrue (is_some (inode_of t k))) spot t.entries (All-weaker (Stands t) _ (λ x s. s.leads) t.entries well.entries) n e)
 
@@ -81,14 +81,14 @@ module _ (from : ℕ) (old : List ℕ) (to : ℕ) (new : List ℕ) (n : ℕ) whe
   }
 
 module _ (from : ℕ) (old : List ℕ) (to : ℕ) (new : List ℕ) {entries : List (Spot × ℕ)} {nodes : List (ℕ × rust_node.Node)} {next : ℕ} {t : Tree} (now : Shows entries nodes next t) (named : IsTrue (is_name new))
-    (n : ℕ) (leads : entry_number t (spot_at from old) ≡ Some n) (can : CanStandAt t to new n) where
+    (n : ℕ) (leads : entry_number t (spot_at from old) ≡ Some n) (can : CanStandAt t (spot_at to new) n) where
   entries_are : entries ≡ t.entries
   entries_are = ap (λ (u : Tree). u.entries) now.shows
 
   in_order : IsTrue (is_sorted spot_cmp entries)
   in_order = let well = now.well in subst (λ es. IsTrue (is_sorted spot_cmp es)) (sym entries_are) well.entries_in_order
 
-  spots_apart : eq_by_cmp spot_cmp (spot_at from old) (spot_at to new) ≡ false
+  pub spots_apart : eq_by_cmp spot_cmp (spot_at from old) (spot_at to new) ≡ false
   spots_apart = by_test (eq_by_cmp spot_cmp (spot_at from old) (spot_at to new)) refl
     where
       by_test : (o : Bool) → eq_by_cmp spot_cmp (spot_at from old) (spot_at to new) ≡ o → o ≡ false
@@ -106,16 +106,16 @@ module _ (from : ℕ) (old : List ℕ) (to : ℕ) (new : List ℕ) {entries : Li
 
   module _ {fewer last : List (ℕ × rust_node.Node)} (shown : map inode_shown last ≡ map inode_shown fewer)
       (set : (q : ℕ) → node_at last q ≡ (if q == n then option_map (with_parent to) (node_at fewer q) else node_at fewer q)) where
-    over_nothing : entry_number t (spot_at to new) ≡ None → fewer ≡ nodes → Shows (without_spot (spot_at from old) (put spot_cmp (spot_at to new) n entries)) last next (tree_moved t from old to new n)
+    over_nothing : entry_number t (spot_at to new) ≡ None → fewer ≡ nodes → Shows (without_spot (spot_at from old) (put spot_cmp (spot_at to new) n entries)) last next (tree_moved t (spot_at from old) (spot_at to new) n)
     over_nothing free cut =
         let ready = ready_alone t from old to new (n, kind_of inode.0) now.well source can.directory named not_above (ap (option_and_then (target_at t)) free) in
         let nowhere : without_there t to new (entry_of t to (Entry new)) ≡ t = ap (λ o. without_there t to new (option_and_then (target_at t) o)) free in
-        subst (λ es. Shows es last next (tree_moved t from old to new n)) (sym (moved_alone (spot_at from old) (spot_at to new) n entries in_order spots_apart))
+        subst (λ es. Shows es last next (tree_moved t (spot_at from old) (spot_at to new) n)) (sym (moved_alone (spot_at from old) (spot_at to new) n entries in_order spots_apart))
         (subst (λ u. Shows (put spot_cmp (spot_at to new) n (without_spot (spot_at from old) entries)) last next (moved_to u from old to new n)) (sym nowhere) (move_alone from old to new n (subst (λ ns. Shows entries ns next t) (sym cut) now) ready shown set))
 
     over_other : (m : ℕ) → entry_number t (spot_at to new) ≡ Some m → fewer ≡ nodes_after (Some m) (without_spot (spot_at from old) (put spot_cmp (spot_at to new) n entries)) nodes
         → ((q : ℕ) (node : rust_node.Node) → node_at fewer q ≡ Some node → node_at nodes q ≡ Some node)
-        → Shows (without_spot (spot_at from old) (put spot_cmp (spot_at to new) n entries)) last next (tree_moved t from old to new n)
+        → Shows (without_spot (spot_at from old) (put spot_cmp (spot_at to new) n entries)) last next (tree_moved t (spot_at from old) (spot_at to new) n)
     over_other m there cut kept =
         let gives_way = subst (λ o. IfSome o (λ k. IsTrue (not (is_full_directory t k)))) there can.gives_way in
         let i = lives_there t (spot_at to new) m now.well there in
@@ -130,29 +130,29 @@ module _ (from : ℕ) (old : List ℕ) (to : ℕ) (new : List ℕ) {entries : Li
         ap (how_many (λ e. e.1 == m)) (moved ∙ ap (λ es. put spot_cmp (spot_at to new) n (without_spot (spot_at from old) es)) rest)
         ∙ names_moved (without_entry t to new m) from old to new n ready m ∙ ap (how_many (λ e. e.1 == m)) (sym rest) in
         let left = dropped now to new m there gives_way fewer (cut ∙ ap (λ k. if k == 0 then remove_entry (is_at (nat_cmp m)) nodes else nodes) counted) kept in
-        subst (λ es. Shows es last next (tree_moved t from old to new n)) (sym moved)
+        subst (λ es. Shows es last next (tree_moved t (spot_at from old) (spot_at to new) n)) (sym moved)
         (subst (λ u. Shows (put spot_cmp (spot_at to new) n (without_spot (spot_at from old) (without_spot (spot_at to new) entries))) last next (moved_to u from old to new n)) (sym gone)
         (move_alone from old to new n left ready shown set))
 
     over_any : (o : Option ℕ) → entry_number t (spot_at to new) ≡ o → fewer ≡ nodes_after o (without_spot (spot_at from old) (put spot_cmp (spot_at to new) n entries)) nodes
         → ((q : ℕ) (node : rust_node.Node) → node_at fewer q ≡ Some node → node_at nodes q ≡ Some node)
-        → Shows (without_spot (spot_at from old) (put spot_cmp (spot_at to new) n entries)) last next (tree_moved t from old to new n)
+        → Shows (without_spot (spot_at from old) (put spot_cmp (spot_at to new) n entries)) last next (tree_moved t (spot_at from old) (spot_at to new) n)
     over_any None there cut kept = over_nothing there cut
     over_any (Some m) there cut kept = over_other m there cut kept
 
 -- with what the steps of the code answered
 pub after_move : {entries more less : List (Spot × ℕ)} {nodes fewer last : List (ℕ × rust_node.Node)} {next : ℕ} {t : Tree} {lost : Option ℕ} (from : ℕ) (old : List ℕ) (to : ℕ) (new : List ℕ) (n : ℕ)
-    → Shows entries nodes next t → IsTrue (is_name new) → CanMove t from old to new → Some n ≡ find spot_cmp (spot_at from old) entries
+    → Shows entries nodes next t → IsTrue (is_name new) → CanMove t (spot_at from old) (spot_at to new) → Some n ≡ find spot_cmp (spot_at from old) entries
     → more ≡ put spot_cmp (spot_at to new) n entries → lost ≡ find spot_cmp (spot_at to new) entries → less ≡ without_spot (spot_at from old) more
     → fewer ≡ nodes_after lost less nodes → ((q : ℕ) (node : rust_node.Node) → node_at fewer q ≡ Some node → node_at nodes q ≡ Some node) → map inode_shown last ≡ map inode_shown fewer
     → ((q : ℕ) → node_at last q ≡ (if q == n then option_map (with_parent to) (node_at fewer q) else node_at fewer q))
-    → (entry_number t (spot_at from old) ≡ Some n) × Shows less last next (tree_moved t from old to new n)
+    → (entry_number t (spot_at from old) ≡ Some n) × Shows less last next (tree_moved t (spot_at from old) (spot_at to new) n)
 after_move {nodes = nodes} {last = last} {next = next} {t = t} {lost = lost} from old to new n now named can found entered was taken cut kept shown set =
     let at : (spot : Spot) → entry_number t spot ≡ find spot_cmp spot _ = λ spot. ap (λ (u : Tree). entry_number u spot) (sym now.shows) in
     let leads = at (spot_at from old) ∙ sym found in
-    let may : CanStandAt t to new n = subst (λ o. IsSomeAnd o (CanStandAt t to new)) leads can in
+    let may : CanStandAt t (spot_at to new) n = subst (λ o. IsSomeAnd o (CanStandAt t (spot_at to new))) leads can in
     let less_is = taken ∙ ap (without_spot (spot_at from old)) entered in (
       leads,
-      subst (λ es. Shows es last next (tree_moved t from old to new n)) (sym less_is)
+      subst (λ es. Shows es last next (tree_moved t (spot_at from old) (spot_at to new) n)) (sym less_is)
           (over_any from old to new now named n leads may shown set lost (at (spot_at to new) ∙ sym was) (cut ∙ ap (λ es. nodes_after lost es nodes) less_is) kept),
     )

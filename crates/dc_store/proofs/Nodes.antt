@@ -17,7 +17,7 @@ use Rattle.dc_store.specs.declared.node.Node as rust_node
 use Rattle.dc_store.specs.declared.node.Node.TheVariants as kinds
 use Rattle.dc_store.proofs.Maps.{lookup_shown, all_of_each}
 
-copied_mapped : {X Y : Type 0} (f : X → Y) (o : Option (Bor X)) → option_map (λ x. f x.now) o ≡ option_map f (option_copied o)
+pub copied_mapped : {X Y : Type 0} (f : X → Y) (o : Option (Bor X)) → option_map (λ x. f x.now) o ≡ option_map f (option_copied o)
 copied_mapped f None = refl
 copied_mapped f (Some x) = refl
 
@@ -26,11 +26,11 @@ abbrev pub numbers : Option Target → Option ℕ
 numbers = option_map (λ place. place.0)
 
 -- the directory of an entry that is found lives
-pub held_lives : (t : Tree) (p : Spot × ℕ → Bool) (es : List (Spot × ℕ)) → AllByRecursion (Stands t) es → (up : ℕ) → option_map (λ e. e.0.directory) (find p es) ≡ Some up → IsTrue (is_live_directory t up)
+pub held_lives : (t : Tree) (p : Spot × ℕ → Bool) (es : List (Spot × ℕ)) → AllByRecursion (Stands t) es → (up : ℕ) → option_map (λ e. e.0.dir) (find p es) ≡ Some up → IsTrue (is_live_directory t up)
 held_lives t p [] all up e = cc
 held_lives t p (x ∷ xs) all up e =
-    elim (p x) as (λ b. option_map (λ e. e.0.directory) (cond b (Some x) (find p xs)) ≡ Some up → IsTrue (is_live_directory t up)) [
-      | true ↦ λ is. let same : x.0.directory ≡ up = cc in subst (λ k. IsTrue (is_live_directory t k)) same all.0.held
+    elim (p x) as (λ b. option_map (λ e. e.0.dir) (cond b (Some x) (find p xs)) ≡ Some up → IsTrue (is_live_directory t up)) [
+      | true ↦ λ is. let same : x.0.dir ≡ up = cc in subst (λ k. IsTrue (is_live_directory t k)) same all.0.held
       | false ↦ λ is. held_lives t p xs all.1 up is
     ] e
 
@@ -64,7 +64,7 @@ module _ (entries : List (Spot × ℕ)) (nodes : List (ℕ × rust_node.Node)) (
   path_told text None ok = refl
   path_told text (Some fault) ok = cc
 
-  told : IsSound entries nodes next → (node : rust_node.Node) → node_at nodes n ≡ Some node → IsNodeAt t n node
+  pub told : IsSound entries nodes next → (node : rust_node.Node) → node_at nodes n ≡ Some node → IsNodeAt t n node
   told sound (kinds.Dir up) is =
       let parent = sound.parents n up is in
       record { parent = up_told sound up (n == 1) parent ∙ ap up_of (sym (shown_as (kinds.Dir up) is)); directory = up_lives sound up (n == 1) parent; path = tt }
@@ -77,7 +77,7 @@ module _ (entries : List (Spot × ℕ)) (nodes : List (ℕ × rust_node.Node)) (
   node_told sound None is = tt
   node_told sound (Some b) is = told sound b.now (sym is)
 
-shown_the_same : (up : ℕ) (node : rust_node.Node) → node_shown (with_parent up node) ≡ node_shown node
+pub shown_the_same : (up : ℕ) (node : rust_node.Node) → node_shown (with_parent up node) ≡ node_shown node
 shown_the_same up (kinds.Dir old) = refl
 shown_the_same up kinds.File = refl
 shown_the_same up (kinds.Link text) = refl

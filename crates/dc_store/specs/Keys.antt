@@ -7,6 +7,7 @@ use Rattle.std.specs.Int.{w64, to_be_bytes, from_be_bytes}
 use Rattle.std.specs.List.{AllByRecursion}
 use Rattle.std.specs.Option.{option_to_list}
 use Rattle.std.specs.Str.{bytes_eq}
+use Rattle.dc_plain.specs.Spots.{spot_at}
 use Rattle.dc_plain.specs.Trees.{Spot, spot_cmp}
 
 unfoldable pub number_bytes : ℕ → List ℕ
@@ -16,10 +17,10 @@ unfoldable pub number_in : List ℕ → ℕ
 number_in bytes = from_be_bytes w64 bytes
 
 abbrev pub key_of : Spot → List ℕ
-key_of spot = number_bytes spot.directory ++ spot.name
+key_of spot = number_bytes spot.dir ++ spot.name
 
 abbrev pub spot_in : List ℕ → Spot
-spot_in key = record { directory = number_in (take 8 key); name = drop 8 key }
+spot_in key = spot_at (number_in (take 8 key)) (drop 8 key)
 
 -- the name of a key, where it is for an entry in a directory
 abbrev pub name_held : ℕ → List ℕ → Option (List ℕ)
@@ -33,7 +34,7 @@ names_held d (key ∷ keys) = option_to_list (name_held d key) ++ names_held d k
 -- the bytes are the key of a spot
 pub record IsKey (key : List ℕ) : Type 0 where
   pub spelled : key_of (spot_in key) ≡ key
-  pub fits : (spot_in key).directory < 2 ^ 64
+  pub fits : (spot_in key).dir < 2 ^ 64
 
 abbrev pub entry_shown : Vec ℕ × ℕ → Spot × ℕ
 entry_shown e = (spot_in e.0.items, e.1)
@@ -45,4 +46,4 @@ pub record AreKept (entries : List (Vec ℕ × ℕ)) : Type 0 where
 
 -- the names in a directory, by their bytes
 abbrev pub names_by : ℕ → List (Spot × ℕ) → List (List ℕ)
-names_by d entries = map (λ e. e.0.name) (filter (λ e. e.0.directory == d) entries)
+names_by d entries = map (λ e. e.0.name) (filter (λ e. e.0.dir == d) entries)

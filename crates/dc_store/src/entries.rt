@@ -4,9 +4,9 @@ ghost use Rattle.std.specs.FinMap.Entries.{find as lookup};
 ghost use Rattle.std.specs.Option.{option_to_list};
 ghost use Rattle.dc_plain.specs.Trees.{Spot, how_many, spot_cmp, without_spot};
 ghost use Rattle.dc_store.specs.Keys.{entry_shown, name_held, names_by, AreKept};
-ghost use Rattle.dc_store.specs.Spots.{spot_at};
+ghost use Rattle.dc_plain.specs.Spots.{spot_at};
 
-use crate::key::{Key, name_in, stands_in};
+use crate::entry_bytes::{EntryBytes, name_in, stands_in};
 use dc_names::{Name, NoMemory};
 use std::alloc::Global;
 use std::collections::BTreeMap;
@@ -39,7 +39,7 @@ impl Entries {
     pub fn get(&self, dir: u64, name: Name<'_>) -> Option<u64>
         ensures { result ≡ lookup spot_cmp (spot_at dir name.entry.bytes.now) self.now }
     {
-        let key = Key::new(dir, name);
+        let key = EntryBytes::new(dir, name);
         self.by_key.get(key.as_slice()).copied()
     }
 
@@ -57,7 +57,7 @@ impl Entries {
             ≡ lookup spot_cmp (spot_at dir name.entry.bytes.now) self.old) }
         ensures err { OnErr result (self.new ≡ self.old) }
     {
-        let key = Key::new(dir, name).to_vec(alloc)?;
+        let key = EntryBytes::new(dir, name).to_vec(alloc)?;
         Ok(self.by_key.insert(key, number)?)
     }
 
@@ -66,7 +66,7 @@ impl Entries {
         ensures rest { self.new ≡ without_spot (spot_at dir name.entry.bytes.now) self.old }
         ensures before { result ≡ lookup spot_cmp (spot_at dir name.entry.bytes.now) self.old }
     {
-        let key = Key::new(dir, name);
+        let key = EntryBytes::new(dir, name);
         self.by_key.remove(key.as_slice())
     }
 

@@ -2,12 +2,17 @@
 #![tactic(auto)]
 
 mod entries;
-mod key;
+mod entry_bytes;
+mod inode;
+mod inodes;
 mod map_store;
+mod names;
 mod node;
+mod slab_store;
 mod store;
 #[cfg(test)]
 mod tests;
 
 pub use map_store::MapStore;
+pub use slab_store::SlabStore;
 pub use store::{New, Store};

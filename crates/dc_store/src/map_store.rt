@@ -1,16 +1,18 @@
-ghost use Rattle.std.specs.Prelude.{◌≡◌, ◌<◌, ◌^◌, None, option_map, IfSome, IfOk, OnOk, OnErr, IsTrue};
+ghost use Rattle.std.specs.Prelude.{◌≡◌, ◌<◌, None, option_map, IfSome, IfOk, OnOk, OnErr, IsTrue};
 ghost use Rattle.dc_plain.specs.Effects.{with_new, with_entry_for};
 ghost use Rattle.dc_plain.specs.IsWellFormed.{IsWellFormed};
 ghost use Rattle.dc_plain.specs.Trees.{Tree, empty_tree, inode_of, entry_number, is_live_directory};
 ghost use Rattle.dc_store.specs.Added.{CanBeNamed};
 ghost use Rattle.dc_store.specs.Maps.{tree_in, node_shown, IsNodeAt, CanKeep, IsSound};
-ghost use Rattle.dc_store.specs.Moved.{CanMove, tree_moved};
-ghost use Rattle.dc_store.specs.Spots.{spot_at};
+ghost use Rattle.dc_store.specs.Moved.{CanMove, Moves};
+ghost use Rattle.dc_plain.specs.Spots.{spot_at, spot_shown};
+ghost use Rattle.dc_plain.specs.declared.TheConstants.{NUMBER_LIMIT};
 
 use crate::entries::Entries;
 use crate::node::{Node, drop_unnamed, set_parent};
 use crate::store::{New, Store};
 use dc_names::{Kind, Name, NoMemory};
+use dc_plain::Spot;
 use std::alloc::Global;
 use std::collections::BTreeMap;
 use std::marker::Model;
@@ -59,7 +61,7 @@ impl MapStore {
     fn make(&mut self, alloc: Global, dir: u64, name: Name<'_>, node: Node) -> Result<u64, NoMemory>
         requires directory { IsTrue (is_live_directory self.old dir) }
         requires free { entry_number self.old (spot_at dir name.bytes.now) ≡ None }
-        requires room { self.old.next < 2 ^ 63 }
+        requires room { self.old.next < NUMBER_LIMIT }
         requires fits { CanKeep dir node }
         ensures ok { OnOk result (self.new
             ≡ with_new self.old dir name.entry.bytes.now (node_shown node)) }
@@ -67,9 +69,7 @@ impl MapStore {
         ensures err { OnErr result (self.new ≡ self.old) }
     {
         let number = self.next;
-        let Ok(_) = self.nodes.insert(number, node) else {
-            return Err(NoMemory);
-        };
+        self.nodes.insert(number, node)?;
         let Ok(_) = self.entries.insert(alloc, dir, name, number) else {
             self.nodes.remove(&number);
             return Err(NoMemory);
@@ -92,27 +92,21 @@ impl MapStore {
     }
 
     /// Moves an entry. To put it in is the one step that can fail, and comes first.
-    fn relocate(
-        &mut self,
-        alloc: Global,
-        from: u64,
-        old: Name<'_>,
-        to: u64,
-        new: Name<'_>,
-    ) -> Result<(), NoMemory>
-        requires { CanMove self.old from old.bytes.now to new.bytes.now }
-        ensures ok { OnOk result (IfSome (entry_number self.old (spot_at from old.entry.bytes.now))
-            (λ n. self.new
-            ≡ tree_moved self.old from old.entry.bytes.now to new.entry.bytes.now n)) }
+    fn relocate(&mut self, alloc: Global, old: Spot<'_>, new: Spot<'_>) -> Result<(), NoMemory>
+        requires { CanMove self.old (spot_shown old) (spot_shown new) }
+        ensures ok { OnOk result
+            (Moves self.old (spot_shown old.entry) (spot_shown new.entry) self.new) }
         ensures err { OnErr result (self.new ≡ self.old) }
     {
-        let Some(number) = self.entries.get(from, old) else {
+        // An entry that isn't there could not move; the caller knows that this one is.
+        let Some(number) = self.entries.get(old.dir, old.name) else {
             unreachable!();
         };
-        let replaced = self.entries.insert(alloc, to, new, number)?;
-        self.entries.remove(from, old);
+        let replaced = self.entries.insert(alloc, new.dir, new.name, number)?;
+        // A file under both names for a moment is never seen: nothing can fail from here on.
+        self.entries.remove(old.dir, old.name);
         drop_unnamed(&mut self.nodes, &self.entries, replaced);
-        set_parent(&mut self.nodes, number, to);
+        set_parent(&mut self.nodes, number, new.dir);
         Ok(())
     }
 }
@@ -169,7 +163,7 @@ impl Store for MapStore {
             New::Dir => self.make(alloc, dir, name, Node::Dir(dir)),
             New::File => self.make(alloc, dir, name, Node::File),
             New::Link(text) => {
-                let text = text.to_vec(alloc)?;
+                let text = text.bytes().to_vec(alloc)?;
                 self.make(alloc, dir, name, Node::Link(text))
             }
             New::Same(number) => {
@@ -184,12 +178,7 @@ impl Store for MapStore {
         drop_unnamed(&mut self.nodes, &self.entries, lost);
     }
 
-    fn move_entry(
-        &mut self,
-        alloc: Global,
-        old: (u64, Name<'_>),
-        new: (u64, Name<'_>),
-    ) -> Result<(), NoMemory> {
-        self.relocate(alloc, old.0, old.1, new.0, new.1)
+    fn move_entry(&mut self, alloc: Global, old: Spot<'_>, new: Spot<'_>) -> Result<(), NoMemory> {
+        self.relocate(alloc, old, new)
     }
 }

@@ -37,7 +37,7 @@ impl Node {
         }
     }
 
-    fn set_parent(&mut self, parent: u64)
+    pub fn set_parent(&mut self, parent: u64)
         ensures { self.new ≡ with_parent parent self.old }
     {
         if let Node::Dir(kept) = self {

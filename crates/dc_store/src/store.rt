@@ -1,27 +1,27 @@
 ghost use Rattle.std.specs.Prelude.{◌≡◌, ℕ, None, length, map, option_map, IsTrue, IfSome, IfOk, OnOk, OnErr};
 ghost use Rattle.dc_names.specs.Paths.{fault_of};
-ghost use Rattle.dc_plain.specs.Effects.{without_entry};
 ghost use Rattle.dc_plain.specs.Facts.Label.{Parent};
 ghost use Rattle.dc_plain.specs.IsWellFormed.{IsWellFormed};
 ghost use Rattle.dc_plain.specs.Trees.{Tree, entry_number, inode_of, entry_of, text_of, kind_of, names_in, is_live_directory};
 ghost use Rattle.dc_store.specs.Added.{CanAdd, tree_added, number_added};
 ghost use Rattle.dc_store.specs.Counts.{count_of};
-ghost use Rattle.dc_store.specs.Dropped.{CanDrop};
-ghost use Rattle.dc_store.specs.Moved.{CanMove, tree_moved};
-ghost use Rattle.dc_store.specs.Spots.{spot_at};
+ghost use Rattle.dc_store.specs.Dropped.{CanDrop, Drops};
+ghost use Rattle.dc_store.specs.Moved.{CanMove, Moves};
+ghost use Rattle.dc_plain.specs.Spots.{spot_at, spot_shown};
 
-use dc_names::{Kind, Name, NoMemory};
+use dc_names::{Kind, Name, NoMemory, PathText};
+use dc_plain::Spot;
 use std::alloc::Global;
 
 /// What a new entry leads to.
-#[derive(Clone, Copy)]
+#[derive(Clone, Copy, Debug, PartialEq, Eq)]
 pub enum New<'a> {
     /// A new directory.
     Dir,
     /// A new file.
     File,
     /// A new link with this text.
-    Link(&'a [u8]),
+    Link(PathText<'a>),
     /// The inode of this number, which is no directory.
     Same(u64),
 }
@@ -59,7 +59,7 @@ pub trait Store {
         ensures count { result ≡ length (tree self.now).inodes }
         ensures well { IsWellFormed (tree self.now) };
 
-    /// The number of the next new inode, at most 2^63.
+    /// The number of the next new inode, at most `NUMBER_LIMIT`.
     fn next(&self) -> u64
         ensures next { result ≡ (tree self.now).next }
         ensures well { IsWellFormed (tree self.now) };
@@ -77,8 +77,8 @@ pub trait Store {
             map (λ name. name.items) names.items ≡ names_in (tree self.now) dir) };
 
     /// Adds an entry to a live directory, under a name that is free there, and answers the number that
-    /// it leads to: that of a new inode, where the next number is below 2^63 and a link's text is a
-    /// path, or of one that lives, is no directory and has fewer than 65,000 names.
+    /// it leads to: that of a new inode, where the next number is below `NUMBER_LIMIT`, or of one that
+    /// lives, is no directory and has fewer than `MOST_NAMES` names.
     /// `NoMemory` where memory was refused: then nothing has changed.
     fn add(
         &mut self,
@@ -98,23 +98,16 @@ pub trait Store {
     /// Drops an entry that is there and leads to no directory in which entries stand, and what it leads
     /// to where that was its last name. It takes no memory.
     fn drop_entry(&mut self, dir: u64, name: Name<'_>)
-        requires { CanDrop (tree self.old) dir name.bytes.now }
-        ensures { IfSome (entry_number (tree self.old) (spot_at dir name.entry.bytes.now))
-            (λ n. tree self.new ≡ without_entry (tree self.old) dir name.entry.bytes.now n) };
+        requires { CanDrop (tree self.old) (spot_at dir name.bytes.now) }
+        ensures { Drops (tree self.old) (spot_at dir name.entry.bytes.now) (tree self.new) };
 
     /// Moves an entry that is there to another name, in a live directory that isn't beneath what moves:
     /// over nothing, or over another inode that is no directory in which entries stand, whose name goes
     /// and which goes itself where that was its last.
     /// `NoMemory` where memory was refused: then nothing has changed.
-    fn move_entry(
-        &mut self,
-        alloc: Global,
-        old: (u64, Name<'_>),
-        new: (u64, Name<'_>),
-    ) -> Result<(), NoMemory>
-        requires { CanMove (tree self.old) old.0 old.1.bytes.now new.0 new.1.bytes.now }
-        ensures ok { OnOk result (IfSome (entry_number (tree self.old) (spot_at old.entry.0 old.entry.1.bytes.now))
-            (λ n. tree self.new ≡ tree_moved (tree self.old) old.entry.0 old.entry.1.bytes.now
-            new.entry.0 new.entry.1.bytes.now n)) }
+    fn move_entry(&mut self, alloc: Global, old: Spot<'_>, new: Spot<'_>) -> Result<(), NoMemory>
+        requires { CanMove (tree self.old) (spot_shown old) (spot_shown new) }
+        ensures ok { OnOk result
+            (Moves (tree self.old) (spot_shown old.entry) (spot_shown new.entry) (tree self.new)) }
         ensures err { OnErr result (tree self.new ≡ tree self.old) };
 }

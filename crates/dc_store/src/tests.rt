@@ -3,12 +3,15 @@ ghost use Rattle.dc_plain.specs.Operations.{is_beneath};
 ghost use Rattle.dc_plain.specs.Trees.{entry_number, is_live_directory};
 ghost use Rattle.dc_store.specs.Added.{CanAdd, CanBeNamed};
 ghost use Rattle.dc_store.specs.Dropped.{is_full_directory};
-ghost use Rattle.dc_store.specs.Spots.{spot_at};
+ghost use Rattle.dc_plain.specs.Spots.{spot_at};
 
-use crate::{MapStore, New, Store};
+use crate::{MapStore, New, SlabStore, Store};
 use dc_names::{Kind, Name, NoMemory, parse};
+use dc_plain::{MOST_NAMES, NUMBER_LIMIT, Spot};
 use std::alloc::Global;
 use std::test::Fail;
+
+mod refused;
 
 /// Whether a name in a directory is free.
 fn is_free<S: Store>(store: &S, dir: u64, name: Name<'_>) -> bool
@@ -21,16 +24,14 @@ fn is_free<S: Store>(store: &S, dir: u64, name: Name<'_>) -> bool
 fn may_be_named<S: Store>(store: &S, number: u64) -> bool
     ensures { result ≡ true → CanBeNamed (S.tree store.now) number }
 {
-    matches!(store.kind(number), Some(Kind::File | Kind::Link)) && store.count(number) < 65_000
+    matches!(store.kind(number), Some(Kind::File | Kind::Link)) && store.count(number) < MOST_NAMES
 }
 
 fn may_be_added<S: Store>(store: &S, new: New<'_>) -> bool
     ensures { result ≡ true → CanAdd (S.tree store.now) new.entry }
 {
-    let has_number = store.next() < 1 << 63;
     match new {
-        New::Dir | New::File => has_number,
-        New::Link(text) => has_number && parse(text).is_ok(),
+        New::Dir | New::File | New::Link(_) => store.next() < NUMBER_LIMIT,
         New::Same(number) => may_be_named(store, number),
     }
 }
@@ -94,14 +95,17 @@ fn drop_from<S: Store>(store: &mut S, dir: u64, name: Name<'_>) -> bool {
 fn move_to<S: Store>(
     store: &mut S,
     alloc: Global,
-    old: (u64, Name<'_>),
-    new: (u64, Name<'_>),
+    old: Spot<'_>,
+    new: Spot<'_>,
 ) -> Result<bool, NoMemory> {
-    let Some(number) = store.find(old.0, old.1) else {
+    let Some(number) = store.find(old.dir, old.name) else {
         return Ok(false);
     };
-    let stands = matches!(store.kind(new.0), Some(Kind::Dir));
-    if !stands || !is_apart(store, number, new.0) || !gives_way(store, new.0, new.1, number) {
+    let stands = matches!(store.kind(new.dir), Some(Kind::Dir));
+    if !stands
+        || !is_apart(store, number, new.dir)
+        || !gives_way(store, new.dir, new.name, number)
+    {
         return Ok(false);
     }
     store.move_entry(alloc, old, new)?;
@@ -127,6 +131,13 @@ fn named(text: &[u8]) -> Result<Name<'_>, NoMemory> {
     Name::new(text).ok_or(NoMemory)
 }
 
+fn spot<'a>((dir, name): (u64, &'a [u8])) -> Result<Spot<'a>, NoMemory> {
+    Ok(Spot {
+        dir,
+        name: named(name)?,
+    })
+}
+
 /// Whether these names stand in a directory.
 fn holds<S: Store>(store: &S, alloc: Global, dir: u64, want: &[&[u8]]) -> Result<bool, NoMemory> {
     let names = store.list(alloc, dir)?;
@@ -141,10 +152,7 @@ fn answers<S: Store>(store: &mut S, alloc: Global, step: Step<'_>) -> Result<boo
             Ok(add_to(store, alloc, dir, named(name)?, new)? == want)
         }
         Step::Drop(dir, name, want) => Ok(drop_from(store, dir, named(name)?) == want),
-        Step::Move(old, new, want) => {
-            let (old, new) = ((old.0, named(old.1)?), (new.0, named(new.1)?));
-            Ok(move_to(store, alloc, old, new)? == want)
-        }
+        Step::Move(old, new, want) => { Ok(move_to(store, alloc, spot(old)?, spot(new)?)? == want) }
         Step::Seen(number, kind, parent, count) => {
             let seen = (
                 store.kind(number),
@@ -160,13 +168,24 @@ fn answers<S: Store>(store: &mut S, alloc: Global, step: Step<'_>) -> Result<boo
     }
 }
 
-/// The place of the first step of a new store that answers otherwise. A step that is refused memory is
-/// taken once more, and answers then as if it hadn't been.
+/// The place of the first step of a new store of either kind that answers otherwise.
 fn fails_at(alloc: Global, steps: &[Step<'_>]) -> Result<Option<usize>, NoMemory> {
-    let mut store = MapStore::new(alloc).or_else(|_| MapStore::new(alloc))?;
+    let mut map = MapStore::new(alloc).or_else(|_| MapStore::new(alloc))?;
+    let mut slab = SlabStore::new(alloc).or_else(|_| SlabStore::new(alloc))?;
+    let first = fails_in(&mut map, alloc, steps)?;
+    Ok(first.or(fails_in(&mut slab, alloc, steps)?))
+}
+
+/// The place of the first step that answers otherwise. A step that is refused memory is taken once more,
+/// and answers then as if it hadn't been.
+fn fails_in<S: Store>(
+    store: &mut S,
+    alloc: Global,
+    steps: &[Step<'_>],
+) -> Result<Option<usize>, NoMemory> {
     for (place, step) in steps.iter().enumerate() {
-        let first = answers(&mut store, alloc, *step);
-        if !first.or_else(|_| answers(&mut store, alloc, *step))? {
+        let first = answers(store, alloc, *step);
+        if !first.or_else(|_| answers(store, alloc, *step))? {
             return Ok(Some(place));
         }
     }
@@ -205,12 +224,11 @@ fn makes_directories(rt: HostRuntime) -> Result<(), Fail> {
 fn keeps_links_and_further_names(rt: HostRuntime) -> Result<(), Fail> {
     let steps = [
         Step::Add(1, b"d", New::Dir, Some(2)),
-        Step::Add(1, b"l", New::Link(b"d/x"), Some(3)),
+        Step::Add(1, b"l", New::Link(parse(b"d/x")?), Some(3)),
         Step::Add(2, b"f", New::File, Some(4)),
         Step::Add(1, b"f", New::Same(4), Some(4)),
-        // No further name for a directory, and no empty text.
+        // No further name for a directory.
         Step::Add(2, b"d", New::Same(2), None),
-        Step::Add(2, b"d", New::Link(b""), None),
         Step::Find(1, b"f", Some(4)),
         Step::Find(2, b"f", Some(4)),
         Step::Text(3, Some(b"d/x")),
@@ -283,6 +301,30 @@ fn moves_a_directory(rt: HostRuntime) -> Result<(), Fail> {
         Step::Seen(5, None, None, 0),
         Step::List(1, &[b"a", b"f"]),
         Step::Size(6, 4),
+    ];
+    assert_eq!(rt; fails_at(rt.alloc(), &steps)?, None);
+    Ok(())
+}
+
+const LONGEST_OLD: &[u8] = &[b'a'; 255];
+
+const LONGEST_NEW: &[u8] = &[b'b'; 255];
+
+const LONGEST_TEXT: &[u8] = &[b'/'; 4095];
+
+#[test]
+fn takes_the_longest_names_and_texts(rt: HostRuntime) -> Result<(), Fail> {
+    let steps = [
+        Step::Add(1, LONGEST_OLD, New::Link(parse(LONGEST_TEXT)?), Some(2)),
+        Step::Add(1, LONGEST_NEW, New::Dir, Some(3)),
+        Step::Add(3, LONGEST_NEW, New::Same(2), Some(2)),
+        Step::Text(2, Some(LONGEST_TEXT)),
+        Step::List(1, &[LONGEST_OLD, LONGEST_NEW]),
+        Step::Move((3, LONGEST_NEW), (3, LONGEST_OLD), true),
+        Step::List(3, &[LONGEST_OLD]),
+        Step::Drop(3, LONGEST_OLD, true),
+        Step::Drop(1, LONGEST_OLD, true),
+        Step::Size(4, 2),
     ];
     assert_eq!(rt; fails_at(rt.alloc(), &steps)?, None);
     Ok(())

@@ -1,6 +1,5 @@
 use Rattle.std.proofs.Common.{option_map, ap, sym, ◌∙◌}
-use Rattle.dc_plain.proofs.Made.{free_spot}
-use Rattle.dc_store.specs.Spots.{spot_at}
+use Rattle.dc_plain.specs.Spots.{spot_at}
 use Rattle.dc_ops.proofs.Goes.{named_by, unheld}
 use Rattle.dc_ops.proofs.finder.entry.Goals as goal
 
@@ -12,4 +11,4 @@ pub returns-in_err-kind-clause-target : goal.returns-in_err-kind-clause-target
 returns-in_err-kind-clause-target g c =
     let t = g.S.Store.tree c.args.store.now in
     let nothing = unheld t (spot_at c.args.dir c.args.name.bytes.now) _ (sym c.find.ensures.target ∙ c.in_ok-number.was) c.in_err-kind.ensures.kind in
-    ap (option_map (λ place. place.0)) c.from_residual-in_err-kind.ensures ∙ sym (free_spot t c.args.dir c.args.name.bytes.now c.kind.ensures.well nothing)
+    ap (option_map (λ place. place.0)) c.from_residual-in_err-kind.ensures ∙ sym (c.names_lead_to_the_living.ensures.nowhere t c.args.dir c.args.name.bytes.now c.kind.ensures.well nothing)

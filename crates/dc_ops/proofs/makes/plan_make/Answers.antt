@@ -1,15 +1,20 @@
-use Rattle.std.proofs.Common.{sym, ◌∙◌}
-use Rattle.dc_plain.proofs.Spotted.{spot_live}
-use Rattle.dc_ops.specs.Wheres.{place_shown}
+use Rattle.std.proofs.Common.{arith, sym, ◌∙◌, rules}
+use Rattle.std.proofs.lemmas.Grind.{common_steps}
+use Rattle.dc_plain.specs.Spots.{where_shown}
 use Rattle.dc_ops.proofs.Rooms.{room, number_made}
 use Rattle.dc_ops.proofs.makes.plan_make.Goals as goal
 
-pub returns-clause-can : goal.returns-clause-can
-returns-clause-can g c =
+pub returns : goal.returns
+returns g c =
     let t = g.S.Store.tree c.args.store.now in
-    let well = c.is_there.ensures.well in (
-      spot_live t c.args.base c.args.path.now (place_shown c.in_ok-at.at) well.root_is (sym c.in_ok-at.ensures),
-      c.is_there.ensures.free c.in_ok-refuse.ensures.ok,
-      room c.args.max_inodes t c.args.new well.next_is (sym c.is_full.ensures.full ∙ c.in_ok-refuse-3.ensures.ok) c.requires.makes c.requires.path,
-      number_made t c.args.new _ c.next.ensures.next c.requires.makes,
-    )
+    let well = c.is_there.ensures.well in record {
+      does = first_of (search rules, grind (arith, common_steps));
+      can = (
+        c.paths_lead_to_the_living.ensures.texts t c.args.base c.args.path.now (where_shown c.in_ok-at.at) well c.in_ok-at.ensures,
+        c.is_there.ensures.free c.in_ok-refuse.ensures.ok,
+        room c.args.max_inodes t c.args.new well.next_is (sym c.is_full.ensures.full ∙ c.in_ok-refuse-3.ensures.ok) c.requires,
+        number_made t c.args.new _ c.next.ensures.next c.requires,
+      );
+      keys = first_of (search rules, grind (arith, common_steps));
+      loses = tt;
+    }

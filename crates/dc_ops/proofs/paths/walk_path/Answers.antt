@@ -5,7 +5,7 @@ use Rattle.dc_ops.specs.Same.{same_tells}
 use Rattle.dc_ops.proofs.paths.walk_path.Goals as goal
 
 pub returns-in-Found : goal.returns-in-Found
-returns-in-Found g c = sym (ap (λ o. ended (settled_walk o)) (c.in-Found.ensures.answer _ (same_tells _ _ (sym c.in-Found.ensures.becomes))))
+returns-in-Found g c = ap (λ o. ended (settled_walk o)) (c.in-Found.ensures.answer _ (same_tells _ _ (sym c.in-Found.ensures.becomes)))
 
 pub returns-in-Refused : goal.returns-in-Refused
-returns-in-Refused g c = sym (ap (λ o. ended (settled_walk o)) (c.in-Refused.ensures.answer _ (same_tells _ _ (sym c.in-Refused.ensures.becomes))))
+returns-in-Refused g c = ap (λ o. ended (settled_walk o)) (c.in-Refused.ensures.answer _ (same_tells _ _ (sym c.in-Refused.ensures.becomes)))

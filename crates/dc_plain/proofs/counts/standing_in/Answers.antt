@@ -7,5 +7,5 @@ use Rattle.dc_plain.proofs.counts.standing_in.Goals as goal
 
 pub returns : goal.returns
 returns c =
-    let counted : c.count.result ≡ count_by (λ e. e.directory == c.args.directory) c.args.entries.now = search (rules, chains) in
-    counted ∙ passing_rows (λ e. e.0.directory == c.args.directory) entry_shown c.args.entries.now
+    let counted : c.count.result ≡ count_by (λ e. e.dir == c.args.dir) c.args.entries.now = search (rules, chains) in
+    counted ∙ passing_rows (λ e. e.0.dir == c.args.dir) entry_shown c.args.entries.now

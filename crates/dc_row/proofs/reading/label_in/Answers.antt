@@ -1,7 +1,7 @@
 use Rattle.std.proofs.Common.{◌≡◌, Some, [], ◌∷◌, ap, sym, ◌∙◌, nat_eq}
 use Rattle.std.specs.Cmp.Lexicographic.{pointwise}
+use Rattle.dc_plain.specs.Facts.{label_bytes}
 use Rattle.dc_plain.specs.Facts.Fact.{Leads}
-use Rattle.dc_row.specs.Spelling.{label_bytes}
 use Rattle.dc_row.proofs.Labels.{parent_is, entry_is}
 use Rattle.dc_row.proofs.reading.label_in.Goals as goal
 

@@ -16,7 +16,7 @@ pub invariant_of-self-2 : goal.invariant_of-self-2
 invariant_of-self-2 c =
     let view = c.self.view_is in
     let name = c.in_ok-name.ensures.items ∙ c.bytes.ensures.bytes in
-    let entries = c.in_ok-insert_entry.ensures.ok ∙ (λ i. put spot_cmp (record { directory = c.args.spot.directory; name = name i }) ((view i).tree.next) ((view i).tree.entries)) in
+    let entries = c.in_ok-insert_entry.ensures.ok ∙ (λ i. put spot_cmp (record { dir = c.args.spot.dir; name = name i }) ((view i).tree.next) ((view i).tree.entries)) in
     let inodes = (rw c.unwrap.ensures at c.insert_inode.ensures.ok) ∙ (λ i. put nat_cmp c.self.inside.next (c.in_ok-node.ensures i) (map inode_shown (c.reserve.ensures.items i))) in
-    sound_after c.self.inside _ _ _ c.self.invariant view c.requires.made
+    sound_after c.parts_are_names_or_dots.ensures c.self.inside _ _ _ c.self.invariant view c.requires.made
     (λ i. record { entries = entries i; inodes = (inodes ∙ (λ j. put nat_cmp ((view j).tree.next) (new_shown c.args.new) ((view j).tree.inodes))) i; next = (view i).tree.next + 1 }) refl

@@ -10,7 +10,7 @@ use Rattle.dc_plain.proofs.plain.PlainTree.entry.Goals as goal
 pub returns-clause-leads : goal.returns-clause-leads
 returns-clause-leads c =
     let t = c.args.self.now.tree in
-    let spot : Spot = record { directory = c.args.directory; name = c.args.name.now } in
+    let spot : Spot = record { dir = c.args.dir; name = c.args.name.now } in
     let told = c.in_ok-target.ensures ∙ ap (λ es. lookup spot_cmp spot (map entry_shown es)) c.deref.ensures.value ∙ ap (λ (m : Machine). entry_number m.tree spot) c.self.view_is in
-    leads_to t c.args.directory c.args.name.now (subst (λ (m : Machine). IsWellFormed m.tree) c.self.view_is c.self.invariant.well) c.target_at.result
+    leads_to t c.args.dir c.args.name.now (subst (λ (m : Machine). IsWellFormed m.tree) c.self.view_is c.self.invariant.well) c.target_at.result
     (c.target_at.ensures ∙ ap (option_and_then (target_at t)) told)

@@ -1,0 +1,59 @@
+-- What the words of a row spell, by the row that was decoded from them.
+use Rattle.std.proofs.Common.{◌≡◌, ◌↔◌, ℕ, ◌+◌, ◌<◌, Bool, true, false, List, Option, Some, None, option_map, Result, Ok, Err, IfOk, IfSome, IsTrue, refl, sym, ap, ◌∙◌, subst, arith}
+use mathlib.Core.Logic.{dite}
+use native.Mathlib.Decide.{ℕ_discrete}
+use Rattle.dc_row.specs.Rows.{row_shown}
+use Rattle.dc_row.specs.declared.row.Row.{Row}
+use Rattle.dc_plain.specs.Facts.{Fact}
+use Rattle.dc_plain.specs.Facts.{key_of}
+use Rattle.dc_plain.specs.Requests.{Request}
+use Rattle.dc_plain.specs.Runs.{Touches}
+use Rattle.dc_row.specs.Spelling.{Spells, TellsRow}
+use Rattle.dc_events.specs.Rows.{row_words}
+use Rattle.dc_core.specs.Machine.{State}
+use Rattle.dc_core.specs.Refusals.{IsEven, IsTouched}
+
+same_fact : (ws : List ℕ) (o : Option (Option Fact)) (told : Option Fact) → o ≡ Some told → TellsRow ws o → (fact : Option Fact) → Spells ws fact → told ≡ fact
+same_fact ws o told is tells fact s = inside (sym is ∙ tells fact s)
+  where
+    inside : {A : Type 0} {a b : A} → Some a ≡ Some b → a ≡ b
+    inside e = cc
+
+none_some : {A : Type 0} {a : A} → None ≡ Some a → ⊥
+none_some e = cc
+
+module _ (s : State) (call : Request) (row : ℕ) where
+  abbrev ws : List ℕ
+  ws = row_words s.words row
+
+  -- a row with a fact
+  pub touched_some : (o : Option (Option Fact)) (told : Option Fact) (f : Fact) → IsEven s row → o ≡ Some told → TellsRow ws o → Spells ws told → Some f ≡ told → (b : Bool) → (IsTrue b ↔ Touches s.limit s.tree call (key_of f)) → IsTrue b ↔ IsTouched s call row
+  touched_some o told f even is tells spells fact b so = (
+    λ t. (even, f, subst (Spells ws) (sym fact) spells, so.0 t),
+    λ h. so.1 (subst (λ g. Touches s.limit s.tree call (key_of g)) (inside (sym (fact ∙ same_fact ws o told is tells (Some h.1) h.2))) h.3),
+  )
+    where
+      inside : {A : Type 0} {a b : A} → Some a ≡ Some b → a ≡ b
+      inside e = cc
+
+  -- a row without one
+  pub touched_none : (o : Option (Option Fact)) (told : Option Fact) → o ≡ Some told → TellsRow ws o → told ≡ None → IsTouched s call row → ⊥
+  touched_none o told is tells none h = none_some (sym none ∙ same_fact ws o told is tells (Some h.1) h.2)
+
+pub if_ok : {A E : Type 0} (r : Result A E) (P Q : A → Type 0) → ((a : A) → P a → Q a) → IfOk r P → IfOk r Q
+if_ok (Ok a) P Q f p = f a p
+if_ok (Err e) P Q f p = p
+
+pub through : {A B C : Type 0} → (A ↔ B) → (B ↔ C) → A ↔ C
+through f g = (λ a. g.0 (f.0 a), λ c. f.1 (g.1 c))
+
+pub blank_row : (ws : List ℕ) (o : Option Row) → IfSome o (λ r. Spells ws (row_shown r)) → TellsRow ws (option_map row_shown o) → (option_map row_shown o ≡ Some None) ↔ Spells ws None
+blank_row ws None spelled tells = (λ e. absurd (none_some e), λ h. tells None h)
+blank_row ws (Some r) spelled tells = (λ e. subst (Spells ws) (inside e) spelled, λ h. tells None h)
+  where
+    inside : {A : Type 0} {a b : A} → Some a ≡ Some b → a ≡ b
+    inside e = cc
+
+-- the rows so far, and one more
+pub next_row : (Test : ℕ → Type 0) (n : ℕ) → ((r : ℕ) → r < n → Test r → ⊥) → (Test n → ⊥) → (r : ℕ) → r < n + 1 → Test r → ⊥
+next_row Test n before here r less t = dite (ℕ_discrete r n) (λ e. here (subst Test e t)) (λ ne. before r (omega arith) t)

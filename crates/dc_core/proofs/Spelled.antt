@@ -1,0 +1,49 @@
+-- Under the rule the checked notes of an actor that answers spell rows.
+use Rattle.std.proofs.Common.{◌≡◌, ℕ, zero, suc, ◌+◌, ◌-◌, ◌<◌, ◌≤◌, ◌≢◌, true, false, List, [], ◌∷◌, length, get_or, map, Option, Some, None, refl, sym, ap, ◌∙◌, subst, arith, inl, inr, true≢false}
+use mathlib.Core.Option.{some}
+use lib.ListN.{get_elem?}
+use Rattle.dc_plain.specs.Facts.{Fact}
+use Rattle.dc_plain.specs.Requests.{Answer}
+use Rattle.dc_row.specs.Spelling.{Spells}
+use Rattle.dc_events.specs.Views.{Note, View, Walk}
+use Rattle.dc_events.specs.Rows.{count, note_words, IsWhole}
+use Rattle.dc_events.specs.Noted.{answer_in}
+use Rattle.dc_events.specs.Walks.{walk_marked, note_of, no_note}
+use Rattle.dc_events.proofs.Walker as walker
+use Rattle.dc_core.specs.Machine.{State, Actor, Event, actor_at}
+use Rattle.dc_core.specs.Machine.Act.{Pivot, Check}
+use Rattle.dc_core.specs.Lives.{view_of, Lives}
+use Rattle.dc_core.specs.Refusals.{Answers}
+use Rattle.dc_core.specs.Told.{AreSpelled}
+use Rattle.dc_core.proofs.Seats.{passed, at_or, held_not, held_so, here}
+use Rattle.dc_core.proofs.Kept.{there}
+use Rattle.dc_core.proofs.Settles.{same_number}
+
+spelled_each : (l : List Note) → ((i : ℕ) (x : Note) → get_elem? l i ≡ some x → x.checked ≡ true → (fact : Option Fact) × Spells (note_words x) fact) → AreSpelled l
+spelled_each [] so = tt
+spelled_each (x ∷ xs) so = (so 0 x refl, spelled_each xs (λ i. so (suc i)))
+
+pub pivot_spelled : (s : State) (j : ℕ) → Lives s → Answers s (record { actor = j; act = Pivot }) None → (actor_at s j).walk.busy ≡ true → AreSpelled (actor_at s j).walk.notes
+pivot_spelled s j (hist, ds, L) ok busy = let p = passed ok in let q = passed p.1 in let a : Actor = actor_at s j in let f = L.rule.fits j (view_of s.words hist ds j a) (here s hist ds L j a (there s j p.0)) in
+    let fresh = held_not a.walk.pivoted (λ t. q.0 (busy, t)) in
+    spelled_each a.walk.notes (λ i x at checked. absurd (true≢false (sym checked ∙ f.walk.unchecked busy fresh i x at)))
+
+module _ (s : State) (j i : ℕ) (ok : Answers s (record { actor = j; act = Check i }) None) where
+  pub check_busy : (actor_at s j).walk.busy ≡ true
+  check_busy = held_so (actor_at s j).walk.busy (passed (passed ok).1).0
+
+  pub check_less : i < length (actor_at s j).walk.notes
+  check_less = let t = passed (passed (passed (passed ok).1).1).1 in below i (length (actor_at s j).walk.notes) (λ h. t.0 (inl h))
+    where
+      below : (m n : ℕ) → (n ≤ m → ⊥) → m < n
+      below m n h = omega arith
+
+  pub check_fresh : (note_of (actor_at s j).walk i).checked ≡ false
+  check_fresh = let t = passed (passed (passed (passed ok).1).1).1 in held_not (note_of (actor_at s j).walk i).checked (λ h. t.0 (inr (inr h)))
+
+  pub check_spelled : Lives s → AreSpelled (walk_marked (actor_at s j).walk i).notes
+  check_spelled (hist, ds, L) = let p = passed ok in let q = passed p.1 in let r = passed q.1 in let t = passed r.1 in let u = passed t.1 in let a : Actor = actor_at s j in
+      let turned = held_so a.walk.pivoted r.0 in let whole : IsWhole (note_of a.walk i) = same_number _ _ (λ h. t.0 (inr (inl h))) in
+      let same : (note_of a.walk i).count ≡ count s.words (note_of a.walk i).row = sym (same_number _ _ u.0) in
+      let f = walker.marks (view_of s.words hist ds j a) i turned (at_or a.walk.notes i no_note check_less) whole same (L.rule.fits j (view_of s.words hist ds j a) (here s hist ds L j a (there s j p.0))) in
+      spelled_each (walk_marked a.walk i).notes (λ k x at checked. let tells = f.walk.told check_busy turned k x at ((f.walk.noted k x at).whole checked, inl checked) in (tells.fact, tells.spells))

@@ -1,0 +1,22 @@
+use Rattle.std.proofs.Common.{◌≡◌, ◌+◌, ◌<◌, ◌++◌, [], ◌∷◌, ap, sym, ◌∙◌, subst, set, get_or, length, map, rules, arith, true, false, OnOk, OnErr}
+use Rattle.dc_core.specs.Machine.{State, Actor, Finished, actor_at, clock_of, walking, turning, next_word, ended, recorded}
+use Rattle.dc_core.specs.Machine.Act.{Begin, Take, Shut, Write, Open, Commit, Give, Note, Read, Pivot, Check, Again, Quit}
+use Rattle.dc_core.specs.Shown.{state_of, actor_shown, finished_shown, note_shown}
+use Rattle.dc_plain.specs.Requests.{request_of, answer_of}
+use Rattle.dc_plain.specs.Runs.{reply_of, tree_after, alters}
+use Rattle.dc_events.specs.Rows.{count}
+use Rattle.dc_events.specs.Walks.{walk_begun, walk_again, no_walk, walk_noted, walk_read, walk_marked}
+use Rattle.dc_core.proofs.Acted.{acted, unacted, room, this_one, always_err, on_ok, on_err, finished_more, concluding_is}
+use Rattle.dc_core.proofs.Kept.{number}
+use Rattle.dc_core.proofs.state.State.do_note.Goals as goal
+
+pub returns-clause-done : goal.returns-clause-done
+returns-clause-done c = let s = c.args.self.now in let us = s.actors.items in let j = c.args.actor in let one = c.index_mut.result.now in let less = room s j (Note c.args.row) c.requires.may in
+    on_ok c.note.result _ _ (λ shown. λ i. record (state_of s) {
+      actors = acted us j one c.note.new.self (λ a. walking a (walk_noted a.walk c.args.row (count s.words.items c.args.row))) less c.index_mut.ensures.value
+          (shown ∙ ap (λ n. walking (actor_shown one) (walk_noted (actor_shown one).walk c.args.row n)) c.count-count.ensures) i;
+    }) c.note.ensures.done
+
+pub returns-clause-err : goal.returns-clause-err
+returns-clause-err c = let s = c.args.self.now in let us = s.actors.items in let j = c.args.actor in let one = c.index_mut.result.now in let less = room s j (Note c.args.row) c.requires.may in
+    on_err c.note.result _ _ (λ shown. λ i. record (state_of s) { actors = unacted us j one c.note.new.self less c.index_mut.ensures.value shown i }) c.note.ensures.err

@@ -1,0 +1,129 @@
+//! The core: every event is done or refused.
+
+ghost use Rattle.std.specs.Prelude.{◌≡◌, ◌⊎◌, ◌<◌, ◌≤◌, ◌*◌, ◌↔◌, false, Err, IfOk, IfErr, OnOk, OnErr, map};
+ghost use Rattle.dc_core.specs.Listed.{AllDone, AreSpanned, IsNew, StopsFor, done_of};
+ghost use Rattle.dc_core.specs.Machine.{after, after_all, clock_of, opening};
+ghost use Rattle.dc_core.specs.Lives.{Lives, AreLegal};
+ghost use Rattle.dc_core.specs.Refusals.{Answers};
+ghost use Rattle.dc_core.specs.Shown.{event_shown, finished_shown, reason, IsMemory};
+ghost use Rattle.dc_core.specs.Sizes.{are_right};
+ghost use Rattle.dc_core.specs.declared.refused.MakeFault.TheVariants.{BadSize};
+ghost use Rattle.dc_events.specs.Rows.{count};
+
+use crate::state::{Finished, State};
+use crate::{Event, MakeFault, Refused};
+use dc_events::events_keep_the_rule;
+use std::alloc::Global;
+use std::marker::Model;
+
+/// A table of shared words with its tree, any number of actors, and the records of their calls.
+#[derive(Drop)]
+pub struct Core {
+    state: State,
+}
+
+impl Model for Core {
+    ghost use Rattle.dc_core.specs.Machine.{State};
+
+    ghost Value = { State };
+
+    ghost use Rattle.dc_core.specs.Cores.{state_in, IsAlive};
+
+    ghost view = { state_in };
+
+    ghost invariant = { IsAlive };
+}
+
+impl Core {
+    /// Empty rows, four in each of the buckets, and actors without calls, over the root directory
+    /// alone.
+    pub fn new(alloc: Global, buckets: u64, actors: u64, max_inodes: u64) -> Result<Core, MakeFault>
+        ensures made { IfOk result (λ core. core ≡ opening max_inodes (buckets * 4) actors) }
+        ensures size { result ≡ Err BadSize ↔ are_right buckets max_inodes ≡ false }
+    {
+        if !are_right(buckets, max_inodes) {
+            return Err(MakeFault::BadSize);
+        }
+        match State::new(alloc, buckets * 4, actors, max_inodes) {
+            Ok(state) => Ok(Core { state }),
+            Err(_) => Err(MakeFault::NoMemory),
+        }
+    }
+
+    /// Does an event, or refuses it: exactly where the table of events says, by the first test that
+    /// holds. After a refusal the core is as it was. Want of memory may stand in the place of
+    /// `Unaltered`, `Full`, `Touched` or `Alters`; else it comes last.
+    pub fn step(&mut self, alloc: Global, event: Event) -> Result<(), Refused>
+        ensures refused { IsMemory result
+            ⊎ Answers self.old (event_shown event.entry) (reason result) }
+        ensures done { OnOk result (self.new ≡ after self.old (event_shown event.entry)) }
+        ensures err { OnErr result (self.new ≡ self.old) }
+        ensures rule { Lives self.new }
+    {
+        events_keep_the_rule();
+        self.state.step(alloc, event)
+    }
+
+    /// Does the events one after the other, up to the first that is refused; its place counts from
+    /// 0, and those before it stand.
+    pub fn run(&mut self, alloc: Global, events: &[Event]) -> Result<(), (u64, Refused)>
+        ensures state { self.new ≡ after_all self.old (done_of result (map event_shown events.now)) }
+        ensures done { AllDone self.old (done_of result (map event_shown events.now)) }
+        ensures refused { IfErr result (λ stop.
+            StopsFor self.new (map event_shown events.now) stop.0 stop.1) }
+        ensures spans { IsNew self.old →
+            AreSpanned self.old (done_of result (map event_shown events.now)) }
+    {
+        let mut place = 0;
+        for event in events {
+            if let Err(refused) = self.follow(alloc, event) {
+                return Err((place, refused));
+            }
+            place += 1;
+        }
+        Ok(())
+    }
+
+    fn follow(&mut self, alloc: Global, event: &Event) -> Result<(), Refused>
+        ensures refused { IsMemory result ⊎ Answers self.old (event_shown event.now) (reason result) }
+        ensures done { OnOk result (self.new ≡ after self.old (event_shown event.now)) }
+        ensures err { OnErr result (self.new ≡ self.old) }
+    {
+        self.step(alloc, *event)
+    }
+
+    /// The answered calls, in the order in which they were recorded. They are those of a run of one
+    /// thread on one plain tree.
+    pub fn finished(&self) -> &[Finished]
+        ensures all { map finished_shown result.now ≡ self.now.finished }
+        ensures legal { AreLegal self.now }
+    {
+        &self.state.finished
+    }
+
+    /// The count of a row.
+    pub fn count(&self, row: u64) -> u64
+        requires { row < self.now.rows }
+        ensures { result ≡ count self.now.words row }
+    {
+        self.state.count(row)
+    }
+
+    /// How many calls have altered the tree.
+    pub fn clock(&self) -> u64
+        ensures { result ≡ clock_of self.now }
+    {
+        self.state.words[0]
+    }
+}
+
+/// Whether buckets are a power of two from 1 to 1,024, and from 1 to 1,048,576 inodes may live.
+fn are_right(buckets: u64, max_inodes: u64) -> bool
+    ensures { result ≡ are_right buckets max_inodes }
+{
+    1 <= buckets
+        && buckets <= 1024
+        && buckets.is_power_of_two()
+        && 1 <= max_inodes
+        && max_inodes <= 1048576
+}

@@ -1,0 +1,87 @@
+ghost use Rattle.std.specs.Prelude.{◌≡◌, true, false, MatchResult};
+ghost use Rattle.dc_core.specs.declared.refused.Refused.TheVariants.{NoMemory as WantOfMemory};
+
+use dc_names::NoMemory;
+use std::alloc::AllocError;
+
+/// Why no core was made.
+#[derive(Clone, Copy, Debug, PartialEq, Eq)]
+pub enum MakeFault {
+    /// A number of buckets that is no power of two from 1 to 1,024, or a limit of inodes that isn't
+    /// from 1 to 1,048,576.
+    BadSize,
+    /// No memory.
+    NoMemory,
+}
+
+/// Why an event was not done.
+#[derive(Clone, Copy, Debug, PartialEq, Eq)]
+pub enum Refused {
+    /// There is no such actor.
+    Actor,
+    /// The actor has the lock.
+    Holder,
+    /// The actor has an unanswered call.
+    Unfinished,
+    /// The lock isn't free.
+    Held,
+    /// The actor doesn't have the lock.
+    NotHolder,
+    /// There is no such row.
+    NoRow,
+    /// The row is odd.
+    Odd,
+    /// The row is even.
+    Even,
+    /// The row would get its last count, or has it.
+    Spent,
+    /// A row has no such word, or it is its count.
+    NoWord,
+    /// The words spell no row, or one that isn't true in the tree now.
+    Untrue,
+    /// The actor has no unanswered call.
+    NoCall,
+    /// The call leaves the tree as it is.
+    Unaltered,
+    /// The clock has its last value.
+    Full,
+    /// An even row, the first, has a key that the call touches.
+    Touched(u64),
+    /// A row, the first, is odd.
+    OddRow(u64),
+    /// The call alters the tree.
+    Alters,
+    /// The pivot is made.
+    Late,
+    /// There is no pivot.
+    Early,
+    /// There is no such note, or none that may be read or checked.
+    NoNote,
+    /// The row of a note has another count: the row, the count noted, the count found.
+    Changed(u64, u64, u64),
+    /// No memory.
+    NoMemory,
+}
+
+impl From<NoMemory> for Refused {
+    ghost from_gives = { λ fault refused. refused ≡ WantOfMemory };
+
+    fn from(_fault: NoMemory) -> Refused {
+        Refused::NoMemory
+    }
+}
+
+impl From<AllocError> for Refused {
+    ghost from_gives = { λ fault refused. refused ≡ WantOfMemory };
+
+    fn from(_fault: AllocError) -> Refused {
+        Refused::NoMemory
+    }
+}
+
+/// Refuses as this where a test holds.
+pub(crate) fn refuse(test: bool, because: Refused) -> Result<(), Refused>
+    ensures { MatchResult result (λ _. test ≡ false) (λ r. (test ≡ true) × (r ≡ because)) }
+{
+    if test { Err(because) } else { Ok(()) }
+}

@@ -1,0 +1,12 @@
+pub mod Words
+pub mod Later
+pub mod Totals
+pub mod Steps
+pub mod Records
+pub mod Facts
+pub mod Holder
+pub mod Rows
+pub mod Walker
+pub mod Walks
+pub mod Legal
+pub mod Opening

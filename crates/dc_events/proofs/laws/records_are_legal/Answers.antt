@@ -1,0 +1,5 @@
+use Rattle.dc_events.proofs.Legal.{legal}
+use Rattle.dc_events.proofs.laws.records_are_legal.Goals as goal
+
+pub returns : goal.returns
+returns c = legal

@@ -1,0 +1,15 @@
+-- What holds of each text without a fault.
+use Rattle.std.specs.Prelude.{◌≡◌, ℕ, List, None, IsTrue}
+use Rattle.std.specs.List.{AllByRecursion}
+use Rattle.dc_names.specs.Bytes.{is_name}
+use Rattle.dc_names.specs.Paths.{Part, fault_of, parts_of}
+use Rattle.dc_names.specs.Paths.Part.{Name, Dot, DotDot}
+
+-- a part that is no dot is a name
+abbrev pub IsNameOrDots : Part → Type 0
+IsNameOrDots (Name name) = IsTrue (is_name name)
+IsNameOrDots Dot = Unit {0}
+IsNameOrDots DotDot = Unit {0}
+
+abbrev pub PartsAreNamesOrDots : Type 0
+PartsAreNamesOrDots = (text : List ℕ) → fault_of text ≡ None → AllByRecursion IsNameOrDots (parts_of text)

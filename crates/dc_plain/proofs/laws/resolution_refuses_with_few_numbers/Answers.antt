@@ -1,6 +1,0 @@
-use Rattle.dc_plain.specs.Resolution.Outcome.{Refused}
-use Rattle.dc_plain.proofs.Outcomes.{walk-usual, place-usual}
-use Rattle.dc_plain.proofs.laws.resolution_refuses_with_few_numbers.Goals as goal
-
-pub returns : goal.returns
-returns c = record { walks = λ teller base path how number. walk-usual teller base path how (Refused number); places = place-usual }

@@ -1,0 +1,18 @@
+use Rattle.std.proofs.Common.{◌≡◌, ◌≤◌, length, Continue}
+use Rattle.arrayvec.specs.ArrayVec.{array_vec_len}
+use Rattle.dc_resolve.specs.Remainders.{parts_left}
+use Rattle.dc_resolve.specs.Walks.{GoesOn}
+use Rattle.dc_resolve.proofs.resolution.walk_parts.Given as goal
+
+abbrev pub invariant-parts : goal.invariant-parts
+invariant-parts g l =
+    let finder = g.F.Finder in
+    record {
+      kept : finder.becomes l.fn.finder l.finder;
+      same : finder.has_stopped l.finder ≡ finder.has_stopped l.fn.finder;
+      room : array_vec_len l.left.texts ≤ array_vec_len l.initial.left.texts;
+      goes : GoesOn (finder.said l.finder) l.follow l.slash l.fn.start (parts_left l.initial.left) (Continue l.place) (parts_left l.left);
+    }
+
+abbrev pub decreases-parts : goal.decreases-parts
+decreases-parts g l = length (parts_left l.left)

@@ -1,0 +1,39 @@
+-- Which questions a walk needs answered.
+use Rattle.std.specs.Prelude.{◌≡◌, ℕ, ◌∷◌, List, Bool, ◌&&◌, Option, None, IsTrue}
+use Rattle.std.specs.declared.ops.ControlFlow.TheVariants.{Continue}
+use Rattle.dc_names.specs.Paths.{Part}
+use Rattle.dc_plain.specs.declared.call.Follow.{Follow}
+use Rattle.dc_plain.specs.Facts.{Target, Label, Teller}
+use Rattle.dc_plain.specs.Facts.Label.{Entry, Parent, Text}
+use Rattle.dc_plain.specs.Resolution.{is_directory}
+use Rattle.dc_plain.specs.Tellers.{Extends}
+use Rattle.dc_resolve.specs.Asked.{is_asked, label_of}
+use Rattle.dc_resolve.specs.Walks.{GoesOn}
+use Rattle.dc_resolve.specs.declared.finder.Finder.{Ghosts}
+
+-- of this key nothing is told
+abbrev pub IsUntold : Teller → ℕ → Label → Type 0
+IsUntold teller n (Entry name) = teller.entry n (Entry name) ≡ None
+IsUntold teller n Parent = teller.entry n Parent ≡ None
+IsUntold teller n Text = teller.text n ≡ None
+
+-- whoever tells what was said, and whatever else, but nothing of this key, has no outcome
+abbrev pub IsNeeded : {A : Type 0} → (Teller → Option A) → Teller → ℕ → Label → Type 0
+IsNeeded outcome said n label = (teller : Teller) → Extends said teller → IsUntold teller n label → outcome teller ≡ None
+
+-- a part asks a question at a place
+abbrev pub asks : Target → Part → Bool
+asks place part = is_directory place && is_asked place.0 part
+
+-- the first of some parts may be asked at a place
+abbrev pub MayAskFirst : (ℕ → Label → Type 0) → Target → List Part → Type 0
+MayAskFirst may place parts = (part : Part) (rest : List Part) → parts ≡ part ∷ rest → IsTrue (asks place part) → may place.0 (label_of part)
+
+module _ {F T : Type 0} (g : Ghosts F T) (finder : F) where
+  -- what an outcome needs may be asked, whatever has been asked before
+  abbrev pub MayAsk : {A : Type 0} → (Teller → Option A) → Type 0
+  MayAsk outcome = (f : F) → g.becomes finder f → (n : ℕ) (label : Label) → IsNeeded outcome (g.said f) n label → g.may_ask f n label
+
+  -- the parts of a walk may be asked one after the other
+  abbrev pub MayAskEach : Follow → Bool → Target → List Part → Type 0
+  MayAskEach how slash place parts = (f : F) → g.becomes finder f → (at : Target) (rest : List Part) → GoesOn (g.said f) how slash place parts (Continue at) rest → MayAskFirst (g.may_ask f) at rest

@@ -1,0 +1,23 @@
+//! What a resolution comes to, step by step and at its end.
+
+use dc_names::Refusal;
+use dc_plain::Target;
+
+/// Where a resolution ends.
+pub(crate) enum End {
+    Found(Target),
+    Refused(Refusal),
+}
+
+/// A walk over parts, up to its end or a link that must be followed.
+pub(crate) enum Step {
+    Ended(End),
+    AtLink(Target, u64),
+}
+
+/// What a part leads to.
+pub(crate) enum Reached {
+    Goes(Target),
+    Stops(Refusal),
+    Meets(Target),
+}

@@ -1,0 +1,61 @@
+//! Where the last part of a path is to be looked up.
+
+ghost use Rattle.std.specs.Prelude.{◌≡◌, Some, IfSome};
+ghost use Rattle.dc_names.specs.Paths.{path_in};
+ghost use Rattle.dc_plain.specs.Facts.{Teller};
+ghost use Rattle.dc_plain.specs.Places.{place};
+ghost use Rattle.dc_plain.specs.Tellers.{Extends};
+ghost use Rattle.dc_resolve.specs.Ends.{placed_shown, stopped_after};
+ghost use Rattle.dc_resolve.specs.Fits.{TextsFit};
+ghost use Rattle.dc_resolve.specs.Needs.{MayAsk};
+
+use crate::front::split_last;
+use crate::outcome::End;
+use crate::resolution::resolve_from;
+use crate::{Finder, Stop};
+use dc_names::{Last, PathText, Refusal};
+use dc_plain::{Follow, ROOT, Where};
+
+/// Where the last component of a path is to be looked up.
+#[derive(Clone, Copy, Debug, PartialEq, Eq)]
+pub enum Placed<'p> {
+    /// The last component in its directory.
+    At(Where<'p>),
+    /// Why the others lead nowhere.
+    Refused(Refusal),
+    /// The finder gave up.
+    Stopped,
+}
+
+/// The directory to which all components of a path but the last lead, and the last, which is neither
+/// asked for nor followed. It is refused as by `walk`, and asks only for what its answer can't be told
+/// without.
+pub fn place<'p, F: Finder>(finder: &mut F, base: u64, path: PathText<'p>) -> Placed<'p>
+    requires fits { TextsFit F.Text.row F.Text.Bytes }
+    requires may { MayAsk F.Finder finder.old (λ teller.
+        place teller base (path_in path.bytes.now)) }
+    // Whatever else may be learnt later, the answer stays.
+    ensures answer { IfSome (placed_shown result) (λ placed.
+        (teller : Teller) → Extends (F.said finder.new) teller →
+        place teller base (path_in path.entry.bytes.now) ≡ Some placed) }
+    ensures stopped { F.has_stopped finder.new
+        ≡ stopped_after (placed_shown result) (F.has_stopped finder.old) }
+    ensures becomes { F.becomes finder.old finder.new }
+{
+    let Some((front, last)) = split_last(path.bytes()) else {
+        return Placed::At(Where {
+            dir: ROOT.0,
+            last: Last::Root,
+            slash: false,
+        });
+    };
+    match resolve_from(finder, base, path, front, false, Follow::Dir) {
+        Ok(End::Found((dir, _))) => Placed::At(Where {
+            dir,
+            last: Last::from(last),
+            slash: path.has_end_slash(),
+        }),
+        Ok(End::Refused(refusal)) => Placed::Refused(refusal),
+        Err(Stop) => Placed::Stopped,
+    }
+}

@@ -1,0 +1,52 @@
+//! Where a path leads.
+
+ghost use Rattle.std.specs.Prelude.{◌≡◌, Some, IfSome};
+ghost use Rattle.dc_names.specs.Paths.{path_in};
+ghost use Rattle.dc_plain.specs.Facts.{Teller};
+ghost use Rattle.dc_plain.specs.Places.{walk};
+ghost use Rattle.dc_plain.specs.Tellers.{Extends};
+ghost use Rattle.dc_resolve.specs.Ends.{outcome_shown, stopped_after};
+ghost use Rattle.dc_resolve.specs.Fits.{TextsFit};
+ghost use Rattle.dc_resolve.specs.Needs.{MayAsk};
+
+use crate::outcome::End;
+use crate::resolution::resolve_from;
+use crate::{Finder, Stop};
+use dc_names::{Kind, PathText, Refusal};
+use dc_plain::Follow;
+
+/// Where a path leads.
+#[derive(Clone, Copy, Debug, PartialEq, Eq)]
+pub enum Walked {
+    /// An inode's number and its kind.
+    Found(u64, Kind),
+    /// Why it leads nowhere.
+    Refused(Refusal),
+    /// The finder gave up.
+    Stopped,
+}
+
+/// Where a path leads from a starting directory, by the answers of a finder (POSIX.1-2017 XBD 4.13).
+/// It asks only for what its outcome can't be told without.
+///
+/// It is refused with `NotFound`, `NotDirectory` or `TooManyLinks`, the last where more than `MOST_LINKS`
+/// links would be followed, and with nothing else: see `dc_plain::resolution_refuses_by_a_list`.
+pub fn walk<F: Finder>(finder: &mut F, base: u64, path: PathText<'_>, follow: Follow) -> Walked
+    requires fits { TextsFit F.Text.row F.Text.Bytes }
+    requires may { MayAsk F.Finder finder.old (λ teller.
+        walk teller base (path_in path.bytes.now) follow) }
+    // Whatever else may be learnt later, the outcome stays.
+    ensures answer { IfSome (outcome_shown result) (λ outcome.
+        (teller : Teller) → Extends (F.said finder.new) teller →
+        walk teller base (path_in path.entry.bytes.now) follow ≡ Some outcome) }
+    ensures stopped { F.has_stopped finder.new
+        ≡ stopped_after (outcome_shown result) (F.has_stopped finder.old) }
+    ensures becomes { F.becomes finder.old finder.new }
+{
+    let slash = path.has_end_slash();
+    match resolve_from(finder, base, path, path.bytes(), slash, follow) {
+        Ok(End::Found((number, kind))) => Walked::Found(number, kind),
+        Ok(End::Refused(refusal)) => Walked::Refused(refusal),
+        Err(Stop) => Walked::Stopped,
+    }
+}

@@ -1,0 +1,212 @@
+//! Readers, writers and gates that are not as one wishes, and what a run makes of them.
+
+use crate::tests::USUAL;
+use crate::{FreeGate, Gate, ServeFault, run};
+use std::io;
+use std::io::{Read, Write};
+use std::sync::atomic::{AtomicU64, Ordering};
+use std::test::Fail;
+
+/// What a stream does once it has given or taken so many bytes.
+#[derive(Clone, Copy, Debug, PartialEq, Eq, Drop)]
+enum Turn {
+    /// It gives or takes no byte from then on.
+    Ends,
+    /// It fails from then on.
+    Fails,
+    /// It fails once, and goes on as if nothing had been.
+    FailsOnce,
+    /// It gives or takes no byte once, and goes on.
+    PausesOnce,
+}
+
+impl Turn {
+    /// Whether the next call fails, and what the turn is then: `None` where it is over.
+    fn taken(self) -> (bool, Option<Turn>) {
+        match self {
+            Turn::Ends => (false, Some(self)),
+            Turn::Fails => (true, Some(self)),
+            Turn::FailsOnce => (true, None),
+            Turn::PausesOnce => (false, None),
+        }
+    }
+}
+
+/// Gives lines that look the root up, a byte at a time, `left` of them up to its turn.
+#[derive(Drop)]
+struct ByteByByte {
+    given: usize,
+    left: u32,
+    turn: Option<Turn>,
+    reads: u32,
+}
+
+impl Read for ByteByByte {
+    fn read(&mut self, buf: &mut [u8]) -> io::Result<usize> {
+        self.reads = self.reads.saturating_add(1);
+        if buf.is_empty() {
+            return Ok(0);
+        }
+        if let (0, Some(turn)) = (self.left, self.turn) {
+            let (fails, next) = turn.taken();
+            self.turn = next;
+            if fails {
+                return Err(io::Error::from(io::ErrorKind::Interrupted));
+            }
+            return Ok(0);
+        }
+        self.left = self.left.saturating_sub(1);
+        buf[0] = b"0 look /\n"[self.given % 9];
+        self.given = (self.given % 9 + 1) % 9;
+        Ok(1)
+    }
+}
+
+/// A read that fails or ends is not tried again, and nothing is answered after a fault.
+#[test]
+fn inputs_that_end_badly(rt: HostRuntime) -> Result<(), Fail> {
+    for (left, turn, want, reads) in [
+        (18, Turn::Ends, Ok(()), 19),
+        (18, Turn::PausesOnce, Ok(()), 19),
+        (18, Turn::Fails, Err(ServeFault::Read), 19),
+        (0, Turn::Fails, Err(ServeFault::Read), 1),
+        (9, Turn::Fails, Err(ServeFault::Read), 10),
+        (9, Turn::FailsOnce, Err(ServeFault::Read), 10),
+        (u32::MAX, Turn::Ends, Err(ServeFault::Read), 1_048_577),
+    ] {
+        let mut reader = ByteByByte {
+            given: 0,
+            left,
+            turn: Some(turn),
+            reads: 0,
+        };
+        let mut output = Vec::new(rt.alloc());
+        let result = run(&rt, rt.alloc(), &mut reader, &mut output, USUAL, &FreeGate);
+        assert_eq!(rt; result, want, "{left}");
+        assert_eq!(rt; reader.reads, reads, "{left}");
+        assert!(rt; want.is_ok() || output.is_empty());
+    }
+    Ok(())
+}
+
+/// Takes a byte at each write, `room` of them up to its turn.
+#[derive(Drop)]
+struct Taker {
+    taken: Vec<u8>,
+    room: usize,
+    turn: Option<Turn>,
+    flushes: u32,
+    refuses_flush: bool,
+}
+
+impl Write for Taker {
+    fn write(&mut self, buf: &[u8]) -> io::Result<usize> {
+        if buf.is_empty() {
+            return Ok(0);
+        }
+        if let (true, Some(turn)) = (self.taken.len() >= self.room, self.turn) {
+            let (fails, next) = turn.taken();
+            self.turn = next;
+            if fails {
+                return Err(io::Error::from(io::ErrorKind::Interrupted));
+            }
+            return Ok(0);
+        }
+        self.taken.push(buf[0])?;
+        Ok(1)
+    }
+
+    fn flush(&mut self) -> io::Result<()> {
+        self.flushes = self.flushes.saturating_add(1);
+        if self.refuses_flush {
+            return Err(io::Error::from(io::ErrorKind::Other));
+        }
+        Ok(())
+    }
+}
+
+/// A write that fails or takes nothing is not tried again.
+#[test]
+fn outputs_that_end_badly(rt: HostRuntime) {
+    let input = b"0 mkdir /a\nsync\n0 look /a\n";
+    let whole = b"0 ok 2 @0\n0 is 2 dir @1\n";
+    for (room, turn, refuses_flush, want) in [
+        (usize::MAX, Turn::Ends, false, Ok(())),
+        (usize::MAX, Turn::Ends, true, Err(ServeFault::Write)),
+        (0, Turn::Ends, false, Err(ServeFault::Write)),
+        (13, Turn::Ends, false, Err(ServeFault::Write)),
+        (13, Turn::PausesOnce, false, Err(ServeFault::Write)),
+        (13, Turn::Fails, false, Err(ServeFault::Write)),
+        (13, Turn::FailsOnce, false, Err(ServeFault::Write)),
+    ] {
+        let mut writer = Taker {
+            taken: Vec::new(rt.alloc()),
+            room,
+            turn: Some(turn),
+            flushes: 0,
+            refuses_flush,
+        };
+        let mut rest = input.as_slice();
+        let result = run(&rt, rt.alloc(), &mut rest, &mut writer, USUAL, &FreeGate);
+        let taken = room.min(whole.len());
+        assert_eq!(rt; result, want, "{room}");
+        assert!(rt; writer.taken.as_slice() == &whole[..taken], "{room}");
+        assert_eq!(rt; writer.flushes, u32::from(taken == whole.len()), "{room}");
+    }
+}
+
+/// Writes down each call as three digits: the session, the line, and whether it came before or
+/// after.
+#[derive(Drop)]
+struct Recorder {
+    calls: AtomicU64,
+}
+
+impl Recorder {
+    fn record(&self, session: u64, line: u64, when: u64) {
+        let call = session
+            .wrapping_mul(100)
+            .wrapping_add(line.wrapping_mul(10))
+            .wrapping_add(when);
+        let before = self.calls.load(Ordering::SeqCst);
+        self.calls.store(
+            before.wrapping_mul(1000).wrapping_add(call),
+            Ordering::SeqCst,
+        );
+    }
+}
+
+impl Gate for Recorder {
+    fn before(&self, session: u64, line: u64) {
+        self.record(session, line, 1);
+    }
+
+    fn after(&self, session: u64, line: u64) {
+        self.record(session, line, 2);
+    }
+}
+
+#[test]
+fn gates_are_called_round_each_command(rt: HostRuntime) {
+    let gate = Recorder {
+        calls: AtomicU64::new(0),
+    };
+    let mut rest = b"1 look /\n0 look /x\nsync\n0 look /".as_slice();
+    let mut output = Vec::new(rt.alloc());
+    let result = run(&rt, rt.alloc(), &mut rest, &mut output, USUAL, &gate);
+    assert_eq!(rt; result, Ok(()));
+    assert_eq!(rt; gate.calls.load(Ordering::SeqCst), 21_022_111_112_041_042);
+}
+
+/// No command is answered where a later line is bad.
+#[test]
+fn no_gate_is_called_before_a_bad_line(rt: HostRuntime) {
+    let gate = Recorder {
+        calls: AtomicU64::new(0),
+    };
+    let mut rest = b"0 mkdir /a\nsync\n0 look\n".as_slice();
+    let mut output = Vec::new(rt.alloc());
+    let result = run(&rt, rt.alloc(), &mut rest, &mut output, USUAL, &gate);
+    assert_eq!(rt; result, Err(ServeFault::BadLine(3)));
+    assert_eq!(rt; gate.calls.load(Ordering::SeqCst), 0);
+}

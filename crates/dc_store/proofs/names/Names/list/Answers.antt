@@ -1,0 +1,14 @@
+use Rattle.std.proofs.Common.{◌≡◌, ℕ, map, ap, ◌∙◌, rules}
+use Rattle.std.proofs.lemmas.Map.Iter.{iter_end}
+use Rattle.std.specs.Global.{Vec}
+use Rattle.std.specs.BTreeMap.{keys}
+use Rattle.std.specs.Map.Iter.{deref}
+use Rattle.dc_store.proofs.Counted.{map_twice}
+use Rattle.dc_store.proofs.Named.{names_kept}
+use Rattle.dc_store.proofs.names.Names.list.Goals as goal
+
+pub returns-clause-names : goal.returns-clause-names
+returns-clause-names c =
+    let whole : map deref c.loop-name.yielded ≡ keys c.self.inside.by_name = search (rules, iter_end) in
+    c.loop-name.invariant ∙ map_twice deref (λ (k : Vec ℕ). k.items) c.loop-name.yielded ∙ ap (map (λ (k : Vec ℕ). k.items)) whole
+    ∙ names_kept c.self.inside.by_name.entries ∙ ap (map (λ e. e.0)) c.self.view_is

@@ -1,0 +1,85 @@
+ghost use Rattle.std.specs.Prelude.{◌≡◌, ℕ, List, [], length, map, IsTrue, IfOk, OnOk, OnErr};
+ghost use Rattle.std.specs.FinMap.Entries.{put, is_sorted};
+ghost use Rattle.std.specs.FinMap.Entries.{find as lookup};
+ghost use Rattle.dc_store.specs.Names.{name_cmp, name_shown, without_name};
+
+use dc_names::{Name, NoMemory};
+use std::alloc::Global;
+use std::collections::BTreeMap;
+use std::marker::Model;
+
+/// The names in a directory, each with the number that it leads to, seen as a list in the order of their
+/// bytes.
+#[derive(Drop)]
+pub struct Names {
+    by_name: BTreeMap<Vec<u8>, u64>,
+}
+
+impl Model for Names {
+    ghost Value = { List (List ℕ × ℕ) };
+
+    ghost view = { λ names. map name_shown names.by_name.entries };
+
+    ghost invariant = { λ names. IsTrue (is_sorted name_cmp (map name_shown names.by_name.entries)) };
+}
+
+impl Names {
+    pub fn new(alloc: Global) -> Names
+        ensures { result ≡ [] }
+    {
+        Names {
+            by_name: BTreeMap::new(alloc),
+        }
+    }
+
+    /// Where a name leads.
+    pub fn get(&self, name: Name<'_>) -> Option<u64>
+        ensures { result ≡ lookup name_cmp name.entry.bytes.now self.now }
+    {
+        self.by_name.get(name.bytes()).copied()
+    }
+
+    /// Puts a name in, and answers where it led before.
+    pub fn insert(
+        &mut self,
+        alloc: Global,
+        name: Name<'_>,
+        number: u64,
+    ) -> Result<Option<u64>, NoMemory>
+        ensures ok { OnOk result (self.new ≡ put name_cmp name.entry.bytes.now number self.old) }
+        ensures before { IfOk result (λ before. before ≡ lookup name_cmp name.entry.bytes.now self.old) }
+        ensures err { OnErr result (self.new ≡ self.old) }
+    {
+        let name = name.bytes().to_vec(alloc)?;
+        Ok(self.by_name.insert(name, number)?)
+    }
+
+    /// Takes a name out, and answers where it led.
+    pub fn remove(&mut self, name: Name<'_>) -> Option<u64>
+        ensures rest { self.new ≡ without_name name.entry.bytes.now self.old }
+        ensures before { result ≡ lookup name_cmp name.entry.bytes.now self.old }
+    {
+        self.by_name.remove(name.bytes())
+    }
+
+    /// How many names there are.
+    pub fn len(&self) -> u64
+        ensures len { result ≡ length self.now }
+        ensures sorted { IsTrue (is_sorted name_cmp self.now) }
+    {
+        self.by_name.len() as u64
+    }
+
+    /// The names, by their bytes.
+    pub fn list(&self, alloc: Global) -> Result<Vec<Vec<u8>>, NoMemory>
+        ensures names { IfOk result (λ names.
+            map (λ name. name.items) names.items ≡ map (λ e. e.0) self.now) }
+        ensures sorted { IsTrue (is_sorted name_cmp self.now) }
+    {
+        let mut names = Vec::new(alloc);
+        for name in self.by_name.keys() {
+            names.push(name.to_vec(alloc)?)?;
+        }
+        Ok(names)
+    }
+}

@@ -1,0 +1,200 @@
+ghost use Rattle.std.specs.Prelude.{◌≡◌, ◌<◌, [], None, option_map, IfSome, IfNone, IfOk, OnOk, OnErr, IsTrue};
+ghost use Rattle.dc_plain.specs.Effects.{with_new, with_entry_for};
+ghost use Rattle.dc_plain.specs.IsWellFormed.{IsWellFormed};
+ghost use Rattle.dc_plain.specs.Trees.{Tree, empty_tree, inode_of, entry_number, names_in, is_live_directory};
+ghost use Rattle.dc_store.specs.Added.{CanBeNamed};
+ghost use Rattle.dc_store.specs.Inodes.{tree_of};
+ghost use Rattle.dc_store.specs.Maps.{node_shown, CanKeep};
+ghost use Rattle.dc_store.specs.Moved.{CanMove, Moves};
+ghost use Rattle.dc_store.specs.Slabs.{IsTied, IsInodeAt};
+ghost use Rattle.dc_plain.specs.Spots.{spot_at, spot_shown};
+ghost use Rattle.dc_plain.specs.declared.TheConstants.{NUMBER_LIMIT};
+
+use crate::inode::Inode;
+use crate::inodes::Inodes;
+use crate::names::Names;
+use crate::node::Node;
+use crate::store::{New, Store};
+use dc_names::{Kind, Name, NoMemory};
+use dc_plain::Spot;
+use std::alloc::Global;
+use std::marker::Model;
+
+/// A store of inodes in a slab. Each directory has an ordered map of its own names, and each inode counts
+/// the entries that lead to it, so that no call scans the tree.
+#[derive(Drop)]
+pub struct SlabStore {
+    inodes: Inodes,
+    next: u64,
+}
+
+impl Model for SlabStore {
+    ghost Value = { Tree };
+
+    ghost view = { λ s. tree_of s.inodes s.next };
+
+    ghost invariant = { λ s. IsTied s.inodes s.next };
+}
+
+impl SlabStore {
+    /// A store with the root directory alone.
+    pub fn new(alloc: Global) -> Result<SlabStore, NoMemory>
+        ensures { IfOk result (λ store. store ≡ empty_tree) }
+    {
+        let mut inodes = Inodes::new(alloc);
+        let root = Inode {
+            node: Node::Dir(1),
+            names: Names::new(alloc),
+            count: 0,
+        };
+        inodes.insert(1, root)?;
+        Ok(SlabStore { inodes, next: 2 })
+    }
+
+    /// What is kept under a number.
+    fn inode(&self, number: u64) -> Option<&Inode>
+        ensures shown { option_map (λ inode. node_shown inode.now.node) result
+            ≡ inode_of self.now number }
+        ensures kept { IfSome result (λ inode. IsInodeAt self.now number inode.now) }
+        ensures absent { IfNone result ([] ≡ names_in self.now number) }
+        ensures well { IsWellFormed self.now }
+    {
+        self.inodes.get(number)
+    }
+
+    /// Adds an inode under the next number, and an entry for it. The inode goes again where the entry
+    /// finds no memory.
+    fn make(&mut self, alloc: Global, dir: u64, name: Name<'_>, node: Node) -> Result<u64, NoMemory>
+        requires directory { IsTrue (is_live_directory self.old dir) }
+        requires free { entry_number self.old (spot_at dir name.bytes.now) ≡ None }
+        requires room { self.old.next < NUMBER_LIMIT }
+        requires fits { CanKeep dir node }
+        ensures ok { OnOk result (self.new
+            ≡ with_new self.old dir name.entry.bytes.now (node_shown node)) }
+        ensures number { IfOk result (λ number. number ≡ self.old.next) }
+        ensures err { OnErr result (self.new ≡ self.old) }
+    {
+        let number = self.next;
+        let inode = Inode {
+            node,
+            names: Names::new(alloc),
+            count: 1,
+        };
+        self.inodes.insert(number, inode)?;
+        let Ok(_) = self.inodes.enter(alloc, dir, name, number) else {
+            self.inodes.remove(number);
+            return Err(NoMemory);
+        };
+        self.next += 1;
+        Ok(number)
+    }
+
+    /// Adds an entry for what lives. To put it in is the one step that can fail, and comes first.
+    fn link(&mut self, alloc: Global, dir: u64, name: Name<'_>, number: u64) -> Result<(), NoMemory>
+        requires directory { IsTrue (is_live_directory self.old dir) }
+        requires free { entry_number self.old (spot_at dir name.bytes.now) ≡ None }
+        requires can { CanBeNamed self.old number }
+        ensures ok { OnOk result (self.new
+            ≡ with_entry_for self.old dir name.entry.bytes.now number) }
+        ensures err { OnErr result (self.new ≡ self.old) }
+    {
+        self.inodes.enter(alloc, dir, name, number)?;
+        self.inodes.count_up(number);
+        Ok(())
+    }
+
+    /// Moves an entry. To put it in is the one step that can fail, and comes first.
+    fn relocate(&mut self, alloc: Global, old: Spot<'_>, new: Spot<'_>) -> Result<(), NoMemory>
+        requires { CanMove self.old (spot_shown old) (spot_shown new) }
+        ensures ok { OnOk result
+            (Moves self.old (spot_shown old.entry) (spot_shown new.entry) self.new) }
+        ensures err { OnErr result (self.new ≡ self.old) }
+    {
+        // An entry that isn't there could not move; the caller knows that this one is.
+        let Some(number) = self.find(old.dir, old.name) else {
+            unreachable!();
+        };
+        let replaced = self.inodes.enter(alloc, new.dir, new.name, number)?;
+        // A file under both names for a moment is never seen: nothing can fail from here on.
+        self.inodes.leave(old.dir, old.name);
+        self.inodes.lose(replaced);
+        self.inodes.set_parent(number, new.dir);
+        Ok(())
+    }
+}
+
+impl Store for SlabStore {
+    ghost tree = { λ store. store };
+
+    fn find(&self, dir: u64, name: Name<'_>) -> Option<u64> {
+        self.inodes.get(dir)?.names.get(name)
+    }
+
+    fn kind(&self, number: u64) -> Option<Kind> {
+        let inode = self.inode(number)?;
+        Some(inode.node.kind())
+    }
+
+    fn parent(&self, number: u64) -> Option<u64> {
+        self.inode(number)?.node.parent()
+    }
+
+    fn text(&self, number: u64) -> Option<&[u8]> {
+        self.inode(number)?.node.text()
+    }
+
+    fn live(&self) -> u64 {
+        self.inodes.len()
+    }
+
+    fn next(&self) -> u64 {
+        self.next
+    }
+
+    fn count(&self, number: u64) -> u64 {
+        match self.inode(number) {
+            Some(inode) => match inode.node {
+                Node::Dir(_) => inode.names.len(),
+                Node::File | Node::Link(_) => inode.count,
+            },
+            None => 0,
+        }
+    }
+
+    fn list(&self, alloc: Global, dir: u64) -> Result<Vec<Vec<u8>>, NoMemory> {
+        match self.inode(dir) {
+            Some(inode) => inode.names.list(alloc),
+            None => Ok(Vec::new(alloc)),
+        }
+    }
+
+    fn add(
+        &mut self,
+        alloc: Global,
+        dir: u64,
+        name: Name<'_>,
+        new: New<'_>,
+    ) -> Result<u64, NoMemory> {
+        match new {
+            New::Dir => self.make(alloc, dir, name, Node::Dir(dir)),
+            New::File => self.make(alloc, dir, name, Node::File),
+            New::Link(text) => {
+                let text = text.bytes().to_vec(alloc)?;
+                self.make(alloc, dir, name, Node::Link(text))
+            }
+            New::Same(number) => {
+                self.link(alloc, dir, name, number)?;
+                Ok(number)
+            }
+        }
+    }
+
+    fn drop_entry(&mut self, dir: u64, name: Name<'_>) {
+        let lost = self.inodes.leave(dir, name);
+        self.inodes.lose(lost);
+    }
+
+    fn move_entry(&mut self, alloc: Global, old: Spot<'_>, new: Spot<'_>) -> Result<(), NoMemory> {
+        self.relocate(alloc, old, new)
+    }
+}
