@@ -1,0 +1,5 @@
+pub mod Totals
+pub mod Sharing
+pub mod Cells
+pub mod Kept
+pub mod Moves

@@ -1,0 +1,7 @@
+-- What the shared table keeps, and what its passes know.
+pub mod Codes
+pub mod Shares
+pub mod Rows
+pub mod Kept
+pub mod Plays
+pub mod Passes
