@@ -3,3 +3,4 @@ pub mod Sharing
 pub mod Cells
 pub mod Kept
 pub mod Moves
+pub mod Ending

@@ -1,8 +1,12 @@
 -- The rule of the table: for some history words and views have the rule of the events, the shares add up, and the slot has the value after that history while the lock is free.
-use Rattle.std.specs.Prelude.{◌≡◌, ℕ, List, [], ◌∷◌, length, get_or, map, Option as Maybe, Some}
+use Rattle.std.specs.Prelude.{◌≡◌, ℕ, false, List, [], ◌∷◌, length, get_or, map, Option as Maybe, Some}
 use mathlib.Core.Option.{Option, none, some}
 use Rattle.atomic_table.specs.Table.{State}
 use Rattle.dc_plain.specs.Requests.{Request}
+use Rattle.dc_plain.specs.Trees.{empty_tree}
+use Rattle.dc_index.specs.Slots.{slot_of}
+use Rattle.dc_index.specs.Slots.Slot.{Free}
+use Rattle.dc_shrink.specs.Listings.{is_used}
 use Rattle.dc_events.specs.Views.{View}
 use Rattle.dc_events.specs.Standing.{tree_of}
 use Rattle.dc_events.specs.Rule.{Rule}
@@ -45,3 +49,13 @@ sheet_of k = record { of = record {}; known = k }
 
 abbrev pub first_sheet : Limits → Sheet
 first_sheet k = sheet_of (first_known k.max_inodes k.rows)
+
+-- a value with the root directory alone and no row in use
+pub record IsNew (x : Value) (rows limit : ℕ) : Type 0 where
+  pub tree : x.store ≡ empty_tree
+  pub slots : length x.index ≡ rows
+  pub free : (row : ℕ) → slot_of x.index row ≡ Free
+  pub listed : x.shrinker.rows ≡ rows
+  pub unused : (row : ℕ) → is_used x.shrinker row ≡ false
+  pub clock : x.clock ≡ 0
+  pub same_limit : x.max_inodes ≡ limit

@@ -5,3 +5,5 @@ pub mod Rows
 pub mod Kept
 pub mod Plays
 pub mod Passes
+pub mod Ends
+pub mod Sizes

@@ -1,12 +1,15 @@
 //! The table that threads share: its words, the lock and what it keeps, and the steps on them.
 #![tactic(auto)]
 
+mod fault;
+mod passing;
 mod plays;
 mod shared;
 mod sheet;
 mod steps;
 mod table;
 
+pub use fault::MakeFault;
 pub use shared::Shared;
 pub use sheet::Sheet;
 pub use table::{Limits, Pass, Protocol, Value};
