@@ -68,3 +68,7 @@ opened before after rows row words inside size g = let len = g.size in let n : �
   count = count_now after rows row n inside (omega arith) ∙ ap (λ m. m + 1) g.count;
   own = λ i some few. get_or-set_other after (base_of row) (base_of row + i) n 0 (λ e. omega arith) ∙ g.own i some few;
 }
+
+-- one row's count changes
+pub row_raised : (words : List ℕ) (row r x : ℕ) → r ≢ row → row_words (set words (base_of row) x) r ≡ row_words words r
+row_raised words row r x ne = words_from_set words (base_of r) ROW_WORDS (base_of row) x (λ j a b e. ne (omega arith))

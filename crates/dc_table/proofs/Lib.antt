@@ -4,3 +4,7 @@ pub mod Cells
 pub mod Kept
 pub mod Moves
 pub mod Ending
+pub mod Slots
+pub mod Shuts
+pub mod Refills
+pub mod Commits

@@ -7,3 +7,4 @@ pub mod Plays
 pub mod Passes
 pub mod Ends
 pub mod Sizes
+pub mod Changes

@@ -3,7 +3,9 @@
 
 mod fault;
 mod passing;
+mod facts;
 mod plays;
+mod rewriting;
 mod shared;
 mod sheet;
 mod steps;

@@ -128,7 +128,7 @@ impl Shared {
     /// Shuts an even row, and returns its count, which is odd.
     pub fn shut_row(&self, pass: &mut Pass, row: u64) -> u64
         requires pass { Fits self.now pass.old × IsHolder pass.old }
-        requires row { (row < self.now.limits.rows) × CanShut (view pass.old) row }
+        requires row { (row < (share pass.old).rows) × CanShut (view pass.old) row }
         ensures same { IsSamePass pass.old pass.new × IsHolder pass.new }
         ensures count { result ≡ count (view pass.old).hold.words row + 1 }
         ensures view { view pass.new ≡ wrote (view pass.old) (base_of row) result }
@@ -141,7 +141,7 @@ impl Shared {
     /// Writes a word of an odd row, from the one after its count on.
     pub fn write_word(&self, pass: &mut Pass, row: u64, word: u64, value: u64)
         requires pass { Fits self.now pass.old × IsHolder pass.old }
-        requires row { (row < self.now.limits.rows) × CanWrite (view pass.old) row }
+        requires row { (row < (share pass.old).rows) × CanWrite (view pass.old) row }
         requires word { (0 < word) × (word < row_words) }
         ensures same { IsSamePass pass.old pass.new × IsHolder pass.new }
         ensures view { view pass.new ≡ wrote (view pass.old) (base_of row + word) value }
@@ -154,7 +154,7 @@ impl Shared {
     /// Opens an odd row, whose words spell what is true now.
     pub fn open_row(&self, pass: &mut Pass, row: u64)
         requires pass { Fits self.now pass.old × IsHolder pass.old }
-        requires row { (row < self.now.limits.rows)
+        requires row { (row < (share pass.old).rows)
             × CanOpen (share pass.old).limit (view pass.old) row }
         ensures same { IsSamePass pass.old pass.new × IsHolder pass.new }
         ensures view { view pass.new
