@@ -8,3 +8,4 @@ pub mod Slots
 pub mod Shuts
 pub mod Refills
 pub mod Commits
+pub mod Stages

@@ -8,6 +8,7 @@ mod plays;
 mod rewriting;
 mod shared;
 mod sheet;
+mod shutting;
 mod steps;
 mod table;
 
@@ -15,3 +16,6 @@ pub use fault::MakeFault;
 pub use shared::Shared;
 pub use sheet::Sheet;
 pub use table::{Limits, Pass, Protocol, Value};
+
+/// The most that the count of a row may be, and the most calls that may alter the tree: 2^62.
+pub const MOST_COUNT: u64 = 1 << 62;
