@@ -9,3 +9,4 @@ pub mod Shuts
 pub mod Refills
 pub mod Commits
 pub mod Stages
+pub mod Altering

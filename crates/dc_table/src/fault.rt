@@ -31,3 +31,23 @@ impl From<AllocError> for MakeFault {
         MakeFault::NoMemory
     }
 }
+
+/// Why a change isn't made.
+#[derive(Clone, Copy, Debug, PartialEq, Eq)]
+pub enum ChangeFault {
+    /// No memory. Nothing has changed, and nothing is recorded.
+    NoMemory,
+    /// As many calls have altered the tree as ever may: 2^62. Nothing has changed, and nothing is
+    /// recorded.
+    Spent,
+}
+
+impl From<NoMemory> for ChangeFault {
+    ghost use Rattle.dc_table.specs.declared.fault.ChangeFault.TheVariants.{NoMemory as Want};
+
+    ghost from_gives = { λ fault change. change ≡ Want };
+
+    fn from(_fault: NoMemory) -> ChangeFault {
+        ChangeFault::NoMemory
+    }
+}

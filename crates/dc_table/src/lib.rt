@@ -1,9 +1,10 @@
 //! The table that threads share: its words, the lock and what it keeps, and the steps on them.
 #![tactic(auto)]
 
+mod changing;
+mod facts;
 mod fault;
 mod passing;
-mod facts;
 mod plays;
 mod rewriting;
 mod shared;
@@ -12,7 +13,7 @@ mod shutting;
 mod steps;
 mod table;
 
-pub use fault::MakeFault;
+pub use fault::{ChangeFault, MakeFault};
 pub use shared::Shared;
 pub use sheet::Sheet;
 pub use table::{Limits, Pass, Protocol, Value};
