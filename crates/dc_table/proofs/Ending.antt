@@ -40,12 +40,14 @@ module _ (k : Limits) (law : PassesKeepTheRule) where
       let after : List Sheet = set s.views id (sheet_of (kept_half mine)) ++ sheet_of (new_half mine) ∷ [] in
       let is : knowns after ≡ set passes id (kept_half mine) ++ new_half mine ∷ [] = map-append known_of (set s.views id (sheet_of (kept_half mine))) (sheet_of (new_half mine) ∷ []) ∙ ap (λ l. l ++ new_half mine ∷ []) (knowns_set s.views id (kept_half mine)) in
       let views : views_of (knowns after) ≡ views_of passes ++ newcomer mine.view ∷ [] = ap views_of is ∙ (map-append (λ (x : Known). x.view) (set passes id (kept_half mine)) (new_half mine ∷ [])
-          ∙ ap (λ l. l ++ newcomer mine.view ∷ []) (views_set passes id (kept_half mine) ∙ set_again (views_of passes) id mine.view seat)) in
-      (kept.0, record {
-        rule = subst (λ vs. Rule k.max_inodes k.rows s.words vs kept.0) (sym views) (law.split k.max_inodes k.rows s.words (views_of passes) kept.0 id mine.view K.rule seat);
-        shares = subst (Shares k.max_inodes k.rows) (sym is) (splits_shares K.shares id mine pass);
-        home = K.home;
-      })
+      ∙ ap (λ l. l ++ newcomer mine.view ∷ []) (views_set passes id (kept_half mine) ∙ set_again (views_of passes) id mine.view seat)) in (
+        kept.0,
+        record {
+          rule = subst (λ vs. Rule k.max_inodes k.rows s.words vs kept.0) (sym views) (law.split k.max_inodes k.rows s.words (views_of passes) kept.0 id mine.view K.rule seat);
+          shares = subst (Shares k.max_inodes k.rows) (sym is) (splits_shares K.shares id mine pass);
+          home = K.home;
+        },
+      )
 
   pub joins_seat : (id : ℕ) (v : Sheet) (other : ℕ) (w : Sheet) → 0 < (known_of v).share.parts → (known_of w).view.hold.holds ≡ false → Joins (Kept k) id v other w (sheet_of (both (known_of v) (known_of w))) (sheet_of spent)
   joins_seat id v other w part free s kept at apart there = let K = kept.1 in let passes = knowns s.views in let mine = known_of v in let hers = known_of w in
@@ -53,13 +55,15 @@ module _ (k : Limits) (law : PassesKeepTheRule) where
       let one : List Sheet = set s.views id (sheet_of (both mine hers)) in
       let is : knowns (set one other (sheet_of spent)) ≡ set (set passes id (both mine hers)) other spent = knowns_set one other spent ∙ ap (λ l. set l other spent) (knowns_set s.views id (both mine hers)) in
       let views : views_of (knowns (set one other (sheet_of spent))) ≡ set (set (views_of passes) id (joined_with mine.view hers.view)) other nobody =
-          ap views_of is ∙ (views_set (set passes id (both mine hers)) other spent ∙ ap (λ l. set l other nobody) (views_set passes id (both mine hers))) in
-      (kept.0, record {
-        rule = subst (λ vs. Rule k.max_inodes k.rows s.words vs kept.0) (sym views)
-            (law.join k.max_inodes k.rows s.words (views_of passes) kept.0 id mine.view K.rule (view_there s.views id v at) other hers.view apart (view_there s.views other w there') free);
-        shares = subst (Shares k.max_inodes k.rows) (sym is) (joins_shares K.shares id mine (known_there s.views id v at) other hers apart (known_there s.views other w there') part);
-        home = K.home;
-      })
+      ap views_of is ∙ (views_set (set passes id (both mine hers)) other spent ∙ ap (λ l. set l other nobody) (views_set passes id (both mine hers))) in (
+        kept.0,
+        record {
+          rule = subst (λ vs. Rule k.max_inodes k.rows s.words vs kept.0) (sym views)
+              (law.join k.max_inodes k.rows s.words (views_of passes) kept.0 id mine.view K.rule (view_there s.views id v at) other hers.view apart (view_there s.views other w there') free);
+          shares = subst (Shares k.max_inodes k.rows) (sym is) (joins_shares K.shares id mine (known_there s.views id v at) other hers apart (known_there s.views other w there') part);
+          home = K.home;
+        },
+      )
 
 -- who has the whole share has all records of the history, and nobody else has the lock
 module _ {limit rows : ℕ} {words : List ℕ} {passes : List Known} {hist : List Request} (R : Rule limit rows words (views_of passes) hist) (S : Shares limit rows passes) (id : ℕ) (k : Known) (at : get_elem? passes id ≡ some k) (whole : IsWhole k.share) where
@@ -87,17 +91,19 @@ pub ends : RecordsAreLegal → (k : Limits) (id : ℕ) (v : Sheet) (ws : List �
 ends legal k id v ws xs f lock x at_lock at_x = let s = f.0 in let h = f.1.0.0 in let K = f.1.0.1 in let R = K.rule in let mine = known_of v in let at = known_there s.views id v f.1.1 in let F = R.fits id mine.view (view_there s.views id v f.1.1) in
     let B = F.book in let word : get_or s.words 1 0 ≡ lock = ap (λ (l : List ℕ). get_or l 1 0) f.2 ∙ got ws 1 lock at_lock in (
       (λ free. let home = K.home.0 (word ∙ free) in let e : Some home.0 ≡ x = some-injective (Some home.0) x (sym (f.4 0 (Some home.0) (ap (λ hs. get_elem? hs 0) home.1)) ∙ at_x) in
-          subst (λ (y : Maybe Value). IfSome y (λ z. Ends k.max_inodes mine z.store z.clock) × IsSome y) e
-          (record {
-            history = h;
-            tree_is = home.2.tree;
-            clock_is = home.2.clock;
-            book = B;
-            once = λ w p. whole_once R K.shares id mine at w p;
-            legal = λ w. legal k.max_inodes h (mine.view.book.own ∷ mine.view.book.joined)
-                (in_cons (λ z. (j : ℕ) (r : Record) → get_elem? z j ≡ some r → Stands k.max_inodes h r) mine.view.book.own mine.view.book.joined B.own.stand (λ i z t. (B.joined i z t).stand))
-                (in_cons (λ z. Rising 0 z) mine.view.book.own mine.view.book.joined B.own.rising (λ i z t. (B.joined i z t).rising)) (whole_once R K.shares id mine at w);
-          }, refl)),
+          subst (λ (y : Maybe Value). IfSome y (λ z. Ends k.max_inodes mine z.store z.clock) × IsSome y) e (
+            record {
+              history = h;
+              tree_is = home.2.tree;
+              clock_is = home.2.clock;
+              book = B;
+              once = λ w p. whole_once R K.shares id mine at w p;
+              legal = λ w. legal k.max_inodes h (mine.view.book.own ∷ mine.view.book.joined)
+                  (in_cons (λ z. (j : ℕ) (r : Record) → get_elem? z j ≡ some r → Stands k.max_inodes h r) mine.view.book.own mine.view.book.joined B.own.stand (λ i z t. (B.joined i z t).stand))
+                  (in_cons (λ z. Rising 0 z) mine.view.book.own mine.view.book.joined B.own.rising (λ i z t. (B.joined i z t).rising)) (whole_once R K.shares id mine at w);
+            },
+            refl,
+          )),
       λ w free. sym word ∙ whole_free R K.shares id mine at w free,
     )
 
@@ -142,15 +148,19 @@ opening_kept law empty k ws x xs is one store clock limit slots free rows unused
     rule = subst (λ w. Rule k.max_inodes k.rows w (nobody ∷ []) []) (sym is) R;
     shares = opening_shares k.max_inodes k.rows;
     home = (
-      (λ _. (x, ap (map some) one, subst (λ w. HomeFits k.max_inodes k.rows w [] x) (sym is) record {
-        tree = store;
-        clock = clock;
-        same_limit = limit;
-        rest = record {
-          fit = record { indexed = slots; listed = rows; agree = λ row. ap has_key (free row) ∙ sym (unused row); size = R.wide };
-          rest = λ row inside. subst (λ t. At t OfNone (row_words words row) (slot_of x.index row)) (sym store) (opening_row empty k.rows row x.index (free row));
-        };
-      })),
+      (λ _. (
+        x,
+        ap (map some) one,
+        subst (λ w. HomeFits k.max_inodes k.rows w [] x) (sym is) record {
+          tree = store;
+          clock = clock;
+          same_limit = limit;
+          rest = record {
+            fit = record { indexed = slots; listed = rows; agree = λ row. ap has_key (free row) ∙ sym (unused row); size = R.wide };
+            rest = λ row inside. subst (λ t. At t OfNone (row_words words row) (slot_of x.index row)) (sym store) (opening_row empty k.rows row x.index (free row));
+          };
+        },
+      )),
       λ e. let z : get_or ws 1 0 ≡ 0 = ap (λ (l : List ℕ). get_or l 1 0) is in absurd (omega arith),
     );
   },

@@ -62,11 +62,14 @@ module _ (k : Limits) where
   pub after_step : (s : Seen) (h : List Request) (i x id : ℕ) (cs : List (ℕ × Maybe Value)) (l : Known) (a : Act (Maybe Value))
       → Rule k.max_inodes k.rows (set s.words i x) (set (views_of (knowns s.views)) id l.view) h → Shares k.max_inodes k.rows (set (knowns s.views) id l)
       → Home k.max_inodes k.rows (set s.words i x) (homes_after s.homes cs a) h → Kept k (stepped s i x id cs (sheet_of l) a)
-  after_step s h i x id cs l a rule shares home = (h, record {
-    rule = subst (λ vs. Rule k.max_inodes k.rows (set s.words i x) vs h) (sym (ap views_of (knowns_set s.views id l) ∙ views_set (knowns s.views) id l)) rule;
-    shares = subst (Shares k.max_inodes k.rows) (sym (knowns_set s.views id l)) shares;
-    home = home;
-  })
+  after_step s h i x id cs l a rule shares home = (
+    h,
+    record {
+      rule = subst (λ vs. Rule k.max_inodes k.rows (set s.words i x) vs h) (sym (ap views_of (knowns_set s.views id l) ∙ views_set (knowns s.views) id l)) rule;
+      shares = subst (Shares k.max_inodes k.rows) (sym (knowns_set s.views id l)) shares;
+      home = home;
+    },
+  )
 
   -- one that changes no word
   pub after_load : (s : Seen) (h : List Request) → KeptAt k s h → (i id : ℕ) (cs : List (ℕ × Maybe Value)) (l : Known) → Rule k.max_inodes k.rows s.words (set (views_of (knowns s.views)) id l.view) h

@@ -51,22 +51,25 @@ module _ (k : Limits) (law : HoldersKeepTheRule) where
   takes_lock slots id me empty part s kept len at small = let h = kept.0 in let K = kept.1 in let R = K.rule in let T = there s h id me K at part in let x : ℕ = get_or s.words 1 0 in let now = known_at me in let n = names s h id me T in
       exchanged x 0 1 (λ z. (w : _) × (a : Act (Maybe Value)) × Valid s.homes me.1 a × Kept k (stepped s 1 z id me.1 w a) × took (step slots 1 0 1 none) me x (w, carried_after me.1 a))
       (λ free. let home = K.home.0 free in let v = home.0 in let words : List ℕ = set s.words 1 1 in let wide = R.wide in let l : Known = with_view now (taken now.view words h) in
-      let locked : get_or words 1 0 ≡ 1 = get_or-set_same s.words 1 1 0 (omega arith) in
-      (
+      let locked : get_or words 1 0 ≡ 1 = get_or-set_same s.words 1 1 0 (omega arith) in (
         sheet_of l,
         takes 0 (Some v),
         ap (λ hs. get_elem? hs 0) home.1,
         after_step k s h 1 1 id me.1 l (takes 0 (Some v)) (law.take k.max_inodes k.rows s.words (views_of (knowns s.views)) h id now.view R T.seat free) (shares_stay s h id me T (taken now.view words h))
             ((λ z. absurd (omega arith)), λ _. ap (λ hs. set hs 0 none) home.1),
         (
-          (λ _. (v, ap (λ cs. (0, Some v) ∷ cs) empty, record {
-            words = words;
-            history = h;
-            now = refl;
-            early = R.early;
-            later = (R.fits id now.view T.seat).book.seen;
-            home = subst₂ (λ a b. HomeFits a b words h v) (sym n.0) (sym n.1) (home_low k.max_inodes k.rows s.words h v 1 1 (omega arith) home.2);
-          })),
+          (λ _. (
+            v,
+            ap (λ cs. (0, Some v) ∷ cs) empty,
+            record {
+              words = words;
+              history = h;
+              now = refl;
+              early = R.early;
+              later = (R.fits id now.view T.seat).book.seen;
+              home = subst₂ (λ a b. HomeFits a b words h v) (sym n.0) (sym n.1) (home_low k.max_inodes k.rows s.words h v 1 1 (omega arith) home.2);
+            },
+          )),
           λ not. absurd (not free),
         ),
       ))
@@ -131,7 +134,7 @@ module _ (k : Limits) (law : HoldersKeepTheRule) where
   opens_row slots id me row inside has part can s kept len at small = let h = kept.0 in let K = kept.1 in let R = K.rule in let T = there s h id me K at part in let now = known_at me in let n = names s h id me T in let H = R.held id now.view T.seat has in
       let low : count s.words row < most = subst (λ ws. count ws row < most) H.knows_words can.low in let same : count now.view.hold.words row ≡ count s.words row = ap (λ ws. count ws row) H.knows_words in
       let m : MayStand (tree_of k.max_inodes h) s.words row (row_words s.words row) = subst₂ (λ a hist. MayStand (tree_of a hist) s.words row (row_words s.words row)) n.0 H.knows_history
-          (subst (λ ws. MayStand (tree_of now.share.limit now.view.hold.history) ws row (row_words ws row)) H.knows_words can.stands) in (
+      (subst (λ ws. MayStand (tree_of now.share.limit now.view.hold.history) ws row (row_words ws row)) H.knows_words can.stands) in (
         sheet_of (with_view now (wrote now.view (base_of row) (count s.words row + 1))),
         keeps,
         tt,
@@ -158,8 +161,8 @@ module _ (k : Limits) (law : HoldersKeepTheRule) where
       let clock = R.clock in let early : length h < most = subst (λ hist. length hist < most) H.knows_history can.early in let known : length now.view.hold.history ≡ length h = ap length H.knows_history in
       let new : alters k.max_inodes (tree_of k.max_inodes h) call ≡ true = subst₂ (λ a hist. alters a (tree_of a hist) call ≡ true) n.0 H.knows_history can.altering in
       let apart : (row : ℕ) → row < k.rows → IsUntouched k.max_inodes (tree_of k.max_inodes h) s.words row call =
-          subst₂ (λ a b. (row : ℕ) → row < b → IsUntouched a (tree_of a h) s.words row call) n.0 n.1
-          (subst₂ (λ hist ws. (row : ℕ) → row < now.share.rows → IsUntouched now.share.limit (tree_of now.share.limit hist) ws row call) H.knows_history H.knows_words can.untouched) in
+      subst₂ (λ a b. (row : ℕ) → row < b → IsUntouched a (tree_of a h) s.words row call) n.0 n.1
+      (subst₂ (λ hist ws. (row : ℕ) → row < now.share.rows → IsUntouched now.share.limit (tree_of now.share.limit hist) ws row call) H.knows_history H.knows_words can.untouched) in
       let l : Known = with_view now (committed now.share.limit now.view call) in let next : ℕ = length now.view.hold.history + 1 in
       let is : next ≡ (get_or s.words 0 0 + 1) % 18446744073709551616 = let e : next ≡ get_or s.words 0 0 + 1 = omega arith in e ∙ sym (mod-eq_of_lt (omega arith)) in (
         sheet_of l,

@@ -11,10 +11,10 @@ ghost use Rattle.dc_table.specs.Changes.{Altered, Failed, IsTaken, OnlyWrites, R
 ghost use Rattle.dc_table.specs.Passes.{known, view, share, Fits, IsSamePass, IsIdle, IsHolder};
 ghost use Rattle.dc_table.specs.Plays.{Home};
 
+use crate::MOST_COUNT;
 use crate::fault::ChangeFault;
 use crate::shared::Shared;
 use crate::table::{Pass, Value};
-use crate::MOST_COUNT;
 use dc_names::NoMemory;
 use dc_ops::{Plan, carry, plan};
 use dc_plain::{

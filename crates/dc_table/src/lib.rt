@@ -12,6 +12,8 @@ mod sheet;
 mod shutting;
 mod steps;
 mod table;
+#[cfg(test)]
+mod tests;
 
 pub use fault::{ChangeFault, MakeFault};
 pub use shared::Shared;

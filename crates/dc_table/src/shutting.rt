@@ -6,10 +6,10 @@ ghost use Rattle.dc_plain.specs.KeysShown.{key_shown};
 ghost use Rattle.dc_table.specs.Changes.{KeepsTree, OnlyWrites, StageAt, tree_now};
 ghost use Rattle.dc_table.specs.Passes.{Fits, IsHolder};
 
+use crate::MOST_COUNT;
 use crate::facts::words_for;
 use crate::shared::Shared;
 use crate::table::{Pass, Value};
-use crate::MOST_COUNT;
 use dc_plain::Key;
 use dc_row::{EMPTY_ROW, empty_row_spells_nothing};
 

@@ -10,11 +10,13 @@ pub returns-in_default-clause-stage : goal.returns-in_default-clause-stage
 returns-in_default-clause-stage c = none_more _ _ _ _ _ c.args.i (map key_shown c.args.keys.now) (key_shown c.index-keys-i.result) (key_at c.args.keys.now c.args.i c.index-keys-i.result c.requires.place c.index-keys-i.is) c.requires.stage c.in_default.ensures.row
 
 pub shut_row-odd-requires-clause-row : goal.shut_row-odd-requires-clause-row
-shut_row-odd-requires-clause-row c = let here = key_at c.args.keys.now c.args.i c.index-keys-i.result c.requires.place c.index-keys-i.is in let held = (c.in-Some.ensures.row c.in-Some.row).0 refl in
-    (within _ _ _ _ _ c.args.i _ _ here c.requires.stage c.in-Some.row held c.requires.distinct, record {
-      even = even_now _ _ _ _ _ c.args.i _ _ here c.requires.stage c.in-Some.row held c.requires.distinct;
-      low = low_now _ _ _ _ _ c.args.i _ _ here c.requires.stage c.in-Some.row held c.requires.distinct;
-    })
+shut_row-odd-requires-clause-row c = let here = key_at c.args.keys.now c.args.i c.index-keys-i.result c.requires.place c.index-keys-i.is in let held = (c.in-Some.ensures.row c.in-Some.row).0 refl in (
+  within _ _ _ _ _ c.args.i _ _ here c.requires.stage c.in-Some.row held c.requires.distinct,
+  record {
+    even = even_now _ _ _ _ _ c.args.i _ _ here c.requires.stage c.in-Some.row held c.requires.distinct;
+    low = low_now _ _ _ _ _ c.args.i _ _ here c.requires.stage c.in-Some.row held c.requires.distinct;
+  },
+)
 
 pub open_with-requires-clause-odd : goal.open_with-requires-clause-odd
 open_with-requires-clause-odd c = let here = key_at c.args.keys.now c.args.i c.index-keys-i.result c.requires.place c.index-keys-i.is in let held = (c.in-Some.ensures.row c.in-Some.row).0 refl in let s = c.shut_row-odd in
