@@ -10,3 +10,4 @@ pub mod Refills
 pub mod Commits
 pub mod Stages
 pub mod Altering
+pub mod Walks

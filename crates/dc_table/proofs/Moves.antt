@@ -184,3 +184,6 @@ at_place k slots id me row i is allows = let e : base_of row ≡ i = omega arith
 
 pub put_place : (k : Limits) (slots id : ℕ) (me : Place) (j i x : ℕ) → i ≡ j → Allows (Kept k) slots id me j (λ _. x) (λ _. put (step slots j x 0 none) me x) → Allows (Kept k) slots id me i (λ _. x) (λ _. put (step slots i x 0 none) me x)
 put_place k slots id me j i x is allows = subst (λ z. Allows (Kept k) slots id me z (λ _. x) (λ _. put (step slots z x 0 none) me x)) (sym is) allows
+
+pub count_place : (row i : ℕ) → i ≡ base_of row + 0 → i ≡ base_of row
+count_place row i e = omega arith

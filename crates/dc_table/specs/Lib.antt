@@ -8,3 +8,4 @@ pub mod Passes
 pub mod Ends
 pub mod Sizes
 pub mod Changes
+pub mod Walking

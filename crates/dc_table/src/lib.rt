@@ -12,6 +12,7 @@ mod sheet;
 mod shutting;
 mod steps;
 mod table;
+mod walking;
 #[cfg(test)]
 mod tests;
 

@@ -1,23 +1,36 @@
 //! What each step tells its pass.
 
 ghost use Rattle.dc_table.specs.Plays.{took, raised, put, committed_as, gave_as, answered_as};
+ghost use Rattle.dc_table.specs.Walking.{noted_as, read_as, pivoted_as, learnt_as, checked_as};
 
 use crate::sheet::Sheet;
 use crate::table::Value;
 use atomic_table::{Join, Play, Split};
 use std::marker::{Brand, PhantomData};
 
-/// The call that a step is for, which only the proof knows.
+/// What a step is for, which only the proof knows.
 pub trait Asked {
+    ghost use Rattle.std.specs.Prelude.{ℕ, Bool};
     ghost use Rattle.dc_plain.specs.Requests.{Request};
 
     ghost call: { Request };
+
+    // The row that is noted, or the place of the note that is checked.
+    ghost about: { ℕ };
+
+    // Whether the step begins the call's walk.
+    ghost first: { Bool };
 }
 
 impl Asked for Brand {
+    ghost use Rattle.std.specs.Prelude.{false};
     ghost use Rattle.dc_events.specs.Walks.{no_walk};
 
     ghost call = { no_walk.call };
+
+    ghost about = { 0 };
+
+    ghost first = { false };
 }
 
 /// The lock is tried.
@@ -64,6 +77,47 @@ pub struct Answer<C> {
 
 impl<C: Asked> Play<Option<Value>, Sheet> for Answer<C> {
     ghost then = { answered_as C.call };
+}
+
+/// The count of a row is noted, where it is even.
+pub struct Note<C> {
+    of: PhantomData<C>,
+}
+
+impl<C: Asked> Play<Option<Value>, Sheet> for Note<C> {
+    ghost then = { noted_as C.call C.about C.first };
+}
+
+/// A word of the row that was noted last is read.
+pub struct Read;
+
+impl Play<Option<Value>, Sheet> for Read {
+    ghost then = { read_as };
+}
+
+/// The clock is loaded, for the point of a walk.
+pub struct Pivot<C> {
+    of: PhantomData<C>,
+}
+
+impl<C: Asked> Play<Option<Value>, Sheet> for Pivot<C> {
+    ghost then = { pivoted_as C.call C.first };
+}
+
+/// The clock is loaded, and a walk is given up.
+pub struct Learn;
+
+impl Play<Option<Value>, Sheet> for Learn {
+    ghost then = { learnt_as };
+}
+
+/// A note is checked.
+pub struct Check<C> {
+    of: PhantomData<C>,
+}
+
+impl<C: Asked> Play<Option<Value>, Sheet> for Check<C> {
+    ghost then = { checked_as C.about };
 }
 
 /// A pass is cut in two, or two are put together.
