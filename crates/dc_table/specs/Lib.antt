@@ -1,5 +1,6 @@
 -- What the shared table keeps, and what its passes know.
 pub mod Codes
+pub mod ViewCodes
 pub mod Shares
 pub mod Rows
 pub mod Kept

@@ -7,7 +7,7 @@ use Rattle.dc_events.specs.Views.{View}
 use Rattle.dc_events.specs.Rule.{total}
 use Rattle.dc_events.specs.Effects.{nobody}
 use Rattle.dc_events.specs.Passes.{newcomer, joined_with}
-use Rattle.dc_table.specs.Codes.{coded_view}
+use Rattle.dc_table.specs.ViewCodes.{coded_view}
 
 -- so many parts of a whole that was halved so often, of a table with this limit of inodes and so many rows
 pub record Share : Type 0 where
