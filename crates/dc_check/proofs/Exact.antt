@@ -1,5 +1,5 @@
 -- The stamps are legal exactly where no actor's points fall and the stamps by their points pass.
-use Rattle.std.proofs.Common.{◌≡◌, ℕ, List, sym, ◌∙◌}
+use Rattle.std.proofs.Common.{ℕ, List, sym, ◌∙◌}
 use Rattle.dc_plain.specs.LivingLaws.{SameTreeDecides}
 use Rattle.dc_plain.specs.Legal.{Stamp, IsLegal}
 use Rattle.dc_check.specs.Judging.{RisesByActor, IsByPoint, Passes, opening}

@@ -1,11 +1,11 @@
 -- Stamps that pass are a run in some order that keeps each actor's.
-use Rattle.std.proofs.Common.{◌≡◌, ◌≢◌, ℕ, ◌+◌, ◌==◌, Bool, true, false, cond, List, [], ◌∷◌, ◌++◌, Option, Some, None, option_to_list, refl, sym, ap, ◌∙◌, subst, arith}
+use Rattle.std.proofs.Common.{◌≡◌, ℕ, ◌==◌, Bool, true, false, cond, List, [], ◌∷◌, ◌++◌, Option, Some, None, option_to_list, refl, sym, ap, ◌∙◌, subst}
 use Rattle.std.proofs.lemmas.Bool.Decides.{Decides-eqb}
 use Rattle.dc_plain.specs.LivingLaws.{SameTreeDecides}
 use Rattle.dc_plain.specs.Trees.{Tree}
-use Rattle.dc_plain.specs.Runs.{tree_after, alters, clock_after}
+use Rattle.dc_plain.specs.Runs.{tree_after}
 use Rattle.dc_plain.specs.Legal.{Stamp, IsRun, of_actor}
-use Rattle.dc_check.specs.Judging.{Judge, is_change, IsAnswered, IsAnothers, IsGoodIf, IsGood, with_met, IsSettled, settled, Moves, ReachesIf, reached, Passes}
+use Rattle.dc_check.specs.Judging.{Judge, is_change, IsAnothers, IsGoodIf, IsGood, with_met, IsSettled, settled, Moves, ReachesIf, Passes}
 use Rattle.dc_check.proofs.Stamps.{clock_more, run_behind, of_actor-cons, of_actor-swap}
 
 abbrev pub judge_at : ℕ → Tree → ℕ → Option Stamp → Judge

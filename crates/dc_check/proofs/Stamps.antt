@@ -1,9 +1,9 @@
 -- Stamps of one actor, and those of a run.
-use Rattle.std.proofs.Common.{◌≡◌, ◌≢◌, ℕ, ◌+◌, ◌<◌, ◌≤◌, ◌==◌, ◌⊎◌, not, Bool, true, false, cond, List, [], ◌∷◌, ◌++◌, filter, refl, sym, ap, ◌∙◌, subst, inl, inr, arith}
+use Rattle.std.proofs.Common.{◌≡◌, ◌≢◌, ℕ, ◌+◌, ◌≤◌, ◌==◌, ◌⊎◌, not, Bool, true, false, cond, List, [], ◌∷◌, refl, sym, ap, ◌∙◌, subst, inl, inr, arith}
 use Rattle.std.proofs.lemmas.Bool.Decides.{nat_tests, eqb_tells}
 use Rattle.dc_plain.specs.Requests.{Request}
 use Rattle.dc_plain.specs.Trees.{Tree}
-use Rattle.dc_plain.specs.Runs.{reply_of, tree_after, alters, clock_after, same_tree}
+use Rattle.dc_plain.specs.Runs.{tree_after, alters, clock_after, same_tree}
 use Rattle.dc_plain.specs.Legal.{Stamp, IsRun, of_actor}
 use Rattle.dc_plain.specs.LivingLaws.{SameTreeDecides}
 

@@ -1,5 +1,5 @@
 -- The judge's loop, stamp by stamp.
-use Rattle.std.proofs.Common.{◌≡◌, ℕ, suc, ◌<◌, ◌+◌, List, [], ◌∷◌, length, get_or, drop, map, Result, Ok, Err, OnOk, Option, refl, sym, ap, ◌∙◌, subst, drop-cons, arith, add-one}
+use Rattle.std.proofs.Common.{◌≡◌, ℕ, suc, ◌<◌, ◌+◌, List, ◌∷◌, length, get_or, drop, map, Result, Ok, Err, OnOk, Option, sym, ap, ◌∙◌, subst, drop-cons, add-one}
 use Rattle.dc_plain.specs.Legal.{Stamp}
 use Rattle.dc_plain.specs.Trees.{Tree}
 use Rattle.dc_check.specs.Judging.{Judge, Takes, taken, Passes}

@@ -1,4 +1,4 @@
-use Rattle.std.proofs.Common.{◌≡◌, Some, None, sym, ◌∙◌, refl, ap, subst, List}
+use Rattle.std.proofs.Common.{◌≡◌, Some, None, sym, ◌∙◌, refl, subst, List}
 use Rattle.dc_check.specs.declared.stamp.Numbered as rust_numbered
 use Rattle.dc_check.specs.Judges.{Blames, all_numbered}
 use Rattle.dc_check.specs.Judging.{Passes, opening}

@@ -1,4 +1,4 @@
-use Rattle.std.proofs.Common.{◌≡◌, ◌∙◌, sym}
+use Rattle.std.proofs.Common.{◌∙◌, sym}
 use Rattle.dc_check.proofs.Replies.{same_reply}
 use Rattle.dc_check.proofs.judge.is_same.Goals as goal
 

@@ -1,4 +1,4 @@
-use Rattle.std.proofs.Common.{drop, unwrap_or, ℕ}
+use Rattle.std.proofs.Common.{drop, unwrap_or}
 use Rattle.std.specs.Ordering.{nat_cmp}
 use Rattle.std.specs.BTreeMap.{get}
 use Rattle.dc_check.specs.Stamps.{stamps_of}
