@@ -18,8 +18,8 @@ pub enum Fault {
     Unread(File),
     /// A line of a file is none of the grammar.
     BadLine(File, u64),
-    /// The replies aren't those to the commands.
-    Unpaired,
+    /// This line of the replies, counted from 1, isn't the reply to its command.
+    Unpaired(u64),
     /// The verdict couldn't be written.
     Write,
     NoMemory,

@@ -79,9 +79,9 @@ fn tell(rt: &HostRuntime, fault: &Fault) -> u8 {
                 eprintln!(rt; "dccheck: bad line {line} of {}", file.name()),
             )
         }
-        Fault::Unpaired => (
+        Fault::Unpaired(line) => (
             5,
-            eprintln!(rt; "dccheck: REPLIES aren't those to COMMANDS"),
+            eprintln!(rt; "dccheck: line {line} of REPLIES isn't the reply to its command"),
         ),
     };
     let _ = told;

@@ -8,14 +8,34 @@ use dc_check::{
     Phased, RecordFault, Served, Stamp, Verdict, check, check_phases, commands_of, count_lines,
     record_of,
 };
-use dc_lang::{Line, write_line};
+use dc_lang::{Line, LineFault, read_reply, write_line};
 use std::alloc::{AllocError, Global};
 
-/// The fault of a record, with the file of a bad line.
-fn record_fault(alloc: Global, input: &[u8], fault: RecordFault) -> Fault {
+/// The first line of the replies that is no reply to its command: one of another session, one behind
+/// the last command, or the line that is missing.
+fn first_unpaired(alloc: Global, input: &[u8], output: &[u8]) -> Result<u64, RecordFault> {
+    let commands = commands_of(alloc, input)?;
+    let replies = output.split_inclusive(|byte| *byte == b'\n');
+    let mut line = 1u64;
+    for (served, reply) in commands.iter().zip(replies) {
+        match read_reply(alloc, reply) {
+            Ok((session, _)) if session == served.command.session => {}
+            Err(LineFault::NoMemory) => return Err(RecordFault::NoMemory),
+            _ => break,
+        }
+        line = line.saturating_add(1);
+    }
+    Ok(line)
+}
+
+/// The fault of a record, with the file and the line.
+fn record_fault(alloc: Global, input: &[u8], output: &[u8], fault: RecordFault) -> Fault {
     match fault {
         RecordFault::NoMemory => Fault::NoMemory,
-        RecordFault::Unpaired => Fault::Unpaired,
+        RecordFault::Unpaired => match first_unpaired(alloc, input, output) {
+            Ok(line) => Fault::Unpaired(line),
+            Err(_) => Fault::NoMemory,
+        },
         RecordFault::BadLine(line) => match count_lines(alloc, input) {
             Ok(lines) if line > lines => Fault::BadLine(File::Replies, line - lines),
             Ok(_) => Fault::BadLine(File::Commands, line),
@@ -71,10 +91,10 @@ pub fn report(
     requires least { 1 ≤ inodes }
     requires most { inodes ≤ MOST_INODES }
 {
-    let stamps = record_of(alloc, input, output).map_err(|fault| record_fault(
-        alloc, input, fault,
-    ))?;
-    let commands = commands_of(alloc, input).map_err(|fault| record_fault(alloc, input, fault))?;
+    let stamps = record_of(alloc, input, output)
+        .map_err(|fault| record_fault(alloc, input, output, fault))?;
+    let commands = commands_of(alloc, input)
+        .map_err(|fault| record_fault(alloc, input, output, fault))?;
     let (word, line) = match check(alloc, inodes, &stamps)? {
         Verdict::BadReply(line) => ("reply", line),
         Verdict::BadOrder(line) => ("order", line),
