@@ -91,10 +91,12 @@ pub fn report(
     requires least { 1 ≤ inodes }
     requires most { inodes ≤ MOST_INODES }
 {
-    let stamps = record_of(alloc, input, output)
-        .map_err(|fault| record_fault(alloc, input, output, fault))?;
-    let commands = commands_of(alloc, input)
-        .map_err(|fault| record_fault(alloc, input, output, fault))?;
+    let stamps = record_of(alloc, input, output).map_err(|fault| record_fault(
+        alloc, input, output, fault,
+    ))?;
+    let commands = commands_of(alloc, input).map_err(|fault| record_fault(
+        alloc, input, output, fault,
+    ))?;
     let (word, line) = match check(alloc, inodes, &stamps)? {
         Verdict::BadReply(line) => ("reply", line),
         Verdict::BadOrder(line) => ("order", line),
