@@ -12,15 +12,19 @@ checker must say `legal`. Then the record is altered in one place, in each of th
 
 - a reply says something else: `bad reply` of its line;
 - every point above that of one change is raised: `bad order` of the first line that was raised;
+- the last reply, which is the same on every tree, gets a point below one of an earlier phase: `bad phase` of its line;
 - two lines of a session change their places: `bad order` of the first line whose point is below one before it;
 - a line is left out, or given to another session: status 5.
 
-It prints how many verdicts there were of each kind, and ends with the first that is wrong.
+It prints how many verdicts there were of each kind, and ends with the first that is wrong. Last come the seconds of the
+processor for records of 5,000, 10,000 and 20,000 replies of 16 sessions: directories made in the root, and as many looked
+up.
 """
 import collections
 import os
 import random
 import re
+import resource
 import subprocess
 import sys
 import tempfile
@@ -57,7 +61,7 @@ def turns_of(sessions):
 
 def record(server):
     """The text of an input and the replies to it."""
-    phases = [phase() for _ in range(PHASES)]
+    phases = [phase() for _ in range(PHASES)] + [[[]] * SESSIONS + [["look /"]]]
     orders = [turns_of(sessions) for sessions in phases]
     served, told = [], []
     for sessions, order in zip(phases, orders):
@@ -109,17 +113,25 @@ def another_reply(replies, commands):
 
 def points_raised(replies, commands):
     above = random.randrange(max(map(point, replies), default=0) + 1)
-    raised = [
-        re.sub(r"@\d+$", f"@{point(line) + 1}", line) if point(line) > above else line for line in replies
-    ]
+    raised = [re.sub(r"@\d+$", f"@{point(line) + 1}", line) if point(line) > above else line for line in replies]
     first = next((i for i, line in enumerate(replies, 1) if point(line) > above), None)
     return None if first is None else (raised, f"bad order {first}: ")
 
 
-def places_changed(replies, commands):
-    i, j = sorted(random.sample(range(len(replies)), 2)) if len(replies) > 1 else (0, 0)
-    if i == j or session(replies[i]) != session(replies[j]):
+def before_a_phase(replies, commands):
+    latest = max(map(point, replies[:-1]), default=0)
+    if latest == 0:
         return None
+    line = re.sub(r"@\d+$", f"@{random.randrange(latest)}", replies[-1])
+    return [*replies[:-1], line], f"bad phase {len(replies)}: "
+
+
+def places_changed(replies, commands):
+    whose = session(random.choice(replies)) if replies else ""
+    places = [i for i, line in enumerate(replies) if session(line) == whose]
+    if len(places) < 2:
+        return None
+    i, j = random.sample(places, 2)
     changed = replies[:]
     changed[i], changed[j] = replies[j], replies[i]
     line = falling(changed)
@@ -141,6 +153,7 @@ def of_another_session(replies, commands):
 ALTERED = {
     "another reply": (another_reply, 1),
     "points raised": (points_raised, 1),
+    "before a phase": (before_a_phase, 1),
     "places changed": (places_changed, 1),
     "left out": (left_out, 5),
     "of another session": (of_another_session, 5),
@@ -153,19 +166,36 @@ def commands_of(text):
     return [line for lines in phases for line in sorted(lines, key=lambda line: int(session(line)))]
 
 
-def judge(checker, folder, text, replies):
+def judge(checker, folder, text, replies, limit):
     for name, content in (("commands", text), ("replies", "".join(line + "\n" for line in replies))):
         with open(os.path.join(folder, name), "w") as file:
             file.write(content)
     paths = [os.path.join(folder, name) for name in ("commands", "replies")]
-    run = subprocess.run([checker, f"--inodes={LIMIT}", *paths], stdout=subprocess.PIPE, stderr=subprocess.PIPE)
+    run = subprocess.run([checker, f"--inodes={limit}", *paths], stdout=subprocess.PIPE, stderr=subprocess.PIPE)
     return run.returncode, run.stdout.decode()
 
 
-def expect(checker, folder, text, replies, what, status, begin):
-    found = judge(checker, folder, text, replies)
+def expect(checker, folder, text, replies, what, status, begin, limit=LIMIT):
+    found = judge(checker, folder, text, replies, limit)
     if found[0] != status or not found[1].startswith(begin):
         sys.exit(f"{what}: not {status} {begin!r} but {found}\n{text}\n" + "\n".join(replies))
+
+
+def long_record(number):
+    half = number // 2
+    makes = [(i % 16, f"mkdir /{i:x}", f"ok {i + 2} @{i}") for i in range(half)]
+    looked = [i * 7919 % half for i in range(half)]
+    looks = [(i % 16, f"look /{n:x}", f"is {n + 2} dir @{half}") for i, n in enumerate(looked)]
+    lines = sorted(makes + looks, key=lambda line: line[0])
+    return "".join(f"{s} {c}\n" for s, c, _ in lines), [f"{s} {r}" for s, _, r in lines]
+
+
+def time_of(checker, folder, number):
+    text, replies = long_record(number)
+    begin = resource.getrusage(resource.RUSAGE_CHILDREN)
+    expect(checker, folder, text, replies, f"{number} replies", 0, "legal\n", number)
+    end = resource.getrusage(resource.RUSAGE_CHILDREN)
+    return end.ru_utime - begin.ru_utime + end.ru_stime - begin.ru_stime
 
 
 def main():
@@ -185,8 +215,10 @@ def main():
                 if altered is not None:
                     expect(checker, folder, text, altered[0], what, status, altered[1])
                     counts[what] += 1
-    for what, count in counts.items():
-        print(f"{what}: {count}")
+        for what, count in counts.items():
+            print(f"{what}: {count}")
+        for number in (5_000, 10_000, 20_000):
+            print(f"{number} replies: {time_of(checker, folder, number):.2f} s")
 
 
 main()
