@@ -1,4 +1,4 @@
-ghost use Rattle.std.specs.Prelude.{◌≡◌, ◌≤◌, ◌↔◌, IfOk, OnOk, IfErr};
+ghost use Rattle.std.specs.Prelude.{◌≡◌, ◌≢◌, ◌≤◌, ◌↔◌, IfOk, OnOk, IfErr};
 ghost use Rattle.dc_plain.specs.Legal.{IsLegal};
 ghost use Rattle.dc_plain.specs.declared.TheConstants.{MOST_INODES};
 ghost use Rattle.dc_check.specs.Stamps.{stamps_of};
@@ -28,6 +28,19 @@ fn judge_all(alloc: Global, max_inodes: u64, sorted: &[Numbered]) -> Result<(), 
     judge.settle(alloc)
 }
 
+/// The verdict on a fault of the stamps.
+fn verdict_of(fault: Fault, stamps: &[Stamp]) -> Result<Verdict, NoMemory>
+    ensures other { IfOk result (λ verdict. verdict ≢ Verdict.Legal) }
+    ensures blames { OnOk result (Blames fault) }
+{
+    match fault {
+        Fault::Reply(line) => Ok(Verdict::BadReply(line)),
+        Fault::Order(line) => Ok(Verdict::BadOrder(line)),
+        Fault::Gap(point) => Ok(Verdict::BadOrder(first_above(stamps, point))),
+        Fault::NoMemory => Err(NoMemory),
+    }
+}
+
 /// Whether one plain tree, in which at most `max_inodes` inodes may live (1 to `MOST_INODES`), explains
 /// all of the stamps: each reply is what the call gives after as many changes as its point says, in
 /// an order that keeps that of each session.
@@ -45,9 +58,6 @@ pub fn check(alloc: Global, max_inodes: u64, stamps: &[Stamp]) -> Result<Verdict
     let sorted = by_point(alloc, stamps)?;
     match judge_all(alloc, max_inodes, &sorted) {
         Ok(()) => Ok(Verdict::Legal),
-        Err(Fault::Reply(line)) => Ok(Verdict::BadReply(line)),
-        Err(Fault::Order(line)) => Ok(Verdict::BadOrder(line)),
-        Err(Fault::Gap(point)) => Ok(Verdict::BadOrder(first_above(stamps, point))),
-        Err(Fault::NoMemory) => Err(NoMemory),
+        Err(fault) => verdict_of(fault, stamps),
     }
 }

@@ -193,8 +193,12 @@ fn spells_each_byte(rt: HostRuntime) -> Result<(), Fail> {
 }
 
 /// Lines that are their own spelling.
-const LINES: [&[u8]; 6] = [
+const LINES: [&[u8]; 10] = [
     b"sync",
+    b"0 mkdir /a",
+    b"0 cd /a",
+    b"1 rmdir /a",
+    b"0 look .",
     b"0 look /",
     b"15 mkdir a\\sb\\nc\\\\e",
     b"6 symlink \\e l",

@@ -1,10 +1,10 @@
 use Rattle.std.proofs.Common.{◌≡◌, Some, None, sym, ◌∙◌, refl, subst, List}
 use Rattle.dc_check.specs.declared.stamp.Numbered as rust_numbered
-use Rattle.dc_check.specs.Judges.{Blames, all_numbered}
+use Rattle.dc_check.specs.Judges.{all_numbered}
 use Rattle.dc_check.specs.Judging.{Passes, opening}
 use Rattle.dc_check.specs.Stamps.{stamps_of}
 use Rattle.dc_check.proofs.Points.{legal_rises}
-use Rattle.dc_check.proofs.Exact.{legal_from_passing, passing_from_legal}
+use Rattle.dc_check.proofs.Exact.{legal_from_passing, passing_from_legal, other_verdict}
 use Rattle.dc_check.proofs.checking.check.Goals as goal
 
 pub returns-in-Some : goal.returns-in-Some
@@ -21,29 +21,8 @@ returns-in-Ok c =
     let passes = subst (λ (xs : List rust_numbered.Numbered). Passes (all_numbered xs) (opening c.args.max_inodes)) c.deref.ensures.value c.in-Ok.ensures.ok in
     (λ e. legal_from_passing c.same_tree_tells_whether_trees_are_one.ensures c.args.max_inodes (stamps_of c.args.stamps.now) (all_numbered c.in_ok-sorted.sorted.items) up c.in_ok-sorted.ensures passes, λ legal. refl)
 
-pub returns-in-Err-Reply : goal.returns-in-Err-Reply
-returns-in-Err-Reply c = (
-  λ e. cc,
-  λ legal.
-      let passes = passing_from_legal c.same_tree_tells_whether_trees_are_one.ensures c.args.max_inodes (stamps_of c.args.stamps.now) (all_numbered c.in_ok-sorted.sorted.items) c.in_ok-sorted.ensures legal in
-      absurd (c.in-Err-Reply.ensures.err (subst Blames (sym c.in-Err-Reply.field-0-is) tt)
-      (subst (λ (xs : List rust_numbered.Numbered). Passes (all_numbered xs) (opening c.args.max_inodes)) (sym c.deref.ensures.value) passes)),
-)
-
-pub returns-in-Err-Order : goal.returns-in-Err-Order
-returns-in-Err-Order c = (
-  λ e. cc,
-  λ legal.
-      let passes = passing_from_legal c.same_tree_tells_whether_trees_are_one.ensures c.args.max_inodes (stamps_of c.args.stamps.now) (all_numbered c.in_ok-sorted.sorted.items) c.in_ok-sorted.ensures legal in
-      absurd (c.in-Err-Order.ensures.err (subst Blames (sym c.in-Err-Order.field-0-is) tt)
-      (subst (λ (xs : List rust_numbered.Numbered). Passes (all_numbered xs) (opening c.args.max_inodes)) (sym c.deref.ensures.value) passes)),
-)
-
-pub returns-in-Err-Gap : goal.returns-in-Err-Gap
-returns-in-Err-Gap c = (
-  λ e. cc,
-  λ legal.
-      let passes = passing_from_legal c.same_tree_tells_whether_trees_are_one.ensures c.args.max_inodes (stamps_of c.args.stamps.now) (all_numbered c.in_ok-sorted.sorted.items) c.in_ok-sorted.ensures legal in
-      absurd (c.in-Err-Gap.ensures.err (subst Blames (sym c.in-Err-Gap.field-0-is) tt)
-      (subst (λ (xs : List rust_numbered.Numbered). Passes (all_numbered xs) (opening c.args.max_inodes)) (sym c.deref.ensures.value) passes)),
-)
+pub returns : goal.returns
+returns c = other_verdict c.verdict_of.result _ _ _ c.verdict_of.ensures.other c.verdict_of.ensures.blames (λ blames legal.
+    c.in-Err.ensures.err blames
+    (subst (λ (xs : List rust_numbered.Numbered). Passes (all_numbered xs) (opening c.args.max_inodes)) (sym c.deref.ensures.value)
+    (passing_from_legal c.same_tree_tells_whether_trees_are_one.ensures c.args.max_inodes (stamps_of c.args.stamps.now) (all_numbered c.in_ok-sorted.sorted.items) c.in_ok-sorted.ensures legal)))
