@@ -101,6 +101,13 @@ impl Core {
         &self.state.finished
     }
 
+    /// How many rows there are.
+    pub fn rows(&self) -> u64
+        ensures { result ≡ self.now.rows }
+    {
+        self.state.rows
+    }
+
     /// The count of a row.
     pub fn count(&self, row: u64) -> u64
         requires { row < self.now.rows }

@@ -3,8 +3,10 @@
 ghost use Rattle.dc_events.specs.Laws.{HoldersKeepTheRule, WalkersKeepTheRule, NewTablesHaveTheRule, RecordsAreLegal};
 
 use dc_plain::{
-    opening_tree_is_well_formed, operations_keep_trees_well_formed, untouched_facts_stay,
+    answers_from_true_facts_are_replies, opening_tree_is_well_formed,
+    operations_keep_trees_well_formed, same_tree_tells_whether_trees_are_one, untouched_facts_stay,
 };
+use dc_row::words_have_the_fact_they_spell;
 
 /// Each event of a table, by any actor, keeps the rule.
 pub fn events_keep_the_rule()
@@ -14,6 +16,9 @@ pub fn events_keep_the_rule()
     opening_tree_is_well_formed();
     operations_keep_trees_well_formed();
     untouched_facts_stay();
+    answers_from_true_facts_are_replies();
+    same_tree_tells_whether_trees_are_one();
+    words_have_the_fact_they_spell();
 }
 
 /// A new table has the rule.
@@ -24,4 +29,6 @@ pub fn new_tables_have_the_rule()
 /// The records of actors under the rule are those of a run of one thread.
 pub fn records_are_legal()
     ensures { RecordsAreLegal }
-{}
+{
+    same_tree_tells_whether_trees_are_one();
+}

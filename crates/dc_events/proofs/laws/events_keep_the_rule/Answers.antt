@@ -1,10 +1,15 @@
+use Rattle.dc_events.proofs.Below.{FactsBelow}
 use Rattle.dc_events.proofs.Holder as holder
 use Rattle.dc_events.proofs.Rows as rows
 use Rattle.dc_events.proofs.Walks as walks
 use Rattle.dc_events.proofs.laws.events_keep_the_rule.Goals as goal
 
 pub returns : goal.returns
-returns c = record {
+returns c = let below : FactsBelow = record {
+  read = c.words_have_the_fact_they_spell.ensures;
+  replies = c.answers_from_true_facts_are_replies.ensures;
+  same = c.same_tree_tells_whether_trees_are_one.ensures;
+} in record {
   holders = record {
     take = λ limit rows words views hist id v R at. holder.takes R id v at;
     shut = λ limit n words views hist id v R at has row inside. rows.shuts R id v at has row inside;
@@ -24,8 +29,8 @@ returns c = record {
     quit_so = λ limit n words views hist id v R at. walks.quits R id v at;
     note = λ limit n words views hist id v R at. walks.notes R id v at;
     read_so = λ limit n words views hist id v R at. walks.reads R id v at;
-    pivot = λ limit n words views hist id v R at. walks.pivots R id v at;
+    pivot = λ limit n words views hist id v R at. walks.pivots R id v at below;
     fault = λ limit n words views hist id v R at. walks.faults_keep R id v at;
-    check = λ limit n words views hist id v R at. walks.checks R id v at;
+    check = λ limit n words views hist id v R at. walks.checks R id v at below;
   };
 }
