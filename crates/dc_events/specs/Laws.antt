@@ -52,6 +52,11 @@ pub record WalkersKeepTheRule : Type 0 where
       → Rule limit rows words (set views id (checked v i)) hist)
   pub fault : Seated (λ limit rows words views hist id v. (why : Fault) → Rule limit rows words (set views id (faulted v why)) hist)
 
+-- the rule says nothing of loads and faults
+abbrev pub LoadsTellNothing : Type 0
+LoadsTellNothing = (limit rows : ℕ) (words : List ℕ) (views : List View) (hist : List Request) (id : ℕ) (u v w : View) → get_elem? views id ≡ some u
+    → Rule limit rows words (set views id v) hist → w.walk ≡ v.walk → w.book ≡ v.book → w.hold ≡ v.hold → Rule limit rows words (set views id w) hist
+
 -- what is known of every plain tree
 pub record TreeLaws : Type 0 where
   pub opening : IsWellFormed empty_tree

@@ -1,6 +1,6 @@
 //! Laws of the definitions, as contracts of functions that do nothing.
 
-ghost use Rattle.dc_events.specs.Laws.{HoldersKeepTheRule, WalkersKeepTheRule, NewTablesHaveTheRule, RecordsAreLegal};
+ghost use Rattle.dc_events.specs.Laws.{HoldersKeepTheRule, WalkersKeepTheRule, LoadsTellNothing, NewTablesHaveTheRule, RecordsAreLegal};
 
 use dc_plain::{
     answers_from_true_facts_are_replies, opening_tree_is_well_formed,
@@ -20,6 +20,11 @@ pub fn events_keep_the_rule()
     same_tree_tells_whether_trees_are_one();
     words_have_the_fact_they_spell();
 }
+
+/// Views that have the same walk, book and hold are one to the rule, whatever was loaded.
+pub fn loads_tell_nothing()
+    ensures { LoadsTellNothing }
+{}
 
 /// A new table has the rule.
 pub fn new_tables_have_the_rule()
