@@ -1,3 +1,4 @@
+pub mod Below
 pub mod Told
 pub mod Shown
 pub mod Seats

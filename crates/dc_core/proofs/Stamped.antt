@@ -11,7 +11,7 @@ use Rattle.dc_plain.specs.Legal as stamps
 use Rattle.dc_plain.specs.Requests.{Request}
 use Rattle.dc_plain.specs.Runs.{alters, tree_after, clock_after}
 use Rattle.dc_plain.specs.Trees.{Tree}
-use Rattle.dc_events.proofs.Steps.{within_list}
+use Rattle.dc_core.proofs.Seats.{within_list}
 use Rattle.dc_events.specs.Legal.{Runs, Merges, Legal}
 use Rattle.dc_events.specs.Standing.{weight}
 use Rattle.dc_events.specs.Views.{Record}

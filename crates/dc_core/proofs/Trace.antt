@@ -10,7 +10,7 @@ use Rattle.dc_events.specs.Views.{Walk}
 use Rattle.dc_core.specs.Machine.{State, Actor, Act, Event, Finished, after, after_all, clock_of}
 use Rattle.dc_core.specs.Machine.Act.{Begin, Pivot}
 use Rattle.dc_core.specs.Spans.{before, clock_before, Does, Makes, Spanned}
-use Rattle.dc_events.proofs.Steps.{within_list}
+use Rattle.dc_core.proofs.Seats.{within_list}
 use Rattle.atomic_table.proofs.Lists.{at_longer, at_last}
 
 pub after_snoc : (s : State) (es : List Event) (e : Event) → after_all s (es ++ e ∷ []) ≡ after (after_all s es) e

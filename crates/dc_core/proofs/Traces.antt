@@ -14,8 +14,7 @@ use Rattle.dc_core.specs.Spans.{before, clock_before, Does, Makes, Spanned}
 use Rattle.dc_plain.specs.Runs.{alters}
 use Rattle.dc_core.specs.Refusals.{Answers, Refusal, Unless, UnlessRow, Passes, IsOdd}
 use Rattle.dc_core.specs.Refusals.Refusal.{OddRow, NoCall, Alters}
-use Rattle.dc_core.proofs.Seats.{passed, at_or, held_so}
-use Rattle.dc_events.proofs.Steps.{within_list}
+use Rattle.dc_core.proofs.Seats.{within_list, passed, at_or, held_so}
 use Rattle.dc_core.proofs.Trace.{before_end, before_all, does_more, spanned_more, Opened, opened_more, opened_now}
 use Rattle.atomic_table.proofs.Lists.{at_set, at_snoc, at_last, set_again}
 

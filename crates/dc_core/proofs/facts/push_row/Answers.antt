@@ -14,7 +14,7 @@ returns-clause-facts c =
     let items : c.push.new.self.items ≡ old ++ row ∷ [] = search rules in
     let on : x.checked ≡ true = search rules in
     let spells : Spells x.words.items (row_shown row) = subst (λ ws. Spells ws (row_shown row)) c.deref.ensures.value c.in-Some.ensures.spelled in
-    ap facts_told items ∙ facts_told-snoc old row ∙ ap (λ l. facts_told old ++ l) (sym (ap (λ b. facts_if b (note_words (note_shown x)) []) on ∙ row_told x row x.counted spells))
+    ap facts_told items ∙ facts_told-snoc old row ∙ ap (λ l. facts_told old ++ l) (sym (ap (λ b. facts_if b (note_words (note_shown x)) []) on ∙ row_told c.words_have_the_fact_they_spell.ensures x row x.counted spells))
 
 pub returns-clause-rows : goal.returns-clause-rows
 returns-clause-rows c =

@@ -9,8 +9,7 @@ use Rattle.dc_events.specs.Walks.{walk_begun, walk_again, no_walk, walk_noted, w
 use Rattle.dc_core.proofs.Acted.{acted, unacted, room, this_one, always_err, on_ok, on_err, finished_more, concluding_is}
 use Rattle.dc_core.proofs.Kept.{number}
 use Rattle.dc_core.proofs.state.State.do_answer.Goals as goal
-use Rattle.dc_events.proofs.Records.{unaltered}
-use Rattle.dc_core.proofs.Gives.{answer_flat}
+use Rattle.dc_core.proofs.Gives.{answer_flat, unaltered}
 
 pub returns-clause-done : goal.returns-clause-done
 returns-clause-done c = let s = c.args.self.now in let us = s.actors.items in let j = c.args.actor in let S : State = state_of s in
@@ -26,7 +25,7 @@ returns-clause-done c = let s = c.args.self.now in let us = s.actors.items in le
     let all = finished_more s.finished.items c.reserve.new.self.items c.push_reserved.new.self.items (record { actor = j; call = c.release-call.result; reply = c.in_ok-reply.reply; at = c.index-clock.result.now }) made
     c.push_reserved.ensures.items c.in_ok-reserve.ensures.items (λ i. record { actor = j; call = (c.release-call.ensures.call ∙ ap (λ (b : Actor). b.walk.call) same) i; reply = reply i; at = clock i }) in
     let shown = c.release-call.ensures.shown ∙ ap (λ n. record (actor_shown one) { walk = no_walk; seen = n; holds = false }) clock in
-    let same_tree = after_it ∙ unaltered S.limit S.tree call (answer_flat S j c.requires.may) in
+    let same_tree = after_it ∙ unaltered c.same_tree_tells_whether_trees_are_one.ensures S.limit S.tree call (answer_flat S j c.requires.may) in
     λ i. record S {
       limit = c.in_ok-reply.ensures.limit i;
       words = set s.words.items 1 0;
