@@ -263,7 +263,6 @@ fn schedules_are_one_tree(rt: HostRuntime) -> Result<(), Fail> {
         assert!(rt; are_replies(alloc, &mut tree, records, at, at < clock)?, "at {at}");
     }
     let (found, refused) = look_ups(three.core.finished());
-    let done = three.done;
-    assert!(rt; false, "{done} done, {clock} changes, {found} and {refused} look-ups");
+    assert!(rt; three.done >= 5000 && clock >= 20 && found >= 20 && refused >= 4);
     Ok(())
 }
