@@ -4,21 +4,20 @@ use Rattle.std.proofs.lemmas.Bool.Decides.{nat_tests}
 use Rattle.std.proofs.lemmas.List.{map-append}
 use mathlib.Core.Option.{some}
 use lib.ListN.{get_elem?}
-use Rattle.dc_plain.specs.Facts.{Fact}
 use Rattle.dc_plain.specs.Requests.{Request}
 use Rattle.dc_plain.specs.Runs.{reply_of, tree_after, tree_after_all, alters}
 use Rattle.dc_plain.specs.Trees.{Tree, empty_tree}
 use Rattle.dc_events.specs.Views.{View}
 use Rattle.dc_events.specs.Standing.{tree_of}
-use Rattle.dc_events.specs.Rows.{most, base_of, count, IsUntouched}
+use Rattle.dc_events.specs.Rows.{most, IsUntouched}
 use Rattle.dc_events.specs.Rule.{Rule}
 use Rattle.dc_events.specs.Laws.{HoldersKeepTheRule}
 use Rattle.dc_events.specs.Walks.{no_walk}
-use Rattle.dc_events.specs.Effects.{committed, record_of, with_seen, with_record}
+use Rattle.dc_events.specs.Effects.{committed, record_of}
 use Rattle.dc_core.specs.Machine.{State, Actor, Act, Event, actor_at, clock_of, done}
 use Rattle.dc_core.specs.Machine.Act.{Commit}
 use Rattle.dc_core.specs.Lives.{Done, finished_of, strand, hold_of, view_of, views_from, LivesWith, Lives}
-use Rattle.dc_core.specs.Refusals.{Refusal, Answers, UnlessRow, Unless, Passes, IsTouched}
+use Rattle.dc_core.specs.Refusals.{Refusal, Answers, UnlessRow, Passes, IsTouched}
 use Rattle.dc_core.specs.Refusals.Refusal.{Touched}
 use Rattle.dc_core.proofs.Seats.{one_known, passed, at_or, held_so, set_all, unheld, here, other_holds_not, strand_snoc}
 

@@ -1,8 +1,6 @@
 -- Giving the lock back, and a read, keep the rule of the core.
-use Rattle.std.proofs.Common.{◌≡◌, ℕ, zero, suc, ◌+◌, ◌%◌, ◌<◌, ◌≤◌, ◌≢◌, ◌⊎◌, Bool, true, false, List, [], ◌∷◌, ◌++◌, length, get_or, set, map, Option, Some, None, refl, sym, ap, ap₂, ◌∙◌, subst, arith, inl, inr, true≢false, not}
+use Rattle.std.proofs.Common.{◌≡◌, ℕ, ◌%◌, true, false, List, [], ◌∷◌, ◌++◌, length, set, None, refl, sym, ap, ◌∙◌, subst, arith, true≢false, not}
 use Rattle.std.proofs.lemmas.List.{map-append}
-use mathlib.Core.Option.{some}
-use lib.ListN.{get_elem?}
 use Rattle.dc_plain.specs.Requests.{Request}
 use Rattle.dc_plain.specs.LivingLaws.{SameTreeDecides}
 use Rattle.dc_plain.specs.Runs.{reply_of, tree_after, alters, same_tree}
@@ -10,13 +8,13 @@ use Rattle.dc_plain.specs.Trees.{Tree}
 use Rattle.dc_events.specs.Views.{View}
 use Rattle.dc_events.specs.Standing.{tree_of}
 use Rattle.dc_events.specs.Rows.{count}
-use Rattle.dc_events.specs.Rule.{AllEven, Rule}
+use Rattle.dc_events.specs.Rule.{Rule}
 use Rattle.dc_events.specs.Walks.{no_walk}
-use Rattle.dc_events.specs.Effects.{gave, answered, record_of, empty_hold}
-use Rattle.dc_core.specs.Machine.{State, Actor, Act, Event, actor_at, clock_of, done}
+use Rattle.dc_events.specs.Effects.{answered, record_of, empty_hold}
+use Rattle.dc_core.specs.Machine.{State, Actor, actor_at, clock_of, done}
 use Rattle.dc_core.specs.Machine.Act.{Give}
-use Rattle.dc_core.specs.Lives.{Done, finished_of, strand, hold_of, view_of, views_from, LivesWith, Lives}
-use Rattle.dc_core.specs.Refusals.{Answers, Unless, Passes, IsOdd, Refusal}
+use Rattle.dc_core.specs.Lives.{Done, finished_of, strand, hold_of, view_of, views_from, Lives}
+use Rattle.dc_core.specs.Refusals.{Answers, Unless, Passes, IsOdd}
 use Rattle.dc_core.specs.Refusals.Refusal.{OddRow, NoCall, Alters}
 use Rattle.dc_core.proofs.Seats.{one_known, still_known, passed, held_not, held_so, set_all, unheld, here, other_holds_not}
 use Rattle.dc_core.proofs.Below.{EventsBelow}

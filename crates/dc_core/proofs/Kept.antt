@@ -1,13 +1,10 @@
 -- Each event that is not refused keeps the rule of the core.
-use Rattle.std.proofs.Common.{◌≡◌, ℕ, zero, suc, ◌+◌, ◌%◌, ◌<◌, ◌≤◌, ◌≢◌, ◌==◌, Bool, true, false, List, [], ◌∷◌, ◌++◌, length, get_or, set, map, Option, Some, None, refl, sym, ap, ap₂, ◌∙◌, subst, arith, inl, inr}
+use Rattle.std.proofs.Common.{◌≡◌, ℕ, zero, suc, ◌+◌, ◌%◌, ◌<◌, ◌≤◌, ◌≢◌, true, List, [], length, get_or, set, None, refl, sym, ap, ◌∙◌, subst, arith, inl, inr}
 use mathlib.Core.Option.{some}
 use lib.ListN.{get_elem?}
 use Rattle.std.proofs.lemmas.Grind.{get_or_default_zero}
-use mathlib.Core.Logic.{dite}
-use native.Mathlib.Decide.{ℕ_discrete}
 use Rattle.dc_plain.specs.Requests.{Request}
 use Rattle.dc_events.specs.Views.{View}
-use Rattle.dc_events.specs.Standing.{tree_of}
 use Rattle.dc_events.specs.Rows.{most, base_of, count, row_words, Tells}
 use Rattle.dc_events.specs.Rule.{Rule}
 use Rattle.dc_events.specs.Walks.{walk_noted, walk_begun, walk_again, no_walk}
@@ -16,7 +13,7 @@ use Rattle.dc_row.specs.declared.TheConstants.{ROW_WORDS}
 use Rattle.dc_core.specs.Machine.{State, Actor, Act, Event, actor_at, clock_of, done, walking}
 use Rattle.dc_core.specs.Machine.Act.{Take, Shut, Write, Open, Note, Begin, Again, Quit}
 use Rattle.dc_core.specs.Lives.{Done, strand, hold_of, view_of, views_from, LivesWith, Lives}
-use Rattle.dc_core.specs.Refusals.{Refusal, Answers}
+use Rattle.dc_core.specs.Refusals.{Answers}
 use Rattle.dc_core.proofs.Below.{EventsBelow}
 use Rattle.dc_core.proofs.Seats.{still_known, passed, met, at_or, held_so, set_all, unheld, here, other_holds_not, nobody_holds}
 use Rattle.atomic_table.proofs.Lists.{set_again}

@@ -1,5 +1,5 @@
 -- The records of a core that keeps the rule are legal.
-use Rattle.std.proofs.Common.{◌≡◌, ℕ, zero, suc, ◌+◌, List, [], ◌∷◌, length, map, refl, sym, ap, ◌∙◌, subst, arith}
+use Rattle.std.proofs.Common.{◌≡◌, ℕ, zero, suc, List, [], ◌∷◌, map, refl, sym, ◌∙◌, subst, arith}
 use mathlib.Core.Option.{some, some-injective, some-ne-none}
 use lib.ListN.{get_elem?}
 use Rattle.dc_plain.specs.Requests.{Request}
@@ -8,7 +8,7 @@ use Rattle.dc_events.specs.Standing.{all_hits}
 use Rattle.dc_events.specs.Rule.{total, view_hits}
 use Rattle.dc_events.specs.Legal.{Legal}
 use Rattle.dc_core.specs.Machine.{State, Actor}
-use Rattle.dc_core.specs.Lives.{Done, strand, strands, Lives, AreLegal, stamp_of, finished_of, views_from, view_of, LivesWith}
+use Rattle.dc_core.specs.Lives.{Done, strand, strands, Lives, AreLegal, stamp_of, views_from, view_of, LivesWith}
 use Rattle.dc_plain.specs.Legal.{IsLegal}
 use Rattle.dc_events.specs.Laws.{RecordsAreLegal}
 use Rattle.dc_core.proofs.Stamped.{stamped}

@@ -1,12 +1,12 @@
 -- A new core keeps the rule, and no call has begun in it.
-use Rattle.std.proofs.Common.{◌≡◌, ℕ, zero, suc, ◌+◌, ◌<◌, List, [], ◌∷◌, length, replicate, false, refl, sym, ap, ◌∙◌, subst}
+use Rattle.std.proofs.Common.{◌≡◌, ℕ, zero, suc, List, [], ◌∷◌, replicate, refl, sym, ap, subst}
 use mathlib.Core.Option.{some, some-injective, some-ne-none}
 use lib.ListN.{get_elem?}
 use Rattle.dc_events.specs.Rows.{opening_words}
 use Rattle.dc_events.specs.Rule.{Rule}
 use Rattle.dc_events.specs.Effects.{nobody}
 use Rattle.dc_events.specs.Laws.{NewTablesHaveTheRule}
-use Rattle.dc_core.specs.Machine.{State, Actor, idle, opening}
+use Rattle.dc_core.specs.Machine.{Actor, idle, opening}
 use Rattle.dc_core.specs.Lives.{views_from, Lives}
 use Rattle.dc_core.proofs.Traces.{Traced, traced_at_first}
 

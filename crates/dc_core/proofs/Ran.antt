@@ -1,8 +1,8 @@
 -- A list of events that were done one after the other.
-use Rattle.std.proofs.Common.{◌≡◌, ℕ, zero, suc, ◌+◌, ◌<◌, ◌≤◌, ◌⊎◌, ⊎_elim, inl, inr, List, [], ◌∷◌, length, take, map, get_or, Option, Some, None, refl, sym, ap, ◌∙◌, subst, arith}
+use Rattle.std.proofs.Common.{◌≡◌, ℕ, zero, suc, ◌+◌, ◌<◌, ◌≤◌, ◌⊎◌, ⊎_elim, inl, inr, List, [], ◌∷◌, length, take, map, get_or, None, refl, sym, ap, ◌∙◌, subst, arith}
 use mathlib.Core.Option.{some, some-injective, some-ne-none}
 use lib.ListN.{get_elem?}
-use Rattle.dc_core.specs.Machine.{State, Event, Finished, after, after_all, opening}
+use Rattle.dc_core.specs.Machine.{State, Event, after, after_all}
 use Rattle.dc_core.specs.Refusals.{Answers}
 use Rattle.dc_core.specs.Listed.{AllDone, AreSpanned, IsNew, StopsFor}
 use Rattle.dc_core.specs.Shown.{event_shown, refusal_shown}

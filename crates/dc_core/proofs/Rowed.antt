@@ -1,5 +1,5 @@
 -- What the words of a row spell, by the row that was decoded from them.
-use Rattle.std.proofs.Common.{◌≡◌, ◌↔◌, ℕ, ◌+◌, ◌<◌, Bool, true, false, List, Option, Some, None, option_map, Result, Ok, Err, IfOk, IfSome, IsTrue, refl, sym, ap, ◌∙◌, subst, arith}
+use Rattle.std.proofs.Common.{◌≡◌, ◌↔◌, ℕ, ◌+◌, ◌<◌, Bool, List, Option, Some, None, option_map, Result, Ok, Err, IfOk, IfSome, IsTrue, sym, ◌∙◌, subst, arith}
 use mathlib.Core.Logic.{dite}
 use native.Mathlib.Decide.{ℕ_discrete}
 use Rattle.dc_row.specs.Rows.{row_shown}

@@ -1,13 +1,12 @@
 -- The views made of what the core stores, us one actor's event changes them.
-use Rattle.std.proofs.Common.{◌≡◌, ℕ, zero, suc, ◌+◌, ◌<◌, ◌≢◌, ◌==◌, ◌⊎◌, Bool, true, false, List, [], ◌∷◌, ◌++◌, length, get_or, set, Option, Some, None, refl, sym, ap, ap₂, ◌∙◌, subst, arith, inl, inr, ⊎_elim, true≢false, cond, length-set}
+use Rattle.std.proofs.Common.{◌≡◌, ℕ, zero, suc, ◌+◌, ◌<◌, ◌≢◌, ◌==◌, ◌⊎◌, Bool, true, false, List, [], ◌∷◌, ◌++◌, length, get_or, set, Some, None, refl, sym, ap, ap₂, ◌∙◌, subst, arith, inl, inr, ⊎_elim, cond, length-set}
 use mathlib.Core.Option.{some, some-ne-none}
 use lib.ListN.{get_elem?}
 use Rattle.dc_plain.specs.Requests.{Request}
-use Rattle.dc_events.specs.Views.{Record, View}
-use Rattle.dc_events.specs.Rule.{Rule}
-use Rattle.dc_core.specs.Machine.{State, Actor, idle}
+use Rattle.dc_events.specs.Views.{Record}
+use Rattle.dc_core.specs.Machine.{State, Actor}
 use Rattle.dc_core.specs.Lives.{Done, strand, hold_of, view_of, views_from, LivesWith}
-use Rattle.dc_core.specs.Refusals.{Refusal, Unless}
+use Rattle.dc_core.specs.Refusals.{Refusal}
 use Rattle.atomic_table.proofs.Lists.{at_snoc}
 
 -- a test that did not refuse

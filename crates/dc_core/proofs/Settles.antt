@@ -1,5 +1,5 @@
 -- A pivot and a check keep the rule of the core, whether or not they make a record.
-use Rattle.std.proofs.Common.{◌≡◌, ℕ, zero, suc, ◌+◌, ◌-◌, ◌<◌, ◌≤◌, ◌≢◌, ◌⊎◌, Bool, true, false, List, [], ◌∷◌, ◌++◌, length, get_or, set, map, Option, Some, None, refl, sym, ap, ap₂, ◌∙◌, subst, arith, inl, inr}
+use Rattle.std.proofs.Common.{◌≡◌, ℕ, ◌+◌, ◌-◌, ◌<◌, ◌≤◌, false, List, [], ◌∷◌, ◌++◌, length, set, Option, Some, None, refl, sym, ap, ◌∙◌, subst, arith, inl, inr}
 use Rattle.std.proofs.lemmas.List.{map-append}
 use mathlib.Core.Option.{some}
 use mathlib.Core.Logic.{dite}
@@ -13,9 +13,9 @@ use Rattle.dc_events.specs.Rule.{Rule}
 use Rattle.dc_events.specs.Walks.{no_walk, walk_turned, walk_marked, walk_read, note_of, last_of, no_note}
 use Rattle.dc_events.specs.Noted.{answer_in}
 use Rattle.dc_events.specs.Effects.{concluded}
-use Rattle.dc_core.specs.Machine.{State, Actor, Act, Event, actor_at, clock_of, done, concluding, walking, next_word}
+use Rattle.dc_core.specs.Machine.{State, Actor, actor_at, clock_of, done, concluding, walking, next_word}
 use Rattle.dc_core.specs.Machine.Act.{Pivot, Check, Read}
-use Rattle.dc_core.specs.Lives.{Done, finished_of, strand, hold_of, view_of, views_from, LivesWith, Lives}
+use Rattle.dc_core.specs.Lives.{Done, finished_of, view_of, views_from, LivesWith, Lives}
 use Rattle.dc_core.specs.Refusals.{Answers}
 use Rattle.dc_core.proofs.Seats.{one_known, passed, at_or, held_not, held_so, set_all, here}
 use Rattle.dc_core.proofs.Below.{EventsBelow}

@@ -1,16 +1,14 @@
 -- Under the rule the checked notes of an actor that answers spell rows.
-use Rattle.std.proofs.Common.{◌≡◌, ℕ, zero, suc, ◌+◌, ◌-◌, ◌<◌, ◌≤◌, ◌≢◌, true, false, List, [], ◌∷◌, length, get_or, map, Option, Some, None, refl, sym, ap, ◌∙◌, subst, arith, inl, inr, ⊎_elim, true≢false}
+use Rattle.std.proofs.Common.{◌≡◌, ℕ, suc, ◌<◌, ◌≤◌, ◌≢◌, true, false, List, [], ◌∷◌, length, Option, None, refl, sym, ◌∙◌, subst, arith, inl, inr, ⊎_elim, true≢false}
 use mathlib.Core.Option.{some}
 use lib.ListN.{get_elem?}
 use Rattle.dc_plain.specs.Facts.{Fact}
-use Rattle.dc_plain.specs.Requests.{Answer}
 use Rattle.dc_row.specs.Spelling.{Spells}
-use Rattle.dc_events.specs.Views.{Note, View, Walk}
+use Rattle.dc_events.specs.Views.{Note}
 use Rattle.dc_events.specs.Rows.{count, note_words, IsWhole}
-use Rattle.dc_events.specs.Noted.{answer_in}
 use Rattle.dc_events.specs.Walks.{walk_marked, note_of, no_note}
 use Rattle.atomic_table.proofs.Lists.{at_set}
-use Rattle.dc_core.specs.Machine.{State, Actor, Event, actor_at}
+use Rattle.dc_core.specs.Machine.{State, Actor, actor_at}
 use Rattle.dc_core.specs.Machine.Act.{Pivot, Check}
 use Rattle.dc_core.specs.Lives.{view_of, Lives}
 use Rattle.dc_core.specs.Refusals.{Answers}

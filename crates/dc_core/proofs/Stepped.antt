@@ -1,10 +1,10 @@
 -- Whatever the event, the rule is kept; and what a step that was refused says.
-use Rattle.std.proofs.Common.{◌≡◌, ◌⊎◌, ◌↔◌, ℕ, Bool, true, false, not, Option, Some, None, Result, Ok, Err, OnOk, OnErr, MatchResult, IsTrue, refl, sym, ap, ◌∙◌, subst, inl, inr, true≢false}
+use Rattle.std.proofs.Common.{◌≡◌, ◌⊎◌, ◌↔◌, ℕ, Bool, true, false, not, Option, Some, None, Result, Ok, Err, MatchResult, IsTrue, refl, sym, ap, ◌∙◌, subst, inl, inr, true≢false}
 use Rattle.dc_core.specs.Machine.{State, Act, Event, after}
 use Rattle.dc_core.specs.Machine.Act.{Begin, Take, Shut, Write, Open, Commit, Give, Note, Read, Pivot, Check, Again, Quit}
 use Rattle.dc_core.specs.Lives.{Lives}
 use Rattle.dc_core.specs.Refusals.{Refusal, Answers, Unless, Needs, Passes}
-use Rattle.dc_core.specs.Shown.{reason, refusal_shown, IsMemory}
+use Rattle.dc_core.specs.Shown.{reason, refusal_shown}
 use Rattle.dc_core.specs.Steps.{Steps}
 use Rattle.dc_core.specs.declared.refused.Refused as rust_refused
 use Rattle.dc_core.specs.declared.refused.Refused.TheVariants as refusals

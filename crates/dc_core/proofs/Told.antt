@@ -3,7 +3,7 @@ use Rattle.std.proofs.Common.{◌≡◌, ℕ, zero, suc, ◌+◌, ◌<◌, ◌�
 use Rattle.std.proofs.lemmas.List.{drop_more}
 use Rattle.dc_plain.specs.Facts.{Fact}
 use Rattle.dc_row.specs.Rows.{row_shown}
-use Rattle.dc_row.specs.Spelling.{Spells, TellsRow, has_spelling}
+use Rattle.dc_row.specs.Spelling.{Spells, has_spelling}
 use Rattle.dc_row.specs.declared.row.Row.{Row}
 use Rattle.dc_row.specs.Decoding.{SpelledIsRead, fact_in}
 use Rattle.dc_events.specs.Views.{Note}

@@ -1,9 +1,6 @@
-use Rattle.std.proofs.Common.{◌≡◌, ◌⊎◌, ◌+◌, ◌<◌, ◌≤◌, length, ℕ, suc, ap, sym, ◌∙◌, subst, map, take, None, ⊎_elim, inl, inr, arith, rules}
-use lib.ListN.{get_elem?}
+use Rattle.std.proofs.Common.{◌≤◌, length, sym, subst, map, take, arith, rules}
 use Rattle.dc_core.specs.Listed.{AllDone}
-use Rattle.dc_core.specs.Machine.{State, Event, after, after_all}
-use Rattle.dc_core.specs.Refusals.{Answers}
-use Rattle.dc_core.specs.Shown.{event_shown, refusal_shown}
+use Rattle.dc_core.specs.Shown.{event_shown}
 use Rattle.dc_core.proofs.Ran.{goes_on, stops_there, all_spanned, take_all_past}
 use Rattle.dc_core.proofs.machine.Core.run.Goals as goal
 

@@ -2,7 +2,6 @@ use Rattle.std.proofs.Common.{◌≡◌, ◌-◌, ◌<◌, ap, ◌∙◌, sym, l
 use Rattle.atomic_table.proofs.Lists.{at_index}
 use Rattle.dc_core.specs.Machine.{Actor}
 use Rattle.dc_core.specs.Shown.{actor_shown, note_shown}
-use Rattle.dc_events.specs.Views.{Note}
 use Rattle.dc_events.specs.Walks.{extended, no_note}
 use Rattle.dc_core.proofs.Acted.{always_err}
 use Rattle.dc_core.proofs.Shown.{set_shown, same_shown, map_length}

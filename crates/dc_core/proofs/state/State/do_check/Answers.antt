@@ -1,19 +1,16 @@
-use Rattle.std.proofs.Common.{◌≡◌, ◌+◌, ◌<◌, ◌++◌, [], ◌∷◌, ap, sym, ◌∙◌, subst, set, get_or, length, map, rules, arith, true, false, OnOk, OnErr}
-use Rattle.dc_core.specs.Machine.{State, Actor, Finished, actor_at, clock_of, walking, turning, next_word, ended, recorded}
-use Rattle.dc_core.specs.Machine.Act.{Begin, Take, Shut, Write, Open, Commit, Give, Note, Read, Pivot, Check, Again, Quit}
-use Rattle.dc_core.specs.Shown.{state_of, actor_shown, finished_shown, note_shown}
-use Rattle.dc_plain.specs.Requests.{request_of, answer_of}
-use Rattle.dc_plain.specs.Runs.{reply_of, tree_after, alters}
-use Rattle.dc_events.specs.Rows.{count}
-use Rattle.dc_events.specs.Walks.{walk_begun, walk_again, no_walk, walk_noted, walk_read, walk_marked}
-use Rattle.dc_core.proofs.Acted.{acted, unacted, room, this_one, always_err, on_ok, on_err, finished_more, concluding_is}
-use Rattle.dc_core.proofs.Kept.{number}
+use Rattle.std.proofs.Common.{◌≡◌, ◌++◌, ap, sym, ◌∙◌, subst, map}
+use Rattle.dc_core.specs.Machine.{State, Actor, actor_at, walking, ended, recorded}
+use Rattle.dc_core.specs.Machine.Act.{Check}
+use Rattle.dc_core.specs.Shown.{state_of, actor_shown, finished_shown}
+use Rattle.dc_plain.specs.Requests.{answer_of}
+use Rattle.dc_events.specs.Walks.{walk_marked}
+use Rattle.dc_core.proofs.Acted.{acted, unacted, room, this_one, always_err, concluding_is}
 use Rattle.dc_core.proofs.state.State.do_check.Goals as goal
 use Rattle.std.proofs.Common.{option_map}
 use Rattle.dc_events.specs.Noted.{answer_in}
 use Rattle.dc_core.specs.Machine.{concluding}
 use Rattle.dc_core.specs.Told.{AreSpelled}
-use Rattle.dc_core.proofs.Spelled.{pivot_spelled, check_spelled, check_less, check_fresh}
+use Rattle.dc_core.proofs.Spelled.{check_spelled}
 
 pub check-requires-clause-spelled : goal.check-requires-clause-spelled
 check-requires-clause-spelled c = let s = c.args.self.now in let us = s.actors.items in let j = c.args.actor in let S : State = state_of s in

@@ -1,4 +1,4 @@
-use Rattle.std.proofs.Common.{◌≡◌, ◌↔◌, ◌%◌, IsTrue, Some, None, option_map, ap, sym, ◌∙◌, subst, true≢false}
+use Rattle.std.proofs.Common.{◌↔◌, ◌%◌, IsTrue, option_map, ap, sym, ◌∙◌, subst, true≢false}
 use Rattle.dc_plain.specs.Facts.{key_of}
 use Rattle.dc_plain.specs.FactsShown.{fact_shown}
 use Rattle.dc_plain.specs.Requests.{request_of}

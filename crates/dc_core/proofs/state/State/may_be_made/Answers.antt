@@ -1,4 +1,4 @@
-use Rattle.std.proofs.Common.{◌≡◌, inl, inr, rules, refl, subst}
+use Rattle.std.proofs.Common.{inl, inr, rules, refl, subst}
 use Rattle.dc_plain.specs.Requests.{request_of}
 use Rattle.dc_plain.specs.Runs.{alters}
 use Rattle.dc_core.specs.Machine.{State}
