@@ -64,7 +64,7 @@ walk_kept s j hist ds L a at a' kept =
 pub note_kept : EventsBelow → (s : State) (j row : ℕ) → Lives s → Answers s (record { actor = j; act = Note row }) None → Lives (done s j (Note row))
 note_kept laws s j row (hist, ds, L) ok = let p = passed ok in let q = passed p.1 in let r = passed q.1 in let t = passed r.1 in let u = passed t.1 in let a : Actor = actor_at s j in let at = there s j p.0 in
     let fresh = Rattle.dc_core.proofs.Seats.held_not a.walk.pivoted r.0 in let inside : row < s.rows = omega (arith, t.0) in let even = odd_or_even (count s.words row) u.0 in
-        walk_kept s j hist ds L a at (walking a (walk_noted a.walk row (count s.words row))) (laws.walkers.note _ _ _ _ _ j (view_of s.words hist ds j a) L.rule (here s hist ds L j a at) row inside even fresh)
+    walk_kept s j hist ds L a at (walking a (walk_noted a.walk row (count s.words row))) (laws.walkers.note _ _ _ _ _ j (view_of s.words hist ds j a) L.rule (here s hist ds L j a at) row inside even fresh)
 
 -- what was read of a list is what it has there
 pub number : (words : List ℕ) (i n : ℕ) → i < length words → n ≡ get_or words i n → n ≡ get_or words i 0

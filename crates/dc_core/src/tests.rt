@@ -35,10 +35,15 @@ fn named(dir: u64, name: &[u8], target: Option<(u64, Kind)>) -> Result<[u64; ROW
     Ok(words)
 }
 
+/// An actor does one act.
+fn step(core: &mut Core, alloc: Global, actor: u64, act: Act) -> Result<(), Refused> {
+    core.step(alloc, Event { actor, act })
+}
+
 /// An actor does these acts, up to the first that is refused.
 fn act(core: &mut Core, alloc: Global, actor: u64, acts: &[Act]) -> Result<(), Refused> {
     for act in acts {
-        core.step(alloc, Event { actor, act: *act })?;
+        step(core, alloc, actor, *act)?;
     }
     Ok(())
 }
@@ -52,10 +57,9 @@ fn write(
     words: &[u64; ROW_WORDS],
 ) -> Result<(), Refused> {
     for i in 1..ROW_WORDS {
-        let write = Act::Write(row, i as u64, words[i]);
-        act(core, alloc, actor, &[write])?;
+        step(core, alloc, actor, Act::Write(row, i as u64, words[i]))?;
     }
-    act(core, alloc, actor, &[Act::Open(row)])
+    step(core, alloc, actor, Act::Open(row))
 }
 
 /// An actor without the lock gives a row other words.
@@ -66,9 +70,10 @@ fn fill(
     row: u64,
     words: &[u64; ROW_WORDS],
 ) -> Result<(), Refused> {
-    act(core, alloc, actor, &[Act::Take, Act::Shut(row)])?;
+    step(core, alloc, actor, Act::Take)?;
+    step(core, alloc, actor, Act::Shut(row))?;
     write(core, alloc, actor, row, words)?;
-    act(core, alloc, actor, &[Act::Give(false)])
+    step(core, alloc, actor, Act::Give(false))
 }
 
 /// An actor makes a change that no row speaks of.
@@ -89,13 +94,16 @@ fn change_row(
     let acts = [Act::Begin(call), Act::Take, Act::Shut(row), Act::Commit];
     act(core, alloc, actor, &acts)?;
     write(core, alloc, actor, row, words)?;
-    act(core, alloc, actor, &[Act::Give(false)])
+    step(core, alloc, actor, Act::Give(false))
 }
 
 /// An actor notes a row and reads all its words.
 fn note(core: &mut Core, alloc: Global, actor: u64, row: u64) -> Result<(), Refused> {
-    act(core, alloc, actor, &[Act::Note(row)])?;
-    act(core, alloc, actor, &[Act::Read; ROW_WORDS - 1])
+    step(core, alloc, actor, Act::Note(row))?;
+    for _ in 1..ROW_WORDS {
+        step(core, alloc, actor, Act::Read)?;
+    }
+    Ok(())
 }
 
 /// The count of a row, if there is such a row.
@@ -121,9 +129,21 @@ fn half_walked(alloc: Global) -> Result<Core, Fail> {
     let mut core = Core::new(alloc, 1, 2, 16)?;
     change(&mut core, alloc, 1, mkdir(b"/a"))?;
     change(&mut core, alloc, 1, mkdir(b"/a/d"))?;
-    fill(&mut core, alloc, 1, 0, &named(1, b"a", Some((2, Kind::Dir)))?)?;
-    fill(&mut core, alloc, 1, 1, &named(2, b"d", Some((3, Kind::Dir)))?)?;
-    act(&mut core, alloc, 0, &[Act::Begin(look(b"/a/d/f"))])?;
+    fill(
+        &mut core,
+        alloc,
+        1,
+        0,
+        &named(1, b"a", Some((2, Kind::Dir)))?,
+    )?;
+    fill(
+        &mut core,
+        alloc,
+        1,
+        1,
+        &named(2, b"d", Some((3, Kind::Dir)))?,
+    )?;
+    step(&mut core, alloc, 0, Act::Begin(look(b"/a/d/f")))?;
     note(&mut core, alloc, 0, 0)?;
     note(&mut core, alloc, 0, 1)?;
     Ok(core)
@@ -137,15 +157,26 @@ fn a_path_that_never_was_is_not_answered(rt: HostRuntime) -> Result<(), Fail> {
     let gone = named(2, b"d", None)?;
     change_row(&mut core, alloc, 1, rename(b"/a/d", b"/b"), 1, &gone)?;
     change(&mut core, alloc, 1, create(b"/b/f"))?;
-    fill(&mut core, alloc, 1, 2, &named(3, b"f", Some((4, Kind::File)))?)?;
+    fill(
+        &mut core,
+        alloc,
+        1,
+        2,
+        &named(3, b"f", Some((4, Kind::File)))?,
+    )?;
     note(&mut core, alloc, 0, 2)?;
     act(&mut core, alloc, 0, &[Act::Pivot, Act::Check(0)])?;
-    let refused = act(&mut core, alloc, 0, &[Act::Check(1)]);
+    let refused = step(&mut core, alloc, 0, Act::Check(1));
     assert_eq!(rt; refused, Err(Refused::Changed(1, 2, 4)));
-    act(&mut core, alloc, 0, &[Act::Again])?;
+    step(&mut core, alloc, 0, Act::Again)?;
     note(&mut core, alloc, 0, 0)?;
     note(&mut core, alloc, 0, 1)?;
-    act(&mut core, alloc, 0, &[Act::Pivot, Act::Check(0), Act::Check(1)])?;
+    act(
+        &mut core,
+        alloc,
+        0,
+        &[Act::Pivot, Act::Check(0), Act::Check(1)],
+    )?;
     assert!(rt; is_last(&core, 0, &Reply::Refused(2), 4));
     Ok(())
 }
@@ -158,11 +189,17 @@ fn a_grandparent_is_checked_after_the_pivot(rt: HostRuntime) -> Result<(), Fail>
     let gone = named(1, b"a", None)?;
     change_row(&mut core, alloc, 1, rename(b"/a", b"/b"), 0, &gone)?;
     change(&mut core, alloc, 1, create(b"/b/d/f"))?;
-    fill(&mut core, alloc, 1, 2, &named(3, b"f", Some((4, Kind::File)))?)?;
+    fill(
+        &mut core,
+        alloc,
+        1,
+        2,
+        &named(3, b"f", Some((4, Kind::File)))?,
+    )?;
     note(&mut core, alloc, 0, 2)?;
-    act(&mut core, alloc, 0, &[Act::Pivot])?;
+    step(&mut core, alloc, 0, Act::Pivot)?;
     assert_eq!(rt; core.clock(), 4);
-    let refused = act(&mut core, alloc, 0, &[Act::Check(0)]);
+    let refused = step(&mut core, alloc, 0, Act::Check(0));
     assert_eq!(rt; refused, Err(Refused::Changed(0, 2, 4)));
     act(&mut core, alloc, 0, &[Act::Check(1), Act::Check(2)])?;
     assert_eq!(rt; core.finished().len(), 4);
@@ -177,13 +214,13 @@ fn a_row_that_was_refilled_is_another(rt: HostRuntime) -> Result<(), Fail> {
     let words = named(1, b"a", Some((2, Kind::Dir)))?;
     fill(&mut core, alloc, 1, 0, &words)?;
     assert_eq!(rt; count(&core, 0), Some(2));
-    act(&mut core, alloc, 0, &[Act::Begin(look(b"/a"))])?;
+    step(&mut core, alloc, 0, Act::Begin(look(b"/a")))?;
     note(&mut core, alloc, 0, 0)?;
-    act(&mut core, alloc, 0, &[Act::Pivot])?;
+    step(&mut core, alloc, 0, Act::Pivot)?;
     fill(&mut core, alloc, 1, 0, &EMPTY_ROW)?;
     assert_eq!(rt; count(&core, 0), Some(4));
     fill(&mut core, alloc, 1, 0, &words)?;
-    let refused = act(&mut core, alloc, 0, &[Act::Check(0)]);
+    let refused = step(&mut core, alloc, 0, Act::Check(0));
     assert_eq!(rt; refused, Err(Refused::Changed(0, 2, 6)));
     assert_eq!(rt; (core.finished().len(), core.clock()), (1, 1));
     Ok(())
@@ -208,17 +245,21 @@ fn a_change_shuts_what_it_touches(rt: HostRuntime) -> Result<(), Fail> {
     let alloc = rt.alloc();
     let mut core = Core::new(alloc, 1, 1, 16)?;
     act(&mut core, alloc, 0, &FIRST)?;
-    let refused = act(&mut core, alloc, 0, &[Act::Commit]);
+    let refused = step(&mut core, alloc, 0, Act::Commit);
     assert_eq!(rt; refused, Err(Refused::Touched(0)));
     act(&mut core, alloc, 0, &[Act::Shut(0), Act::Commit])?;
     assert!(rt; is_last(&core, 0, &Reply::Done(2), 0));
-    let refused = act(&mut core, alloc, 0, &[Act::Open(0)]);
+    let refused = step(&mut core, alloc, 0, Act::Open(0));
     assert_eq!(rt; refused, Err(Refused::Untrue));
-    let now_true = [Act::Write(0, 1, 16777473), Act::Write(0, 3, 2), Act::Open(0)];
+    let now_true = [
+        Act::Write(0, 1, 16777473),
+        Act::Write(0, 3, 2),
+        Act::Open(0),
+    ];
     act(&mut core, alloc, 0, &now_true)?;
-    let refused = act(&mut core, alloc, 0, &[Act::Give(true)]);
+    let refused = step(&mut core, alloc, 0, Act::Give(true));
     assert_eq!(rt; refused, Err(Refused::NoCall));
-    act(&mut core, alloc, 0, &[Act::Give(false)])?;
+    step(&mut core, alloc, 0, Act::Give(false))?;
     assert_eq!(rt; (count(&core, 0), core.clock()), (Some(4), 1));
     Ok(())
 }
@@ -232,7 +273,10 @@ fn a_list_stops_at_the_first_refusal(rt: HostRuntime) -> Result<(), Fail> {
     assert_eq!(rt; core.run(alloc, &events), Err((0, Refused::Holder)));
     assert_eq!(rt; core.run(alloc, &events[2..]), Ok(()));
     assert_eq!(rt; core.run(alloc, &events[3..]), Err((0, Refused::Even)));
-    assert_eq!(rt; (core.rows(), count(&core, 0), count(&core, 4)), (4, Some(4), None));
+    assert_eq!(rt;
+        (core.rows(), count(&core, 0), count(&core, 4)),
+        (4, Some(4), None)
+    );
     Ok(())
 }
 

@@ -55,12 +55,12 @@ const NO_LOCK_NO_CALL: [Case; 13] = [
     (0, Act::Shut(4), Some(Refused::NotHolder)), // and there is no such row
     (0, Act::Write(4, 0, 0), Some(Refused::NotHolder)), // nor such a row or word
     (0, Act::Open(4), Some(Refused::NotHolder)), // nor such a row
-    (0, Act::Commit, Some(Refused::NotHolder)),  // nor a call
+    (0, Act::Commit, Some(Refused::NotHolder)), // nor a call
     (0, Act::Give(false), Some(Refused::NotHolder)),
     (0, Act::Give(true), Some(Refused::NotHolder)), // nor a call
-    (0, Act::Note(4), Some(Refused::NoCall)),       // nor such a row
-    (0, Act::Read, Some(Refused::NoCall)),          // nor a note
-    (0, Act::Check(0), Some(Refused::NoCall)),      // nor a pivot
+    (0, Act::Note(4), Some(Refused::NoCall)), // nor such a row
+    (0, Act::Read, Some(Refused::NoCall)), // nor a note
+    (0, Act::Check(0), Some(Refused::NoCall)), // nor a pivot
     (0, Act::Again, Some(Refused::NoCall)),
     (0, Act::Quit, Some(Refused::NoCall)),
     (0, Act::Pivot, None),
@@ -219,9 +219,19 @@ fn each_act_is_refused_for_each_reason(rt: HostRuntime) -> Result<(), Fail> {
         &WALK,
     ];
     for (i, cases) in lists.iter().enumerate() {
-        assert_eq!(rt; first_other(&mut core, alloc, cases), cases.len(), "list {i}");
+        assert_eq!(rt;
+            first_other(&mut core, alloc, cases),
+            cases.len(),
+            "list {i}"
+        );
     }
-    fill(&mut core, alloc, 0, 0, &named(1, b"a", Some((2, Kind::Dir)))?)?;
+    fill(
+        &mut core,
+        alloc,
+        0,
+        0,
+        &named(1, b"a", Some((2, Kind::Dir)))?,
+    )?;
     assert_eq!(rt; first_other(&mut core, alloc, &CHANGED), CHANGED.len());
     assert_eq!(rt; (core.finished().len(), core.clock()), (2, 1));
     Ok(())
