@@ -9,5 +9,6 @@ pub mod Holder
 pub mod Rows
 pub mod Walker
 pub mod Walks
+pub mod Kept
 pub mod Legal
 pub mod Opening
