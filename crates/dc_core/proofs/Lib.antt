@@ -17,3 +17,6 @@ pub mod Acted
 pub mod Rowed
 pub mod Stepped
 pub mod Spelled
+pub mod Recorded
+pub mod NotesRead
+pub mod Made

@@ -45,6 +45,14 @@ take_all_past f [] (suc n) past = refl
 take_all_past f (x ∷ xs) zero past = absurd (omega arith)
 take_all_past f (x ∷ xs) (suc n) past = ap (λ l. f x ∷ l) (take_all_past f xs n (omega arith))
 
+-- the records of the events that were done before the place of a refused one
+pub spanned_to : (s : State) (es : List Event) (k n : ℕ) → k ≡ n → AllDone s (take n es) → IsNew s → AreSpanned s (take k es)
+spanned_to s es k n same all new = all_spanned s (take k es) new (subst (λ m. AllDone s (take m es)) (sym same) all)
+
+-- and of all events
+pub spanned_past : (s : State) (events : List rust_event.Event) (n : ℕ) → length events ≤ n → AllDone s (take n (map event_shown events)) → IsNew s → AreSpanned s (map event_shown events)
+spanned_past s events n past all new = all_spanned s (map event_shown events) new (subst (AllDone s) (take_all_past event_shown events n past) all)
+
 pub at_or_shown : {A B : Type 0} (f : A → B) (l : List A) (i : ℕ) (d : A) → i < length l → get_elem? (map f l) i ≡ some (f (get_or l i d))
 at_or_shown f [] i d less = absurd (omega arith)
 at_or_shown f (x ∷ xs) zero d less = refl

@@ -64,3 +64,9 @@ pub unmarked : (l : List Note) (i : ℕ) → i < length l → (get_or l i no_not
 unmarked [] i less e = absurd (omega arith)
 unmarked (x ∷ xs) zero less e = λ k. record x { checked = sym e k } ∷ xs
 unmarked (x ∷ xs) (suc i) less e = ap (λ l. x ∷ l) (unmarked xs i (omega arith) e)
+
+-- one row more
+pub one_told : SpelledIsRead → (old new : List Row) (row : Row) (x : rust_note.Note) → new ≡ old ++ row ∷ [] → x.checked ≡ true → 1 ≤ length x.words.items → Spells x.words.items (row_shown row)
+    → facts_told new ≡ facts_told old ++ facts_if (note_shown x).checked (note_words (note_shown x)) []
+one_told read old new row x items on some spells =
+    ap facts_told items ∙ facts_told-snoc old row ∙ ap (λ l. facts_told old ++ l) (sym (ap (λ b. facts_if b (note_words (note_shown x)) []) on ∙ row_told read x row some spells))

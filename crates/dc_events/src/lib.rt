@@ -3,6 +3,8 @@
 #![tactic(auto)]
 
 mod laws;
+#[cfg(test)]
+mod tests;
 
 pub use laws::{
     events_keep_the_rule, loads_tell_nothing, new_tables_have_the_rule, records_are_legal,
