@@ -1,4 +1,4 @@
-use Rattle.std.proofs.Common.{◌≡◌, ◌++◌, [], ◌∷◌, sym, true, subst, rules}
+use Rattle.std.proofs.Common.{◌≡◌, ◌++◌, [], ◌∷◌, sym, subst, rules}
 use Rattle.dc_row.specs.Rows.{row_shown}
 use Rattle.dc_row.specs.Spelling.{Spells}
 use Rattle.dc_core.specs.Told.{AreRows}

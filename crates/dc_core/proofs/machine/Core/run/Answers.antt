@@ -1,4 +1,4 @@
-use Rattle.std.proofs.Common.{◌≤◌, length, sym, arith, map, rules}
+use Rattle.std.proofs.Common.{arith, map, rules}
 use Rattle.dc_core.specs.Shown.{event_shown}
 use Rattle.dc_core.proofs.Ran.{goes_on, stops_there, spanned_to, spanned_past}
 use Rattle.dc_core.proofs.machine.Core.run.Goals as goal
