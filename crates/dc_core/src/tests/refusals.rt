@@ -174,8 +174,8 @@ const WALK: [Case; 24] = [
     (1, Act::Check(0), Some(Refused::NoNote)), // it was checked
 ];
 
-/// Row 0 was filled anew.
-const CHANGED: [Case; 13] = [
+/// Row 0 was filled anew. Row 2 gets other counts after its note.
+const CHANGED: [Case; 24] = [
     (1, Act::Check(0), Some(Refused::NoNote)), // and its row has another count
     (1, Act::Check(1), Some(Refused::NoNote)),
     (1, Act::Again, None),
@@ -184,11 +184,22 @@ const CHANGED: [Case; 13] = [
     (1, Act::Pivot, None),
     (1, Act::Check(0), Some(Refused::NoNote)),
     (1, Act::Again, None),
+    (1, Act::Note(2), None),
+    (1, Act::Read, None),
+    (1, Act::Read, None),
+    (1, Act::Read, None),
+    (1, Act::Read, None),
+    (1, Act::Read, None),
+    (1, Act::Read, None),
+    (1, Act::Read, None),
+    (1, Act::Pivot, None),
     (0, Act::Take, None),
     (0, Act::Shut(2), None),
-    (1, Act::Note(2), Some(Refused::Odd)),
+    (1, Act::Check(0), Some(Refused::Changed(2, 0, 1))),
     (0, Act::Open(2), None),
+    (1, Act::Check(0), Some(Refused::Changed(2, 0, 2))),
     (0, Act::Give(false), None),
+    (0, Act::Give(false), Some(Refused::NotHolder)),
 ];
 
 /// The first case of a list, counted from 0, that went otherwise, or as many as there are.
