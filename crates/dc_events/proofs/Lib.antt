@@ -12,3 +12,4 @@ pub mod Walks
 pub mod Kept
 pub mod Legal
 pub mod Opening
+pub mod Passes

@@ -80,10 +80,10 @@ pub record RowFits (t : Tree) (words : List ℕ) (row : ℕ) : Type 0 where
   -- a row that has its last count is empty for good
   pub spent : count words row ≡ most → Spells (row_words words row) None
 
--- a number of each view, summed
-abbrev pub total : (View → ℕ) → List View → ℕ
+-- a number of each, summed
+abbrev pub total : {A : Type 0} → (A → ℕ) → List A → ℕ
 total f [] = 0
-total f (v ∷ vs) = f v + total f vs
+total f (x ∷ xs) = f x + total f xs
 
 -- how many records of a view altered the tree at p
 abbrev pub book_hits : ℕ → Book → ℕ

@@ -1,6 +1,6 @@
 //! Laws of the definitions, as contracts of functions that do nothing.
 
-ghost use Rattle.dc_events.specs.Laws.{HoldersKeepTheRule, WalkersKeepTheRule, LoadsTellNothing, NewTablesHaveTheRule, RecordsAreLegal};
+ghost use Rattle.dc_events.specs.Laws.{HoldersKeepTheRule, WalkersKeepTheRule, PassesKeepTheRule, LoadsTellNothing, NewTablesHaveTheRule, RecordsAreLegal};
 
 use dc_plain::{
     answers_from_true_facts_are_replies, opening_tree_is_well_formed,
@@ -24,6 +24,12 @@ pub fn events_keep_the_rule()
 /// Views that have the same walk, book and hold are one to the rule, whatever was loaded.
 pub fn loads_tell_nothing()
     ensures { LoadsTellNothing }
+{}
+
+/// What a pass has seen may be handed to a new pass, and a pass may take in what another did and saw:
+/// both keep the rule.
+pub fn passes_keep_the_rule()
+    ensures { PassesKeepTheRule }
 {}
 
 /// A new table has the rule.
