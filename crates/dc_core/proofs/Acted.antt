@@ -1,12 +1,8 @@
 -- What an act makes of the actors and of the notes that the program stores.
-use Rattle.std.proofs.Common.{◌≡◌, ℕ, zero, suc, ◌+◌, ◌-◌, ◌<◌, ◌≤◌, List, [], ◌∷◌, ◌++◌, length, get_or, set, map, drop, Option, Some, None, Result, Ok, Err, OnOk, OnErr, IfSome, true, option_map, refl, sym, ap, ◌∙◌, subst, inl, inr, Bool, false, IsTrue, ◌↔◌, true≢false, arith, append-nil}
+use Rattle.std.proofs.Common.{◌≡◌, ℕ, ◌-◌, ◌<◌, ◌≤◌, List, [], ◌∷◌, ◌++◌, length, get_or, set, map, Option, Some, None, Result, Ok, Err, OnOk, OnErr, refl, sym, ap, ◌∙◌, subst, inl, inr, Bool, false, IsTrue, ◌↔◌, true≢false, arith, append-nil}
 use Rattle.std.proofs.lemmas.List.{length-drop, map-append}
-use mathlib.Core.Option.{some}
-use lib.ListN.{get_elem?}
 use Rattle.atomic_table.proofs.Lists.{at_index}
 use Rattle.dc_row.specs.declared.TheConstants.{ROW_WORDS}
-use Rattle.dc_events.specs.Views.{Note}
-use Rattle.dc_events.specs.Rule.{NoteFits}
 use Rattle.dc_core.specs.Machine.{State, Actor, idle}
 use Rattle.dc_core.specs.Lives.{view_of, Lives}
 use Rattle.dc_core.specs.Shown.{actor_shown, note_shown, state_of}

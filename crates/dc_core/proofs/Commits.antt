@@ -4,23 +4,26 @@ use Rattle.std.proofs.lemmas.Bool.Decides.{nat_tests}
 use Rattle.std.proofs.lemmas.List.{map-append}
 use mathlib.Core.Option.{some}
 use lib.ListN.{get_elem?}
-use Rattle.dc_plain.specs.Facts.{Fact}
 use Rattle.dc_plain.specs.Requests.{Request}
-use Rattle.dc_plain.specs.Runs.{reply_of, tree_after, alters}
+use Rattle.dc_plain.specs.Runs.{reply_of, tree_after, tree_after_all, alters}
+use Rattle.dc_plain.specs.Trees.{Tree, empty_tree}
 use Rattle.dc_events.specs.Views.{View}
 use Rattle.dc_events.specs.Standing.{tree_of}
-use Rattle.dc_events.specs.Rows.{most, base_of, count, IsUntouched}
+use Rattle.dc_events.specs.Rows.{most, IsUntouched}
 use Rattle.dc_events.specs.Rule.{Rule}
 use Rattle.dc_events.specs.Laws.{HoldersKeepTheRule}
 use Rattle.dc_events.specs.Walks.{no_walk}
-use Rattle.dc_events.specs.Effects.{committed, record_of, with_seen, with_record}
+use Rattle.dc_events.specs.Effects.{committed, record_of}
 use Rattle.dc_core.specs.Machine.{State, Actor, Act, Event, actor_at, clock_of, done}
 use Rattle.dc_core.specs.Machine.Act.{Commit}
 use Rattle.dc_core.specs.Lives.{Done, finished_of, strand, hold_of, view_of, views_from, LivesWith, Lives}
-use Rattle.dc_core.specs.Refusals.{Refusal, Answers, UnlessRow, Unless, Passes, IsTouched}
+use Rattle.dc_core.specs.Refusals.{Refusal, Answers, UnlessRow, Passes, IsTouched}
 use Rattle.dc_core.specs.Refusals.Refusal.{Touched}
-use Rattle.dc_events.proofs.Records.{tree_of-snoc}
 use Rattle.dc_core.proofs.Seats.{one_known, passed, at_or, held_so, set_all, unheld, here, other_holds_not, strand_snoc}
+
+tree_snoc : (limit : ℕ) (t : Tree) (h : List Request) (c : Request) → tree_after_all limit t (h ++ c ∷ []) ≡ tree_after limit (tree_after_all limit t h) c
+tree_snoc limit t [] c = refl
+tree_snoc limit t (x ∷ xs) c = tree_snoc limit (tree_after limit t x) xs c
 
 own_one : (j : ℕ) → (j == j) ≡ true
 own_one j = grind (arith, nat_tests)
@@ -79,7 +82,7 @@ commit_kept laws s j (hist, ds, L) ok = let p = passed ok in let q = passed p.1 
       ds ++ d ∷ [],
       record {
         rule = lived;
-        tree = ap (λ z. tree_after s.limit z call) L.tree ∙ sym (tree_of-snoc s.limit hist call);
+        tree = ap (λ z. tree_after s.limit z call) L.tree ∙ sym (tree_snoc s.limit empty_tree hist call);
         finished = (λ i. L.finished i ++ record { actor = j; call = call; reply = reply_of s.limit (L.tree i) call; at = clock i } ∷ []) ∙ sym (map-append finished_of ds (d ∷ []));
         known = one_known ds s.actors j a (record a { walk = no_walk; seen = clock_of s + 1 }) d at refl L.known;
       },

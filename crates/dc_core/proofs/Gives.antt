@@ -1,45 +1,45 @@
 -- Giving the lock back, and a read, keep the rule of the core.
-use Rattle.std.proofs.Common.{◌≡◌, ℕ, zero, suc, ◌+◌, ◌%◌, ◌<◌, ◌≤◌, ◌≢◌, ◌⊎◌, Bool, true, false, List, [], ◌∷◌, ◌++◌, length, get_or, set, map, Option, Some, None, refl, sym, ap, ap₂, ◌∙◌, subst, arith, inl, inr}
+use Rattle.std.proofs.Common.{◌≡◌, ℕ, ◌%◌, true, false, List, [], ◌∷◌, ◌++◌, length, set, None, refl, sym, ap, ◌∙◌, subst, arith, true≢false, not}
 use Rattle.std.proofs.lemmas.List.{map-append}
-use mathlib.Core.Option.{some}
-use lib.ListN.{get_elem?}
 use Rattle.dc_plain.specs.Requests.{Request}
-use Rattle.dc_plain.specs.Runs.{reply_of, alters}
+use Rattle.dc_plain.specs.LivingLaws.{SameTreeDecides}
+use Rattle.dc_plain.specs.Runs.{reply_of, tree_after, alters, same_tree}
+use Rattle.dc_plain.specs.Trees.{Tree}
 use Rattle.dc_events.specs.Views.{View}
 use Rattle.dc_events.specs.Standing.{tree_of}
 use Rattle.dc_events.specs.Rows.{count}
-use Rattle.dc_events.specs.Rule.{AllEven, Rule}
+use Rattle.dc_events.specs.Rule.{Rule}
 use Rattle.dc_events.specs.Walks.{no_walk}
-use Rattle.dc_events.specs.Effects.{gave, answered, record_of, empty_hold}
-use Rattle.dc_core.specs.Machine.{State, Actor, Act, Event, actor_at, clock_of, done}
+use Rattle.dc_events.specs.Effects.{answered, record_of, empty_hold}
+use Rattle.dc_core.specs.Machine.{State, Actor, actor_at, clock_of, done}
 use Rattle.dc_core.specs.Machine.Act.{Give}
-use Rattle.dc_core.specs.Lives.{Done, finished_of, strand, hold_of, view_of, views_from, LivesWith, Lives}
-use Rattle.dc_core.specs.Refusals.{Answers, Unless, Passes, IsOdd, Refusal}
+use Rattle.dc_core.specs.Lives.{Done, finished_of, strand, hold_of, view_of, views_from, Lives}
+use Rattle.dc_core.specs.Refusals.{Answers, Unless, Passes, IsOdd}
 use Rattle.dc_core.specs.Refusals.Refusal.{OddRow, NoCall, Alters}
 use Rattle.dc_core.proofs.Seats.{one_known, still_known, passed, held_not, held_so, set_all, unheld, here, other_holds_not}
-use Rattle.dc_events.proofs.Holder as holder
+use Rattle.dc_core.proofs.Below.{EventsBelow}
 use Rattle.dc_core.proofs.Kept.{there}
 use Rattle.dc_core.proofs.Commits.{passed_row, strand_mine, strand_other}
 
 pub even_if : (n : ℕ) → (n % 2 ≡ 1 → ⊥) → n % 2 ≡ 0
 even_if n other = omega arith
 
-pub give_kept : (s : State) (j : ℕ) → Lives s → Answers s (record { actor = j; act = Give false }) None → Lives (done s j (Give false))
-give_kept s j (hist, ds, L) ok = let p = passed ok in let q = passed p.1 in let x = passed_row s.rows (IsOdd s) OddRow Passes q.1 in let a : Actor = actor_at s j in let at = there s j p.0 in let has = held_so a.holds q.0 in
+pub give_kept : EventsBelow → (s : State) (j : ℕ) → Lives s → Answers s (record { actor = j; act = Give false }) None → Lives (done s j (Give false))
+give_kept laws s j (hist, ds, L) ok = let p = passed ok in let q = passed p.1 in let x = passed_row s.rows (IsOdd s) OddRow Passes q.1 in let a : Actor = actor_at s j in let at = there s j p.0 in let has = held_so a.holds q.0 in
     let v : View = view_of s.words hist ds j a in let words : List ℕ = set s.words 1 0 in let a' : Actor = record a { holds = false } in
-    let kept = holder.gives L.rule j v (here s hist ds L j a at) (ap (λ b. (hold_of b s.words hist).holds) has) (λ row less. even_if (count s.words row) (x.0 row less)) in
+    let kept = laws.holders.give _ _ _ _ _ j v L.rule (here s hist ds L j a at) (ap (λ b. (hold_of b s.words hist).holds) has) (λ row less. even_if (count s.words row) (x.0 row less)) in
     let views = set_all s.words words hist hist ds ds j s.actors a' (λ i u ne e. unheld s.words words hist hist ds ds i u (other_holds_not s hist ds L j a at has i u ne e) refl) in
     (hist, ds, record { rule = subst (λ vs. Rule s.limit s.rows words vs hist) views kept; tree = L.tree; finished = L.finished; known = still_known ds s.actors j a' L.known })
 
-pub answer_kept : (s : State) (j : ℕ) → Lives s → Answers s (record { actor = j; act = Give true }) None → Lives (done s j (Give true))
-answer_kept s j (hist, ds, L) ok = let p = passed ok in let q = passed p.1 in let a : Actor = actor_at s j in let call : Request = a.walk.call in
+pub answer_kept : EventsBelow → (s : State) (j : ℕ) → Lives s → Answers s (record { actor = j; act = Give true }) None → Lives (done s j (Give true))
+answer_kept laws s j (hist, ds, L) ok = let p = passed ok in let q = passed p.1 in let a : Actor = actor_at s j in let call : Request = a.walk.call in
     let x = passed_row s.rows (IsOdd s) OddRow (Unless (a.walk.busy ≡ false) NoCall (Unless (alters s.limit s.tree call ≡ true) Alters Passes)) q.1 in let y = passed x.1 in let z = passed y.1 in
     let at = there s j p.0 in let has = held_so a.holds q.0 in
     let v : View = view_of s.words hist ds j a in let words : List ℕ = set s.words 1 0 in let a' : Actor = record a { walk = no_walk; seen = clock_of s; holds = false } in
     let clock : clock_of s ≡ length hist = L.rule.clock in
     let held : v.hold ≡ record { holds = true; history = hist; words = s.words } = ap (λ b. hold_of b s.words hist) has in
     let flat : alters s.limit (tree_of s.limit hist) call ≡ false = subst (λ t. alters s.limit t call ≡ false) L.tree (held_not (alters s.limit s.tree call) z.0) in
-    let kept = holder.answers L.rule j v (here s hist ds L j a at) (ap (λ h. h.holds) held) (λ row less. even_if (count s.words row) (x.0 row less)) call flat in
+    let kept = laws.holders.answer _ _ _ _ _ j v L.rule (here s hist ds L j a at) (ap (λ h. h.holds) held) (λ row less. even_if (count s.words row) (x.0 row less)) call flat in
     let d : Done = record { actor = j; record_made = record_of s.limit hist call } in
     let same : answered s.limit v call ≡ view_of words hist (ds ++ d ∷ []) j a' = λ i. record {
       walk = no_walk;
@@ -66,3 +66,7 @@ pub answer_flat : (s : State) (j : ℕ) → Answers s (record { actor = j; act =
 answer_flat s j ok = let call : Request = (actor_at s j).walk.call in
     let x = passed_row s.rows (IsOdd s) OddRow (Unless ((actor_at s j).walk.busy ≡ false) NoCall (Unless (alters s.limit s.tree call ≡ true) Alters Passes)) (passed (passed ok).1).1 in
     held_not (alters s.limit s.tree call) (passed (passed x.1).1).0
+
+-- and leaves the tree
+pub unaltered : SameTreeDecides → (limit : ℕ) (t : Tree) (call : Request) → alters limit t call ≡ false → tree_after limit t call ≡ t
+unaltered same limit t call flat = (same (tree_after limit t call) t).0 (held_so (same_tree (tree_after limit t call) t) (λ other. true≢false (sym (ap not other) ∙ flat)))

@@ -1,3 +1,4 @@
+pub mod Below
 pub mod Told
 pub mod Shown
 pub mod Seats
@@ -16,3 +17,6 @@ pub mod Acted
 pub mod Rowed
 pub mod Stepped
 pub mod Spelled
+pub mod Recorded
+pub mod NotesRead
+pub mod Made

@@ -1,12 +1,12 @@
 -- A new core keeps the rule, and no call has begun in it.
-use Rattle.std.proofs.Common.{◌≡◌, ℕ, zero, suc, ◌+◌, ◌<◌, List, [], ◌∷◌, length, replicate, false, refl, sym, ap, ◌∙◌, subst}
+use Rattle.std.proofs.Common.{◌≡◌, ℕ, zero, suc, List, [], ◌∷◌, replicate, refl, sym, ap, subst}
 use mathlib.Core.Option.{some, some-injective, some-ne-none}
 use lib.ListN.{get_elem?}
 use Rattle.dc_events.specs.Rows.{opening_words}
 use Rattle.dc_events.specs.Rule.{Rule}
 use Rattle.dc_events.specs.Effects.{nobody}
-use Rattle.dc_events.proofs.Opening.{opening_rule}
-use Rattle.dc_core.specs.Machine.{State, Actor, idle, opening}
+use Rattle.dc_events.specs.Laws.{NewTablesHaveTheRule}
+use Rattle.dc_core.specs.Machine.{Actor, idle, opening}
 use Rattle.dc_core.specs.Lives.{views_from, Lives}
 use Rattle.dc_core.proofs.Traces.{Traced, traced_at_first}
 
@@ -14,12 +14,12 @@ idle_views : (words : List ℕ) (k n : ℕ) → views_from words [] [] k (replic
 idle_views words k zero = refl
 idle_views words k (suc n) = ap (λ vs. nobody ∷ vs) (idle_views words (suc k) n)
 
-pub opening_lives : (limit rows actors : ℕ) → Lives (opening limit rows actors)
-opening_lives limit rows actors = (
+pub opening_lives : NewTablesHaveTheRule → (limit rows actors : ℕ) → Lives (opening limit rows actors)
+opening_lives new limit rows actors = (
   [],
   [],
   record {
-    rule = subst (λ vs. Rule limit rows (opening_words rows) vs []) (sym (idle_views (opening_words rows) 0 actors)) (opening_rule limit rows actors);
+    rule = subst (λ vs. Rule limit rows (opening_words rows) vs []) (sym (idle_views (opening_words rows) 0 actors)) (new limit rows actors);
     tree = refl;
     finished = refl;
     known = λ i d e. absurd (some-ne-none d (sym e));

@@ -1,8 +1,8 @@
 -- A list of events that were done one after the other.
-use Rattle.std.proofs.Common.{◌≡◌, ℕ, zero, suc, ◌+◌, ◌<◌, ◌≤◌, ◌⊎◌, ⊎_elim, inl, inr, List, [], ◌∷◌, length, take, map, get_or, Option, Some, None, refl, sym, ap, ◌∙◌, subst, arith}
+use Rattle.std.proofs.Common.{◌≡◌, ℕ, zero, suc, ◌+◌, ◌<◌, ◌≤◌, ◌⊎◌, ⊎_elim, inl, inr, List, [], ◌∷◌, length, take, map, get_or, None, refl, sym, ap, ◌∙◌, subst, arith}
 use mathlib.Core.Option.{some, some-injective, some-ne-none}
 use lib.ListN.{get_elem?}
-use Rattle.dc_core.specs.Machine.{State, Event, Finished, after, after_all, opening}
+use Rattle.dc_core.specs.Machine.{State, Event, after, after_all}
 use Rattle.dc_core.specs.Refusals.{Answers}
 use Rattle.dc_core.specs.Listed.{AllDone, AreSpanned, IsNew, StopsFor}
 use Rattle.dc_core.specs.Shown.{event_shown, refusal_shown}
@@ -44,6 +44,14 @@ take_all_past f [] zero past = refl
 take_all_past f [] (suc n) past = refl
 take_all_past f (x ∷ xs) zero past = absurd (omega arith)
 take_all_past f (x ∷ xs) (suc n) past = ap (λ l. f x ∷ l) (take_all_past f xs n (omega arith))
+
+-- the records of the events that were done before the place of a refused one
+pub spanned_to : (s : State) (es : List Event) (k n : ℕ) → k ≡ n → AllDone s (take n es) → IsNew s → AreSpanned s (take k es)
+spanned_to s es k n same all new = all_spanned s (take k es) new (subst (λ m. AllDone s (take m es)) (sym same) all)
+
+-- and of all events
+pub spanned_past : (s : State) (events : List rust_event.Event) (n : ℕ) → length events ≤ n → AllDone s (take n (map event_shown events)) → IsNew s → AreSpanned s (map event_shown events)
+spanned_past s events n past all new = all_spanned s (map event_shown events) new (subst (AllDone s) (take_all_past event_shown events n past) all)
 
 pub at_or_shown : {A B : Type 0} (f : A → B) (l : List A) (i : ℕ) (d : A) → i < length l → get_elem? (map f l) i ≡ some (f (get_or l i d))
 at_or_shown f [] i d less = absurd (omega arith)

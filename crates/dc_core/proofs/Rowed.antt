@@ -1,5 +1,5 @@
 -- What the words of a row spell, by the row that was decoded from them.
-use Rattle.std.proofs.Common.{◌≡◌, ◌↔◌, ℕ, ◌+◌, ◌<◌, Bool, true, false, List, Option, Some, None, option_map, Result, Ok, Err, IfOk, IfSome, IsTrue, refl, sym, ap, ◌∙◌, subst, arith}
+use Rattle.std.proofs.Common.{◌≡◌, ◌↔◌, ℕ, ◌+◌, ◌%◌, ◌<◌, Bool, false, true≢false, ap, List, Option, Some, None, option_map, Result, Ok, Err, IfOk, IfSome, IsTrue, sym, ◌∙◌, subst, arith}
 use mathlib.Core.Logic.{dite}
 use native.Mathlib.Decide.{ℕ_discrete}
 use Rattle.dc_row.specs.Rows.{row_shown}
@@ -9,7 +9,7 @@ use Rattle.dc_plain.specs.Facts.{key_of}
 use Rattle.dc_plain.specs.Requests.{Request}
 use Rattle.dc_plain.specs.Runs.{Touches}
 use Rattle.dc_row.specs.Spelling.{Spells, TellsRow}
-use Rattle.dc_events.specs.Rows.{row_words}
+use Rattle.dc_events.specs.Rows.{count, row_words}
 use Rattle.dc_core.specs.Machine.{State}
 use Rattle.dc_core.specs.Refusals.{IsEven, IsTouched}
 
@@ -39,6 +39,18 @@ module _ (s : State) (call : Request) (row : ℕ) where
   -- a row without one
   pub touched_none : (o : Option (Option Fact)) (told : Option Fact) → o ≡ Some told → TellsRow ws o → told ≡ None → IsTouched s call row → ⊥
   touched_none o told is tells none h = none_some (sym none ∙ same_fact ws o told is tells (Some h.1) h.2)
+
+even_or : (n : ℕ) → (n % 2 ≡ 1 → ⊥) → n % 2 ≡ 0
+even_or n other = omega arith
+
+-- the same of words that were decoded
+module _ (s : State) (call : Request) (row : ℕ) (words : List ℕ) (o : Option Row) (r : Row) (is : words ≡ row_words s.words row) (some : o ≡ Some r) (tells : TellsRow words (option_map row_shown o)) where
+  pub with_fact : (f : Fact) → (count s.words row % 2 ≡ 1 → ⊥) → Spells words (row_shown r) → Some f ≡ row_shown r → (b : Bool) → (IsTrue b ↔ Touches s.limit s.tree call (key_of f)) → IsTrue b ↔ IsTouched s call row
+  with_fact f odd spells fact = touched_some s call row (option_map row_shown o) (row_shown r) f (even_or (count s.words row) odd) (ap (option_map row_shown) some)
+      (subst (λ l. TellsRow l (option_map row_shown o)) is tells) (subst (λ l. Spells l (row_shown r)) is spells) fact
+
+  pub without_fact : row_shown r ≡ None → IsTrue false ↔ IsTouched s call row
+  without_fact none = (λ t. absurd (true≢false (sym t)), λ h. absurd (touched_none s call row (option_map row_shown o) (row_shown r) (ap (option_map row_shown) some) (subst (λ l. TellsRow l (option_map row_shown o)) is tells) none h))
 
 pub if_ok : {A E : Type 0} (r : Result A E) (P Q : A → Type 0) → ((a : A) → P a → Q a) → IfOk r P → IfOk r Q
 if_ok (Ok a) P Q f p = f a p

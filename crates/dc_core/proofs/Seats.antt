@@ -1,15 +1,12 @@
 -- The views made of what the core stores, us one actor's event changes them.
-use Rattle.std.proofs.Common.{◌≡◌, ℕ, zero, suc, ◌+◌, ◌<◌, ◌≢◌, ◌==◌, ◌⊎◌, Bool, true, false, List, [], ◌∷◌, ◌++◌, length, get_or, set, Option, Some, None, refl, sym, ap, ap₂, ◌∙◌, subst, arith, inl, inr, ⊎_elim, true≢false, cond, length-set}
+use Rattle.std.proofs.Common.{◌≡◌, ℕ, zero, suc, ◌+◌, ◌<◌, ◌≢◌, ◌==◌, ◌⊎◌, Bool, true, false, List, [], ◌∷◌, ◌++◌, length, get_or, set, Some, None, refl, sym, ap, ap₂, ◌∙◌, subst, arith, inl, inr, ⊎_elim, cond, length-set}
 use mathlib.Core.Option.{some, some-ne-none}
 use lib.ListN.{get_elem?}
 use Rattle.dc_plain.specs.Requests.{Request}
-use Rattle.dc_plain.proofs.Holders.{decided}
-use Rattle.dc_events.specs.Views.{Record, View}
-use Rattle.dc_events.specs.Rule.{Rule}
-use Rattle.dc_core.specs.Machine.{State, Actor, idle}
+use Rattle.dc_events.specs.Views.{Record}
+use Rattle.dc_core.specs.Machine.{State, Actor}
 use Rattle.dc_core.specs.Lives.{Done, strand, hold_of, view_of, views_from, LivesWith}
-use Rattle.dc_core.specs.Refusals.{Refusal, Unless}
-use Rattle.dc_events.proofs.Steps.{within_list}
+use Rattle.dc_core.specs.Refusals.{Refusal}
 use Rattle.atomic_table.proofs.Lists.{at_snoc}
 
 -- a test that did not refuse
@@ -26,6 +23,11 @@ met (inl is) = absurd (none_some is.1)
     none_some : {r : Refusal} → None ≡ Some r → ⊥
     none_some e = cc
 met (inr rest) = rest
+
+pub within_list : {A : Type 0} (l : List A) (i : ℕ) (a : A) → get_elem? l i ≡ some a → i < length l
+within_list [] i a e = absurd (some-ne-none a (sym e))
+within_list (x ∷ xs) zero a e = omega arith
+within_list (x ∷ xs) (suc i) a e = let r = within_list xs i a e in omega arith
 
 pub at_or : {A : Type 0} (us : List A) (i : ℕ) (d : A) → i < length us → get_elem? us i ≡ some (get_or us i d)
 at_or [] i d less = absurd (omega arith)

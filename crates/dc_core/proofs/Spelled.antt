@@ -1,16 +1,14 @@
 -- Under the rule the checked notes of an actor that answers spell rows.
-use Rattle.std.proofs.Common.{◌≡◌, ℕ, zero, suc, ◌+◌, ◌-◌, ◌<◌, ◌≤◌, ◌≢◌, true, false, List, [], ◌∷◌, length, get_or, map, Option, Some, None, refl, sym, ap, ◌∙◌, subst, arith, inl, inr, true≢false}
+use Rattle.std.proofs.Common.{◌≡◌, ℕ, suc, ◌<◌, ◌≤◌, ◌≢◌, true, false, List, [], ◌∷◌, length, Option, None, refl, sym, ◌∙◌, subst, arith, inl, inr, ⊎_elim, true≢false}
 use mathlib.Core.Option.{some}
 use lib.ListN.{get_elem?}
 use Rattle.dc_plain.specs.Facts.{Fact}
-use Rattle.dc_plain.specs.Requests.{Answer}
 use Rattle.dc_row.specs.Spelling.{Spells}
-use Rattle.dc_events.specs.Views.{Note, View, Walk}
+use Rattle.dc_events.specs.Views.{Note}
 use Rattle.dc_events.specs.Rows.{count, note_words, IsWhole}
-use Rattle.dc_events.specs.Noted.{answer_in}
 use Rattle.dc_events.specs.Walks.{walk_marked, note_of, no_note}
-use Rattle.dc_events.proofs.Walker as walker
-use Rattle.dc_core.specs.Machine.{State, Actor, Event, actor_at}
+use Rattle.atomic_table.proofs.Lists.{at_set}
+use Rattle.dc_core.specs.Machine.{State, Actor, actor_at}
 use Rattle.dc_core.specs.Machine.Act.{Pivot, Check}
 use Rattle.dc_core.specs.Lives.{view_of, Lives}
 use Rattle.dc_core.specs.Refusals.{Answers}
@@ -45,5 +43,9 @@ module _ (s : State) (j i : ℕ) (ok : Answers s (record { actor = j; act = Chec
   check_spelled (hist, ds, L) = let p = passed ok in let q = passed p.1 in let r = passed q.1 in let t = passed r.1 in let u = passed t.1 in let a : Actor = actor_at s j in
       let turned = held_so a.walk.pivoted r.0 in let whole : IsWhole (note_of a.walk i) = same_number _ _ (λ h. t.0 (inr (inl h))) in
       let same : (note_of a.walk i).count ≡ count s.words (note_of a.walk i).row = sym (same_number _ _ u.0) in
-      let f = walker.marks (view_of s.words hist ds j a) i turned (at_or a.walk.notes i no_note check_less) whole same (L.rule.fits j (view_of s.words hist ds j a) (here s hist ds L j a (there s j p.0))) in
-      spelled_each (walk_marked a.walk i).notes (λ k x at checked. let tells = f.walk.told check_busy turned k x at ((f.walk.noted k x at).whole checked, inl checked) in (tells.fact, tells.spells))
+      let f = (L.rule.fits j (view_of s.words hist ds j a) (here s hist ds L j a (there s j p.0))).walk in let one : Note = note_of a.walk i in
+      spelled_each (walk_marked a.walk i).notes (λ k x at checked. ⊎_elim
+      (λ (h : (k ≡ i) × (record one { checked = true } ≡ x)). let tells = f.told check_busy turned i one (at_or a.walk.notes i no_note check_less) (whole, inr same) in
+      subst (λ (y : Note). (fact : Option Fact) × Spells (note_words y) fact) h.1 (tells.fact, tells.spells))
+      (λ (h : (k ≢ i) × (get_elem? a.walk.notes k ≡ some x)). let tells = f.told check_busy turned k x h.1 ((f.noted k x h.1).whole checked, inl checked) in (tells.fact, tells.spells))
+      (at_set a.walk.notes i k (record one { checked = true }) x at))

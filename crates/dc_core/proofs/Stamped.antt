@@ -2,7 +2,7 @@
 use Rattle.std.proofs.Common.{◌≡◌, ◌≢◌, ℕ, zero, suc, ◌+◌, ◌<◌, ◌≤◌, ◌==◌, Bool, true, false, cond, List, [], ◌∷◌, length, set, map, filter, refl, sym, ap, ap₂, ◌∙◌, subst, arith, length-set}
 use Rattle.std.proofs.lemmas.Bool.Decides.{nat_tests}
 use mathlib.Core.Logic.{dite}
-use mathlib.Core.Option.{some, some-injective, some-ne-none}
+use mathlib.Core.Option.{some, some-injective}
 use native.Mathlib.Decide.{ℕ_discrete}
 use lib.ListN.{get_elem?}
 use Rattle.atomic_table.proofs.Lists.{set_here, set_else}
@@ -11,7 +11,7 @@ use Rattle.dc_plain.specs.Legal as stamps
 use Rattle.dc_plain.specs.Requests.{Request}
 use Rattle.dc_plain.specs.Runs.{alters, tree_after, clock_after}
 use Rattle.dc_plain.specs.Trees.{Tree}
-use Rattle.dc_events.proofs.Steps.{within_list}
+use Rattle.dc_core.proofs.Seats.{within_list}
 use Rattle.dc_events.specs.Legal.{Runs, Merges, Legal}
 use Rattle.dc_events.specs.Standing.{weight}
 use Rattle.dc_events.specs.Views.{Record}

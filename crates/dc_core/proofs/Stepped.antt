@@ -1,41 +1,41 @@
 -- Whatever the event, the rule is kept; and what a step that was refused says.
-use Rattle.std.proofs.Common.{◌≡◌, ◌⊎◌, ◌↔◌, ℕ, Bool, true, false, not, Option, Some, None, Result, Ok, Err, OnOk, OnErr, MatchResult, IsTrue, refl, sym, ap, ◌∙◌, subst, inl, inr, true≢false}
-use Rattle.dc_events.specs.Laws.{HoldersKeepTheRule}
+use Rattle.std.proofs.Common.{◌≡◌, ◌⊎◌, ◌↔◌, ℕ, Bool, true, false, not, Option, Some, None, Result, Ok, Err, MatchResult, IsTrue, refl, sym, ap, ◌∙◌, subst, inl, inr, true≢false}
 use Rattle.dc_core.specs.Machine.{State, Act, Event, after}
 use Rattle.dc_core.specs.Machine.Act.{Begin, Take, Shut, Write, Open, Commit, Give, Note, Read, Pivot, Check, Again, Quit}
 use Rattle.dc_core.specs.Lives.{Lives}
 use Rattle.dc_core.specs.Refusals.{Refusal, Answers, Unless, Needs, Passes}
-use Rattle.dc_core.specs.Shown.{reason, refusal_shown, IsMemory}
+use Rattle.dc_core.specs.Shown.{reason, refusal_shown}
 use Rattle.dc_core.specs.Steps.{Steps}
 use Rattle.dc_core.specs.declared.refused.Refused as rust_refused
 use Rattle.dc_core.specs.declared.refused.Refused.TheVariants as refusals
+use Rattle.dc_core.proofs.Below.{EventsBelow}
 use Rattle.dc_core.proofs.Seats.{passed}
 use Rattle.dc_core.proofs.Kept.{take_kept, shut_kept, write_kept, open_kept, note_kept, begin_kept, again_kept, quit_kept}
 use Rattle.dc_core.proofs.Commits.{commit_kept}
 use Rattle.dc_core.proofs.Settles.{pivot_kept, check_kept, read_kept}
 use Rattle.dc_core.proofs.Gives.{give_kept, answer_kept}
 
-pub event_kept : HoldersKeepTheRule → (s : State) (j : ℕ) (act : Act) → Lives s → Answers s (record { actor = j; act = act }) None → Lives (after s (record { actor = j; act = act }))
-event_kept laws s j (Begin call) = begin_kept s j call
-event_kept laws s j Take = take_kept s j
-event_kept laws s j (Shut row) = shut_kept s j row
-event_kept laws s j (Write row i x) = write_kept s j row i x
-event_kept laws s j (Open row) = open_kept s j row
-event_kept laws s j Commit = commit_kept laws s j
-event_kept laws s j (Give false) = give_kept s j
-event_kept laws s j (Give true) = answer_kept s j
-event_kept laws s j (Note row) = note_kept s j row
-event_kept laws s j Read = read_kept s j
-event_kept laws s j Pivot = pivot_kept s j
-event_kept laws s j (Check i) = check_kept s j i
-event_kept laws s j Again = again_kept s j
-event_kept laws s j Quit = quit_kept s j
+pub event_kept : EventsBelow → (s : State) (j : ℕ) (act : Act) → Lives s → Answers s (record { actor = j; act = act }) None → Lives (after s (record { actor = j; act = act }))
+event_kept laws s j (Begin call) = begin_kept laws s j call
+event_kept laws s j Take = take_kept laws s j
+event_kept laws s j (Shut row) = shut_kept laws s j row
+event_kept laws s j (Write row i x) = write_kept laws s j row i x
+event_kept laws s j (Open row) = open_kept laws s j row
+event_kept laws s j Commit = commit_kept laws.holders s j
+event_kept laws s j (Give false) = give_kept laws s j
+event_kept laws s j (Give true) = answer_kept laws s j
+event_kept laws s j (Note row) = note_kept laws s j row
+event_kept laws s j Read = read_kept laws s j
+event_kept laws s j Pivot = pivot_kept laws s j
+event_kept laws s j (Check i) = check_kept laws s j i
+event_kept laws s j Again = again_kept laws s j
+event_kept laws s j Quit = quit_kept laws s j
 
 pub right : {X : Type 0} → ⊥ ⊎ X → X
 right (inl never) = absurd never
 right (inr x) = x
 
-pub stepped_lives : {A : Type 0} → HoldersKeepTheRule → (s s' : State) (e : Event) (r : Result A rust_refused.Refused) → Lives s → Steps s e r s' → Lives s'
+pub stepped_lives : {A : Type 0} → EventsBelow → (s s' : State) (e : Event) (r : Result A rust_refused.Refused) → Lives s → Steps s e r s' → Lives s'
 stepped_lives laws s s' e (Ok value) lives step = subst Lives (sym step.done) (event_kept laws s e.actor e.act lives (right step.refused))
 stepped_lives laws s s' e (Err why) lives step = subst Lives (sym step.err) lives
 

@@ -3,14 +3,13 @@ use Rattle.std.proofs.Common.{◌≡◌, ℕ, zero, suc, ◌+◌, ◌<◌, ◌�
 use Rattle.std.proofs.lemmas.List.{drop_more}
 use Rattle.dc_plain.specs.Facts.{Fact}
 use Rattle.dc_row.specs.Rows.{row_shown}
-use Rattle.dc_row.specs.Spelling.{Spells, TellsRow, has_spelling}
+use Rattle.dc_row.specs.Spelling.{Spells, has_spelling}
 use Rattle.dc_row.specs.declared.row.Row.{Row}
-use Rattle.dc_row.specs.Decoding.{fact_in}
+use Rattle.dc_row.specs.Decoding.{SpelledIsRead, fact_in}
 use Rattle.dc_events.specs.Views.{Note}
 use Rattle.dc_events.specs.Rows.{note_words}
 use Rattle.dc_events.specs.Noted.{with_fact, facts_if, facts_in}
 use Rattle.dc_events.specs.Walks.{no_note}
-use Rattle.dc_row.proofs.Decoded.{spelled_is_read}
 use Rattle.dc_core.specs.Shown.{note_shown}
 use Rattle.dc_core.specs.Told.{AreSpelled, AreRows, facts_told}
 use Rattle.dc_core.specs.declared.seat.Note as rust_note
@@ -42,8 +41,8 @@ counted_words [] some = absurd (omega arith)
 counted_words (w ∷ ws) some = refl
 
 -- the words spell the row that was decoded
-pub row_told : (x : rust_note.Note) (row : Row) → 1 ≤ length x.words.items → Spells x.words.items (row_shown row) → facts_if true (note_words (note_shown x)) [] ≡ with_fact (Some (row_shown row)) []
-row_told x row some s = ap (λ ws. with_fact (fact_in ws) []) (counted_words x.words.items some) ∙ ap (λ o. with_fact o []) (spelled_is_read x.words.items (row_shown row) s)
+pub row_told : SpelledIsRead → (x : rust_note.Note) (row : Row) → 1 ≤ length x.words.items → Spells x.words.items (row_shown row) → facts_if true (note_words (note_shown x)) [] ≡ with_fact (Some (row_shown row)) []
+row_told read x row some s = ap (λ ws. with_fact (fact_in ws) []) (counted_words x.words.items some) ∙ ap (λ o. with_fact o []) (read x.words.items (row_shown row) s)
 
 -- one note more
 pub told_on : (rows rows' : List Row) (notes : List rust_note.Note) (i : ℕ) (x : rust_note.Note) → i < length notes → x ≡ get_or notes i x
@@ -65,3 +64,9 @@ pub unmarked : (l : List Note) (i : ℕ) → i < length l → (get_or l i no_not
 unmarked [] i less e = absurd (omega arith)
 unmarked (x ∷ xs) zero less e = λ k. record x { checked = sym e k } ∷ xs
 unmarked (x ∷ xs) (suc i) less e = ap (λ l. x ∷ l) (unmarked xs i (omega arith) e)
+
+-- one row more
+pub one_told : SpelledIsRead → (old new : List Row) (row : Row) (x : rust_note.Note) → new ≡ old ++ row ∷ [] → x.checked ≡ true → 1 ≤ length x.words.items → Spells x.words.items (row_shown row)
+    → facts_told new ≡ facts_told old ++ facts_if (note_shown x).checked (note_words (note_shown x)) []
+one_told read old new row x items on some spells =
+    ap facts_told items ∙ facts_told-snoc old row ∙ ap (λ l. facts_told old ++ l) (sym (ap (λ b. facts_if b (note_words (note_shown x)) []) on ∙ row_told read x row some spells))

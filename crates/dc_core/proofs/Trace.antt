@@ -1,16 +1,16 @@
 -- Each record of a run lies in the span of its call: a begin, a point at which the clock is the record's, and an end.
-use Rattle.std.proofs.Common.{◌≡◌, ℕ, zero, suc, ◌+◌, ◌<◌, ◌≤◌, ◌≢◌, ◌⊎◌, Bool, true, false, List, [], ◌∷◌, ◌++◌, length, get_or, set, take, Option, Some, None, refl, sym, ap, ap₂, ◌∙◌, subst, arith, inl, inr, ⊎_elim, true≢false, length-append, le_refl, take_all}
+use Rattle.std.proofs.Common.{◌≡◌, ℕ, zero, suc, ◌<◌, ◌≤◌, ◌⊎◌, true, false, List, [], ◌∷◌, ◌++◌, length, refl, sym, ap, ◌∙◌, subst, arith, inl, inr, ⊎_elim, true≢false, length-append, le_refl, take_all}
 use Rattle.std.proofs.lemmas.List.{take-append-le}
 use mathlib.Core.Logic.{dite}
-use mathlib.Core.Option.{some, some-injective, some-ne-none}
-use native.Mathlib.Decide.{ℕ_discrete, dec_lt}
+use mathlib.Core.Option.{some, some-injective}
+use native.Mathlib.Decide.{dec_lt}
 use lib.ListN.{get_elem?}
 use Rattle.dc_plain.specs.Requests.{Request}
 use Rattle.dc_events.specs.Views.{Walk}
 use Rattle.dc_core.specs.Machine.{State, Actor, Act, Event, Finished, after, after_all, clock_of}
 use Rattle.dc_core.specs.Machine.Act.{Begin, Pivot}
 use Rattle.dc_core.specs.Spans.{before, clock_before, Does, Makes, Spanned}
-use Rattle.dc_events.proofs.Steps.{within_list}
+use Rattle.dc_core.proofs.Seats.{within_list}
 use Rattle.atomic_table.proofs.Lists.{at_longer, at_last}
 
 pub after_snoc : (s : State) (es : List Event) (e : Event) → after_all s (es ++ e ∷ []) ≡ after (after_all s es) e

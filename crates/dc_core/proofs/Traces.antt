@@ -1,8 +1,6 @@
 -- One more event keeps what is known of begins, points and ends.
-use Rattle.std.proofs.Common.{◌≡◌, ℕ, zero, suc, ◌+◌, ◌<◌, ◌≤◌, ◌≢◌, ◌⊎◌, Bool, true, false, List, [], ◌∷◌, ◌++◌, length, get_or, set, take, Option, Some, None, refl, sym, ap, ap₂, ◌∙◌, subst, arith, inl, inr, ⊎_elim, true≢false, length-append, le_refl, append-nil}
-use mathlib.Core.Logic.{dite}
-use mathlib.Core.Option.{some, some-injective, some-ne-none}
-use native.Mathlib.Decide.{ℕ_discrete, dec_lt}
+use Rattle.std.proofs.Common.{◌≡◌, ℕ, ◌+◌, ◌≢◌, ◌⊎◌, Bool, true, false, List, [], ◌∷◌, ◌++◌, length, set, Option, Some, None, refl, sym, ap, ◌∙◌, subst, arith, inl, inr, ⊎_elim, true≢false, length-append, le_refl}
+use mathlib.Core.Option.{some, some-ne-none}
 use lib.ListN.{get_elem?}
 use Rattle.dc_plain.specs.Requests.{Request, Answer}
 use Rattle.dc_events.specs.Views.{Walk}
@@ -10,12 +8,11 @@ use Rattle.dc_events.specs.Walks.{walk_begun, walk_again, no_walk, walk_noted, w
 use Rattle.dc_events.specs.Noted.{answer_in}
 use Rattle.dc_core.specs.Machine.{State, Actor, Act, Event, Finished, after, after_all, clock_of, actor_at, done, concluding, settling, walking, next_word}
 use Rattle.dc_core.specs.Machine.Act.{Begin, Take, Shut, Write, Open, Commit, Give, Note, Read, Pivot, Check, Again, Quit}
-use Rattle.dc_core.specs.Spans.{before, clock_before, Does, Makes, Spanned}
+use Rattle.dc_core.specs.Spans.{Does, Makes, Spanned}
 use Rattle.dc_plain.specs.Runs.{alters}
 use Rattle.dc_core.specs.Refusals.{Answers, Refusal, Unless, UnlessRow, Passes, IsOdd}
 use Rattle.dc_core.specs.Refusals.Refusal.{OddRow, NoCall, Alters}
-use Rattle.dc_core.proofs.Seats.{passed, at_or, held_so}
-use Rattle.dc_events.proofs.Steps.{within_list}
+use Rattle.dc_core.proofs.Seats.{within_list, passed, at_or, held_so}
 use Rattle.dc_core.proofs.Trace.{before_end, before_all, does_more, spanned_more, Opened, opened_more, opened_now}
 use Rattle.atomic_table.proofs.Lists.{at_set, at_snoc, at_last, set_again}
 

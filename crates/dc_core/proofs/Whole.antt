@@ -1,7 +1,6 @@
 -- A whole list of events that were all done, from a new core.
-use Rattle.std.proofs.Common.{◌≡◌, ℕ, List, [], ◌∷◌, ◌++◌, Option, None, refl, sym, ap, ◌∙◌, subst, append_assoc, append-nil}
-use Rattle.dc_core.specs.Machine.{State, Event, after, after_all}
-use Rattle.dc_core.specs.Refusals.{Answers}
+use Rattle.std.proofs.Common.{List, [], ◌∷◌, ◌++◌, sym, subst, append_assoc, append-nil}
+use Rattle.dc_core.specs.Machine.{State, Event, after_all}
 use Rattle.dc_core.specs.Listed.{AllDone}
 use Rattle.dc_core.proofs.Trace.{after_snoc}
 use Rattle.dc_core.proofs.Traces.{Traced, traced}

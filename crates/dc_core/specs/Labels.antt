@@ -1,5 +1,5 @@
 -- The labels that a row may have.
-use Rattle.std.specs.Prelude.{List, ℕ, IsTrue}
+use Rattle.std.specs.Prelude.{IsTrue}
 use Rattle.dc_names.specs.Bytes.{is_name}
 use Rattle.dc_plain.specs.Facts.{Label}
 use Rattle.dc_plain.specs.Facts.Label.{Entry, Parent, Text}

@@ -1,6 +1,5 @@
 -- A list of events: which of them were done, why the next was refused, and where the calls begin and end in it.
 use Rattle.std.specs.Prelude.{◌≡◌, ◌⊎◌, ℕ, List, [], ◌∷◌, take, None, Result, Ok, Err}
-use Rattle.std.specs.List.{Contains}
 use mathlib.Core.Option.{some}
 use lib.ListN.{get_elem?}
 use Rattle.dc_core.specs.Machine.{State, Event, Finished, after, after_all, opening}

@@ -1,5 +1,5 @@
 -- The core as plain data, and what each event makes of it.
-use Rattle.std.specs.Prelude.{◌≡◌, ℕ, zero, suc, ◌+◌, ◌-◌, Bool, true, false, List, [], ◌∷◌, ◌++◌, length, get_or, set, replicate, Option, Some, None}
+use Rattle.std.specs.Prelude.{ℕ, ◌+◌, Bool, true, false, List, [], ◌∷◌, ◌++◌, length, get_or, set, replicate, Option, Some, None}
 use Rattle.dc_plain.specs.Trees.{Tree, empty_tree}
 use Rattle.dc_plain.specs.Requests.{Request, Answer}
 use Rattle.dc_plain.specs.Runs.{reply_of, tree_after}

@@ -1,5 +1,5 @@
 -- When an event is refused, and as what: the tests in their order.
-use Rattle.std.specs.Prelude.{◌≡◌, ◌≢◌, ℕ, zero, suc, ◌+◌, ◌%◌, ◌<◌, ◌≤◌, ◌⊎◌, Bool, true, false, List, [], ◌∷◌, length, get_or, Option, Some, None}
+use Rattle.std.specs.Prelude.{◌≡◌, ◌≢◌, ℕ, ◌+◌, ◌%◌, ◌<◌, ◌≤◌, ◌⊎◌, true, false, [], length, get_or, Option, Some, None}
 use Rattle.dc_plain.specs.Facts.{Fact}
 use Rattle.dc_plain.specs.Requests.{Request}
 use Rattle.dc_plain.specs.Runs.{alters, Touches}
@@ -7,7 +7,7 @@ use Rattle.dc_plain.specs.Facts.{key_of}
 use Rattle.dc_row.specs.Spelling.{Spells}
 use Rattle.dc_row.specs.declared.TheConstants.{ROW_WORDS}
 use Rattle.dc_events.specs.Views.{Walk}
-use Rattle.dc_events.specs.Rows.{most, base_of, count, row_words, Tells, IsWhole, IsUntouched}
+use Rattle.dc_events.specs.Rows.{most, count, row_words, Tells, IsWhole}
 use Rattle.dc_events.specs.Walks.{note_of, last_of}
 use Rattle.dc_core.specs.Machine.{Act, State, Actor as Stored, Event, actor_at, clock_of}
 use Rattle.dc_core.specs.Machine.Act.{Begin, Take, Shut, Write, Open, Commit, Give, Note, Read, Pivot, Check, Again, Quit}

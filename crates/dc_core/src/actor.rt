@@ -69,8 +69,7 @@ impl Actor {
             ≡ record (actor_shown self.old) { walk = walk_begun (own_request call) } }
     {
         self.call = Some(call);
-        self.notes.clear();
-        self.pivot = None;
+        self.again();
     }
 
     /// The walk begins anew.
@@ -88,9 +87,9 @@ impl Actor {
         ensures walk { actor_shown self.new ≡ record (actor_shown self.old) { walk = no_walk } }
         ensures call { own_request result ≡ (actor_shown self.old).walk.call }
     {
-        self.notes.clear();
-        self.pivot = None;
-        self.call.take().unwrap()
+        let call = self.call.take().unwrap();
+        self.again();
+        call
     }
 
     /// The number of loads after one more. It stays below 2^64 in every list of events that anyone

@@ -14,7 +14,7 @@ ghost use Rattle.dc_plain.specs.Runs.{reply_of, tree_after};
 use crate::seat::Actor;
 use crate::state::{Finished, State};
 use dc_names::NoMemory;
-use dc_plain::{Call, OwnCall, PlainTree, Reply};
+use dc_plain::{Call, OwnCall, PlainTree, Reply, same_tree_tells_whether_trees_are_one};
 use std::alloc::Global;
 
 impl State {
@@ -103,6 +103,7 @@ impl State {
             (state_of self.new ≡ done (state_of self.old) actor (Give true)) }
         ensures err { OnErr result (state_of self.new ≡ state_of self.old) }
     {
+        same_tree_tells_whether_trees_are_one();
         self.finished.reserve(1)?;
         let clock = self.words[0];
         let reply = apply(alloc, &mut self.tree, &self.actors[actor as usize])?;

@@ -15,7 +15,7 @@ ghost use Rattle.dc_core.specs.Labels.{IsLabel};
 use crate::seat::Note;
 use dc_names::{Name, NoMemory, PathText};
 use dc_plain::{Fact as Said, Label};
-use dc_row::{Row, RowLabel, decode};
+use dc_row::{Row, RowLabel, decode, words_have_the_fact_they_spell};
 use std::alloc::Global;
 
 fn label_of(label: &RowLabel) -> Label<'_>
@@ -49,6 +49,7 @@ fn push_row(rows: &mut Vec<Row>, note: &Note) -> Result<(), NoMemory>
         ++ facts_if (note_shown note.now).checked (note_words (note_shown note.now)) []) }
     ensures rows { OnOk result (AreRows rows.new.items) }
 {
+    words_have_the_fact_they_spell();
     if !note.checked {
         return Ok(());
     }

@@ -14,6 +14,8 @@ mod rows;
 mod seat;
 mod state;
 mod steps;
+#[cfg(test)]
+mod tests;
 mod truths;
 
 pub use event::{Act, Event};

@@ -12,7 +12,9 @@ ghost use Rattle.dc_events.specs.Rows.{count};
 
 use crate::state::{Finished, State};
 use crate::{Event, MakeFault, Refused};
-use dc_events::events_keep_the_rule;
+use dc_events::{
+    events_keep_the_rule, loads_tell_nothing, new_tables_have_the_rule, records_are_legal,
+};
 use std::alloc::Global;
 use std::marker::Model;
 
@@ -44,6 +46,7 @@ impl Core {
         if !are_right(buckets, max_inodes) {
             return Err(MakeFault::BadSize);
         }
+        new_tables_have_the_rule();
         match State::new(alloc, buckets * 4, actors, max_inodes) {
             Ok(state) => Ok(Core { state }),
             Err(_) => Err(MakeFault::NoMemory),
@@ -61,6 +64,7 @@ impl Core {
         ensures rule { Lives self.new }
     {
         events_keep_the_rule();
+        loads_tell_nothing();
         self.state.step(alloc, event)
     }
 
@@ -98,7 +102,15 @@ impl Core {
         ensures all { map finished_shown result.now ≡ self.now.finished }
         ensures legal { AreLegal self.now }
     {
+        records_are_legal();
         &self.state.finished
+    }
+
+    /// How many rows there are.
+    pub fn rows(&self) -> u64
+        ensures { result ≡ self.now.rows }
+    {
+        self.state.rows
     }
 
     /// The count of a row.

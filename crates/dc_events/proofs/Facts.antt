@@ -1,5 +1,5 @@
 -- What true facts give, and which of them stay true.
-use Rattle.std.proofs.Common.{◌≡◌, ℕ, zero, suc, ◌+◌, ◌%◌, ◌≤◌, ◌<◌, Bool, true, false, List, [], ◌∷◌, length, get_or, Option, Some, None, refl, sym, ap, ◌∙◌, subst, arith, true≢false}
+use Rattle.std.proofs.Common.{◌≡◌, ℕ, zero, suc, ◌+◌, ◌%◌, ◌≤◌, ◌<◌, Bool, true, false, not, List, [], ◌∷◌, length, get_or, Option, Some, None, refl, sym, ap, ◌∙◌, subst, arith, true≢false}
 use Rattle.std.specs.List.{AllByRecursion}
 use mathlib.Core.Option.{some}
 use lib.ListN.{get_elem?}
@@ -8,37 +8,35 @@ use Rattle.dc_plain.specs.Requests.{Request, Answer}
 use Rattle.dc_plain.specs.Trees.{Tree, Holds as IsTrueIn}
 use Rattle.dc_plain.specs.IsWellFormed.{IsWellFormed}
 use Rattle.dc_plain.specs.Runs.{reply_of, tree_after, alters, Touches}
-use Rattle.dc_plain.proofs.SameTree.{alters_not}
 use Rattle.dc_row.specs.Spelling.{Spells}
 use Rattle.dc_row.specs.declared.TheConstants.{ROW_WORDS}
 use Rattle.dc_row.specs.Decoding.{fact_in}
-use Rattle.dc_row.proofs.Decoded.{spelled_is_read}
 use Rattle.dc_plain.specs.FactLaws.{answer_told}
 use Rattle.dc_plain.specs.Facts.{key_of}
-use Rattle.dc_plain.proofs.FactsTold.{replies-by-facts}
 use Rattle.dc_events.specs.Laws.{TreeLaws}
 use Rattle.dc_events.specs.Views.{Note, Walk}
 use Rattle.dc_events.specs.Rows.{base_of, count, row_words, IfFact, Tells, note_words, IsUntouched}
 use Rattle.dc_events.specs.Rule.{RowFits}
 use Rattle.dc_events.specs.Noted.{with_fact, facts_if, facts_in, answer_in}
+use Rattle.dc_events.proofs.Below.{FactsBelow}
 use Rattle.dc_events.proofs.Words.{row_words_same}
 
 added : (t : Tree) (fact : Option Fact) (facts : List Fact) → IfFact t fact → AllByRecursion (IsTrueIn t) facts → AllByRecursion (IsTrueIn t) (with_fact (Some fact) facts)
 added t None facts h all = all
 added t (Some fact) facts h all = (h, all)
 
-added_if : (t : Tree) (words : List ℕ) (facts : List Fact) (b : Bool) → (b ≡ true → Tells t words) → AllByRecursion (IsTrueIn t) facts → AllByRecursion (IsTrueIn t) (facts_if b words facts)
-added_if t words facts true told all = let s = told refl in subst (λ r. AllByRecursion (IsTrueIn t) (with_fact r facts)) (sym (spelled_is_read words s.fact s.spells)) (added t s.fact facts s.holds all)
-added_if t words facts false told all = all
+added_if : FactsBelow → (t : Tree) (words : List ℕ) (facts : List Fact) (b : Bool) → (b ≡ true → Tells t words) → AllByRecursion (IsTrueIn t) facts → AllByRecursion (IsTrueIn t) (facts_if b words facts)
+added_if laws t words facts true told all = let s = told refl in subst (λ r. AllByRecursion (IsTrueIn t) (with_fact r facts)) (sym (laws.read words s.fact s.spells)) (added t s.fact facts s.holds all)
+added_if laws t words facts false told all = all
 
 -- the facts of the checked notes are true where each of these notes tells the tree
-pub facts_true : (t : Tree) (xs : List Note) → ((i : ℕ) (x : Note) → get_elem? xs i ≡ some x → x.checked ≡ true → Tells t (note_words x)) → AllByRecursion (IsTrueIn t) (facts_in xs)
-facts_true t [] trust = tt
-facts_true t (x ∷ xs) trust = added_if t (note_words x) (facts_in xs) x.checked (trust 0 x refl) (facts_true t xs (λ i. trust (suc i)))
+pub facts_true : FactsBelow → (t : Tree) (xs : List Note) → ((i : ℕ) (x : Note) → get_elem? xs i ≡ some x → x.checked ≡ true → Tells t (note_words x)) → AllByRecursion (IsTrueIn t) (facts_in xs)
+facts_true laws t [] trust = tt
+facts_true laws t (x ∷ xs) trust = added_if laws t (note_words x) (facts_in xs) x.checked (trust 0 x refl) (facts_true laws t xs (λ i. trust (suc i)))
 
 -- an answer from true facts is the call's, which alters nothing
-pub answer_true : (limit : ℕ) (t : Tree) (facts : List Fact) (call : Request) (reply : Answer) → AllByRecursion (IsTrueIn t) facts → answer_told (told_by facts) call ≡ Some reply → (reply_of limit t call ≡ reply) × (alters limit t call ≡ false)
-answer_true limit t facts call reply all e = let o = replies-by-facts limit t facts call reply all e in (ap (λ (d : Answer × Tree). d.0) o, alters_not limit t call (ap (λ (d : Answer × Tree). d.1) o))
+pub answer_true : FactsBelow → (limit : ℕ) (t : Tree) (facts : List Fact) (call : Request) (reply : Answer) → AllByRecursion (IsTrueIn t) facts → answer_told (told_by facts) call ≡ Some reply → (reply_of limit t call ≡ reply) × (alters limit t call ≡ false)
+answer_true laws limit t facts call reply all e = let o = laws.replies limit t facts call reply all e in (ap (λ (d : Answer × Tree). d.0) o, ap not ((laws.same (tree_after limit t call) t).1 (ap (λ (d : Answer × Tree). d.1) o)))
 
 still_so : TreeLaws → (limit : ℕ) (t : Tree) (call : Request) (words : List ℕ) (fact : Option Fact) → IsWellFormed t → Spells words fact → IfFact t fact
     → ((f : Fact) → Spells words (Some f) → Touches limit t call (key_of f) → ⊥) → IfFact (tree_after limit t call) fact

@@ -5,6 +5,7 @@ use mathlib.Core.Option.{some, some-injective, some-ne-none}
 use native.Mathlib.Decide.{ℕ_discrete, dec_lt}
 use lib.ListN.{get_elem?}
 use lib.Seq.{set-get_or}
+use Rattle.dc_plain.specs.LivingLaws.{SameTreeDecides}
 use Rattle.dc_plain.specs.Requests.{Request}
 use Rattle.dc_plain.specs.Trees.{Tree}
 use Rattle.dc_plain.specs.Runs.{reply_of, tree_after, alters}
@@ -188,9 +189,9 @@ module _ {limit : ℕ} {h : List Request} {ss : List (List Record)} {at : ℕ} (
       dite (ℕ_discrete r.at at) (λ here. ⊎_elim (λ (a : r.altered ≡ true). absurd (alt i r rest e here a)) (λ (other : r.altered ≡ true → ⊥). absurd (flat i r rest e here (not_true r.altered other))) (same_bool r.altered true))
       (λ other. let less : at < length h = omega arith in let one : once_below at (length h) ≡ 1 = ap (λ b. cond b 1 0) (lt-ltb at (length h) less) in absurd (omega arith))
 
-schedule : (limit : ℕ) (h : List Request) (fuel : ℕ) (ss : List (List Record)) (at : ℕ) → Ready limit h ss at → size ss ≡ fuel → (xs : List Record) × Merges ss xs × Runs limit (tree_of limit (take at h)) at xs
-schedule limit h zero ss at R is = ([], (λ i s e. let l = size_one ss i s e in empty s (omega arith)), tt)
-schedule limit h (suc fuel) ss at R is = ⊎_elim (λ (H : Head ss at false). let m = size_set ss H.place H.first H.rest H.there in let r = schedule limit h fuel (set ss H.place H.rest) at (flat_ready R H) (omega arith) in let p = replies R false H in (
+schedule : SameTreeDecides → (limit : ℕ) (h : List Request) (fuel : ℕ) (ss : List (List Record)) (at : ℕ) → Ready limit h ss at → size ss ≡ fuel → (xs : List Record) × Merges ss xs × Runs limit (tree_of limit (take at h)) at xs
+schedule same_so limit h zero ss at R is = ([], (λ i s e. let l = size_one ss i s e in empty s (omega arith)), tt)
+schedule same_so limit h (suc fuel) ss at R is = ⊎_elim (λ (H : Head ss at false). let m = size_set ss H.place H.first H.rest H.there in let r = schedule same_so limit h fuel (set ss H.place H.rest) at (flat_ready R H) (omega arith) in let p = replies R false H in (
   H.first ∷ r.0,
   (H.place, H.rest, H.there, r.1),
   (
@@ -198,10 +199,10 @@ schedule limit h (suc fuel) ss at R is = ⊎_elim (λ (H : Head ss at false). le
     p.0,
     p.1,
     let w : weight H.first.altered ≡ 0 = ap weight H.is in let same : at ≡ at + weight H.first.altered = omega arith in
-        subst (λ (z : Tree × ℕ). Runs limit z.0 z.1 r.0) (λ i. (sym (unaltered limit (tree_of limit (take at h)) H.first.call (p.1 ∙ H.is)) i, same i)) r.2,
+        subst (λ (z : Tree × ℕ). Runs limit z.0 z.1 r.0) (λ i. (sym (unaltered same_so limit (tree_of limit (take at h)) H.first.call (p.1 ∙ H.is)) i, same i)) r.2,
   ),
 ))
-    (λ (flat : NoHead ss at false). ⊎_elim (λ (H : Head ss at true). let m = size_set ss H.place H.first H.rest H.there in let r = schedule limit h fuel (set ss H.place H.rest) (suc at) (next_ready R H flat) (omega arith) in let p = replies R true H in (
+    (λ (flat : NoHead ss at false). ⊎_elim (λ (H : Head ss at true). let m = size_set ss H.place H.first H.rest H.there in let r = schedule same_so limit h fuel (set ss H.place H.rest) (suc at) (next_ready R H flat) (omega arith) in let p = replies R true H in (
       H.first ∷ r.0,
       (H.place, H.rest, H.there, r.1),
       (
@@ -214,6 +215,6 @@ schedule limit h (suc fuel) ss at R is = ⊎_elim (λ (H : Head ss at false). le
     (λ (alt : NoHead ss at true). ([], all_placed R flat alt, tt)) (find ss at true)) (find ss at false)
 
 -- the records of strands that rise, stand in one history, and of which each of its calls has just one
-pub legal : (limit : ℕ) (h : List Request) (ss : List (List Record)) → ((i : ℕ) (s : List Record) → get_elem? ss i ≡ some s → (j : ℕ) (r : Record) → get_elem? s j ≡ some r → Stands limit h r)
+pub legal : SameTreeDecides → (limit : ℕ) (h : List Request) (ss : List (List Record)) → ((i : ℕ) (s : List Record) → get_elem? ss i ≡ some s → (j : ℕ) (r : Record) → get_elem? s j ≡ some r → Stands limit h r)
     → ((i : ℕ) (s : List Record) → get_elem? ss i ≡ some s → Rising 0 s) → ((p : ℕ) → all_hits p ss ≡ once_below p (length h)) → Legal limit ss
-legal limit h ss stand rising once = let r = schedule limit h (size ss) ss 0 record { stand = stand; rising = rising; once = λ p _. once p; early = omega arith } refl in record { order = r.0; merges = r.1; runs = r.2 }
+legal same_so limit h ss stand rising once = let r = schedule same_so limit h (size ss) ss 0 record { stand = stand; rising = rising; once = λ p _. once p; early = omega arith } refl in record { order = r.0; merges = r.1; runs = r.2 }

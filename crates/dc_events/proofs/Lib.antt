@@ -1,3 +1,4 @@
+pub mod Below
 pub mod Words
 pub mod Later
 pub mod Totals
@@ -8,6 +9,7 @@ pub mod Holder
 pub mod Rows
 pub mod Walker
 pub mod Walks
+pub mod Kept
 pub mod Legal
 pub mod Opening
 pub mod Passes

@@ -6,7 +6,7 @@ use Rattle.dc_plain.specs.Requests.{Request}
 use Rattle.dc_plain.specs.Trees.{Tree, empty_tree}
 use Rattle.dc_plain.specs.IsWellFormed.{IsWellFormed}
 use Rattle.dc_plain.specs.Runs.{reply_of, tree_after, tree_after_all, alters, same_tree}
-use Rattle.dc_plain.proofs.SameTree.{same_tree_is}
+use Rattle.dc_plain.specs.LivingLaws.{SameTreeDecides}
 use Rattle.dc_events.specs.Laws.{TreeLaws}
 use Rattle.dc_events.specs.Views.{Record}
 use Rattle.dc_events.specs.Standing.{tree_of, Stands, after, Rising, ends, hit, hits}
@@ -25,13 +25,13 @@ tree_of-snoc limit h c = tree_snoc limit empty_tree h c
 pub well_formed : TreeLaws → (limit : ℕ) (h : List Request) → IsWellFormed (tree_of limit h)
 well_formed laws limit h = laws.runs limit empty_tree h laws.opening
 
-unless : (t u : Tree) (b : Bool) → same_tree u t ≡ b → not b ≡ false → u ≡ t
-unless t u true is e = same_tree_is u t is
-unless t u false is e = absurd (true≢false e)
+unless : SameTreeDecides → (t u : Tree) (b : Bool) → same_tree u t ≡ b → not b ≡ false → u ≡ t
+unless same t u true is e = (same u t).0 is
+unless same t u false is e = absurd (true≢false e)
 
 -- a call that doesn't alter leaves the tree
-pub unaltered : (limit : ℕ) (t : Tree) (c : Request) → alters limit t c ≡ false → tree_after limit t c ≡ t
-unaltered limit t c e = unless t (tree_after limit t c) (same_tree (tree_after limit t c) t) refl e
+pub unaltered : SameTreeDecides → (limit : ℕ) (t : Tree) (c : Request) → alters limit t c ≡ false → tree_after limit t c ≡ t
+unaltered same limit t c e = unless same t (tree_after limit t c) (same_tree (tree_after limit t c) t) refl e
 
 pub take_whole : (h : List Request) → take (length h) h ≡ h
 take_whole h = take_all (length h) h (le_refl (length h))

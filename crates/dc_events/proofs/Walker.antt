@@ -15,6 +15,7 @@ use Rattle.dc_events.specs.Walks.{extended, walk_turned, no_walk, no_note}
 use Rattle.dc_events.specs.Noted.{facts_in, answer_in}
 use Rattle.dc_events.specs.Effects.{begun, again, quit, noted, note_at, read, turned, pivoted, concluded, settled, marked, checked, with_seen, with_record, loaded}
 use Rattle.dc_events.proofs.Records.{hits_snoc, no_hit, strand_snoc, strand_more, take_whole}
+use Rattle.dc_events.proofs.Below.{FactsBelow}
 use Rattle.dc_events.proofs.Facts.{facts_true, answer_true}
 use Rattle.dc_events.proofs.Words.{words_from-snoc}
 use Rattle.dc_events.proofs.Holder.{walk_done, book_sees}
@@ -106,11 +107,11 @@ module _ {limit rows : ℕ} {words : List ℕ} {hist : List Request} where
     follows = f.follows;
   }
 
-  pub concludes : (v : View) (o : Option Answer) → (v.walk.busy ≡ true → v.walk.pivoted ≡ true) → answer_in v.walk ≡ o → ViewFits limit rows words hist v → ViewFits limit rows words hist (concluded v o)
-  concludes v None pivoted e f = f
-  concludes v (Some reply) pivoted e f = let t : Tree = tree_of limit (take v.walk.pivot hist) in
+  pub concludes : FactsBelow → (v : View) (o : Option Answer) → (v.walk.busy ≡ true → v.walk.pivoted ≡ true) → answer_in v.walk ≡ o → ViewFits limit rows words hist v → ViewFits limit rows words hist (concluded v o)
+  concludes laws v None pivoted e f = f
+  concludes laws v (Some reply) pivoted e f = let t : Tree = tree_of limit (take v.walk.pivot hist) in
       let so = if_busy v.walk (Some reply) v.walk.busy refl e reply refl in
-      let h = answer_true limit t (facts_in v.walk.notes) v.walk.call reply (facts_true t v.walk.notes (λ i x there ch. f.walk.told so.0 (pivoted so.0) i x there ((f.walk.noted i x there).whole ch, inl ch))) so.1 in
+      let h = answer_true laws limit t (facts_in v.walk.notes) v.walk.call reply (facts_true laws t v.walk.notes (λ i x there ch. f.walk.told so.0 (pivoted so.0) i x there ((f.walk.noted i x there).whole ch, inl ch))) so.1 in
       let p = f.follows so.0 (pivoted so.0) in let low = p.0 in let s = f.book.seen in let r : Record = record { call = v.walk.call; reply = reply; at = v.walk.pivot; altered = false } in record {
         walk = walk_done limit rows words hist;
         book = record {

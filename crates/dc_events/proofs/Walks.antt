@@ -1,15 +1,18 @@
 -- Each event of an actor that walks keeps the rule.
-use Rattle.std.proofs.Common.{◌≡◌, ℕ, suc, ◌+◌, ◌-◌, ◌%◌, ◌<◌, true, false, List, length, get_or, set, refl}
+use Rattle.std.proofs.Common.{◌≡◌, ℕ, suc, ◌+◌, ◌-◌, ◌%◌, ◌<◌, true, false, List, length, get_or, set, refl, sym, ap, subst}
+use Rattle.std.proofs.lemmas.List.{set-set}
 use mathlib.Core.Option.{some}
 use lib.ListN.{get_elem?}
 use Rattle.dc_plain.specs.Requests.{Request}
 use Rattle.dc_row.specs.declared.TheConstants.{ROW_WORDS}
-use Rattle.dc_events.specs.Views.{View}
+use Rattle.dc_events.specs.Views.{Walk, Book, View}
 use Rattle.dc_events.specs.Rows.{base_of, count, IsWhole}
-use Rattle.dc_events.specs.Rule.{Rule}
+use Rattle.dc_events.specs.Rule.{WalkFits, BookFits, Follows, book_hits, Rule}
+use Rattle.dc_events.specs.Laws.{LoadsTellNothing}
 use Rattle.dc_events.specs.Noted.{answer_in}
 use Rattle.dc_events.specs.Effects.{begun, again, quit, noted, note_at, read, turned, pivoted, marked, checked}
-use Rattle.dc_events.proofs.Steps.{quiet}
+use Rattle.dc_events.proofs.Below.{FactsBelow}
+use Rattle.dc_events.proofs.Steps.{quiet, set_mine}
 use Rattle.dc_events.proofs.Walker as walker
 use Rattle.dc_events.specs.Views.{Fault}
 use Rattle.dc_events.specs.Effects.{faulted}
@@ -32,15 +35,23 @@ module _ {limit rows : ℕ} {words : List ℕ} {views : List View} {hist : List 
   reads there short busy fresh = let x = note_at v (length v.walk.notes - 1) in let word : ℕ = get_or words (base_of x.row + (length x.words + 1)) 0 in
       quiet R id v (read v word) at refl (λ p. refl) (walker.reads v word there short refl busy fresh (R.fits id v at))
 
-  pub pivots : (v.walk.busy ≡ true → v.walk.pivoted ≡ false) → Rule limit rows words (set views id (pivoted v (get_or words 0 0))) hist
-  pivots fresh = let w : View = turned v (get_or words 0 0) in
+  pub pivots : FactsBelow → (v.walk.busy ≡ true → v.walk.pivoted ≡ false) → Rule limit rows words (set views id (pivoted v (get_or words 0 0))) hist
+  pivots laws fresh = let w : View = turned v (get_or words 0 0) in
       quiet R id v (pivoted v (get_or words 0 0)) at (walker.concluded_hold w (answer_in w.walk)) (λ p. walker.concluded_hits p w (answer_in w.walk))
-      (walker.concludes w (answer_in w.walk) (λ b. b) refl (walker.turns v (get_or words 0 0) R.clock R.row fresh (R.fits id v at)))
+      (walker.concludes laws w (answer_in w.walk) (λ b. b) refl (walker.turns v (get_or words 0 0) R.clock R.row fresh (R.fits id v at)))
 
-  pub checks : (i : ℕ) → v.walk.pivoted ≡ true → get_elem? v.walk.notes i ≡ some (note_at v i) → IsWhole (note_at v i) → (note_at v i).count ≡ count words (note_at v i).row → Rule limit rows words (set views id (checked v i)) hist
-  checks i turned there whole same = let w : View = marked v i in
+  pub checks : FactsBelow → (i : ℕ) → v.walk.pivoted ≡ true → get_elem? v.walk.notes i ≡ some (note_at v i) → IsWhole (note_at v i) → (note_at v i).count ≡ count words (note_at v i).row → Rule limit rows words (set views id (checked v i)) hist
+  checks laws i turned there whole same = let w : View = marked v i in
       quiet R id v (checked v i) at (walker.concluded_hold w (answer_in w.walk)) (λ p. walker.concluded_hits p w (answer_in w.walk))
-      (walker.concludes w (answer_in w.walk) (λ _. turned) refl (walker.marks v i turned there whole same (R.fits id v at)))
+      (walker.concludes laws w (answer_in w.walk) (λ _. turned) refl (walker.marks v i turned there whole same (R.fits id v at)))
 
   pub faults_keep : (why : Fault) → Rule limit rows words (set views id (faulted v why)) hist
   faults_keep why = let f = R.fits id v at in quiet R id v (faulted v why) at refl (λ p. refl) record { walk = f.walk; book = f.book; follows = f.follows }
+
+pub unloaded : LoadsTellNothing
+unloaded limit rows words views hist id u v w at R walk book hold = let here = set_mine views id u v at in let f = R.fits id v here in
+    subst (λ vs. Rule limit rows words vs hist) (set-set views id v w) (quiet R id v w here hold (λ p. ap (book_hits p) book) record {
+      walk = subst (WalkFits limit rows words hist) (sym walk) f.walk;
+      book = subst (BookFits limit hist) (sym book) f.book;
+      follows = subst (λ (z : Walk × Book). Follows z.0 z.1) (λ i. (sym walk i, sym book i)) f.follows;
+    })

@@ -53,6 +53,11 @@ pub record WalkersKeepTheRule : Type 0 where
       → Rule limit rows words (set views id (checked v i)) hist)
   pub fault : Seated (λ limit rows words views hist id v. (why : Fault) → Rule limit rows words (set views id (faulted v why)) hist)
 
+-- the rule says nothing of loads and faults
+abbrev pub LoadsTellNothing : Type 0
+LoadsTellNothing = (limit rows : ℕ) (words : List ℕ) (views : List View) (hist : List Request) (id : ℕ) (u v w : View) → get_elem? views id ≡ some u
+    → Rule limit rows words (set views id v) hist → w.walk ≡ v.walk → w.book ≡ v.book → w.hold ≡ v.hold → Rule limit rows words (set views id w) hist
+
 -- the steps of passes, which change views alone
 pub record PassesKeepTheRule : Type 0 where
   pub split : Seated (λ limit rows words views hist id v. Rule limit rows words (views ++ newcomer v ∷ []) hist)

@@ -3,7 +3,10 @@
 #![tactic(auto)]
 
 mod laws;
+#[cfg(test)]
+mod tests;
 
 pub use laws::{
-    events_keep_the_rule, new_tables_have_the_rule, passes_keep_the_rule, records_are_legal,
+    events_keep_the_rule, loads_tell_nothing, new_tables_have_the_rule, passes_keep_the_rule,
+    records_are_legal,
 };

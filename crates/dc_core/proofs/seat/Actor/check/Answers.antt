@@ -1,4 +1,4 @@
-use Rattle.std.proofs.Common.{◌≡◌, ◌<◌, ap, ◌∙◌, sym, subst, false, length}
+use Rattle.std.proofs.Common.{◌<◌, ap, ◌∙◌, sym, subst, false}
 use Rattle.dc_core.specs.Machine.{Actor}
 use Rattle.dc_core.specs.Shown.{actor_shown, note_shown}
 use Rattle.dc_core.specs.Told.{with_mark}

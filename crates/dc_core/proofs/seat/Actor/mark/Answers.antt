@@ -1,4 +1,4 @@
-use Rattle.std.proofs.Common.{◌≡◌, ◌<◌, arith, rules}
+use Rattle.std.proofs.Common.{rules}
 use Rattle.atomic_table.proofs.Lists.{at_index}
 use Rattle.dc_core.specs.Machine.{Actor}
 use Rattle.dc_core.specs.Shown.{actor_shown, note_shown}

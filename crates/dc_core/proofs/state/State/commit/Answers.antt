@@ -1,5 +1,5 @@
-use Rattle.std.proofs.Common.{◌≡◌, Err, inr, rules}
-use Rattle.dc_core.specs.Machine.Act.{Open, Commit}
+use Rattle.std.proofs.Common.{rules}
+use Rattle.dc_core.specs.Machine.Act.{Commit}
 use Rattle.dc_core.specs.Shown.{state_of}
 use Rattle.dc_core.proofs.Stepped.{refused_as}
 use Rattle.dc_core.proofs.state.State.commit.Goals as goal

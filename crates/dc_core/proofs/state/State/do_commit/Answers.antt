@@ -1,33 +1,18 @@
-use Rattle.std.proofs.Common.{◌≡◌, ◌+◌, ◌<◌, ◌++◌, [], ◌∷◌, ap, sym, ◌∙◌, subst, set, get_or, length, map, rules, arith, true, false, OnOk, OnErr}
-use Rattle.dc_core.specs.Machine.{State, Actor, Finished, actor_at, clock_of, walking, turning, next_word, ended, recorded}
-use Rattle.dc_core.specs.Machine.Act.{Begin, Take, Shut, Write, Open, Commit, Give, Note, Read, Pivot, Check, Again, Quit}
-use Rattle.dc_core.specs.Shown.{state_of, actor_shown, finished_shown, note_shown}
-use Rattle.dc_plain.specs.Requests.{request_of, answer_of}
-use Rattle.dc_plain.specs.Runs.{reply_of, tree_after, alters}
-use Rattle.dc_events.specs.Rows.{count}
-use Rattle.dc_events.specs.Walks.{walk_begun, walk_again, no_walk, walk_noted, walk_read, walk_marked}
-use Rattle.dc_core.proofs.Acted.{acted, unacted, room, this_one, always_err, on_ok, on_err, finished_more, concluding_is}
+use Rattle.std.proofs.Common.{◌+◌, ap, ◌∙◌, set, rules}
+use Rattle.dc_core.specs.Machine.{State, Actor, clock_of}
+use Rattle.dc_core.specs.Machine.Act.{Commit}
+use Rattle.dc_core.specs.Shown.{state_of, actor_shown}
+use Rattle.dc_plain.specs.Runs.{reply_of, tree_after}
+use Rattle.dc_events.specs.Walks.{no_walk}
+use Rattle.dc_core.proofs.Acted.{room, this_one}
 use Rattle.dc_core.proofs.Kept.{number}
+use Rattle.dc_core.proofs.Recorded.{made}
 use Rattle.dc_core.proofs.state.State.do_commit.Goals as goal
 
 pub returns-clause-done : goal.returns-clause-done
-returns-clause-done c = let s = c.args.self.now in let us = s.actors.items in let j = c.args.actor in let S : State = state_of s in
-    let one = c.index_mut-2.result.now in
-    let less = room s j (Commit) c.requires.may in
-    let same = this_one us j one less c.index_mut-2.ensures.value in
-    let before = this_one us j c.index.result.now less c.index.ensures in
-    let clock = number s.words.items 0 c.index-clock.result.now (search rules) c.index-clock.ensures in
-    let call = (actor_at S j).walk.call in
+returns-clause-done c = let s = c.args.self.now in let j = c.args.actor in let S : State = state_of s in let one = c.index_mut-2.result.now in let less = room s j Commit c.requires.may in
+    let before = this_one s.actors.items j c.index.result.now less c.index.ensures in let clock = number s.words.items 0 c.index-clock.result.now (search rules) c.index-clock.ensures in
     let reply = c.in_ok-reply.ensures.reply ∙ ap (λ (b : Actor). reply_of S.limit S.tree b.walk.call) before in
-    let after_it = c.in_ok-reply.ensures.tree ∙ ap (λ (b : Actor). tree_after S.limit S.tree b.walk.call) before in
-    let made : Finished = record { actor = j; call = call; reply = reply_of S.limit S.tree call; at = clock_of S } in
-    let all = finished_more s.finished.items c.reserve.new.self.items c.push_reserved.new.self.items (record { actor = j; call = c.finish-call.result; reply = c.in_ok-reply.reply; at = c.index-clock.result.now }) made
-    c.push_reserved.ensures.items c.in_ok-reserve.ensures.items (λ i. record { actor = j; call = (c.finish-call.ensures.call ∙ ap (λ (b : Actor). b.walk.call) same) i; reply = reply i; at = clock i }) in
-    let shown = c.finish-call.ensures.shown ∙ ap (λ n. record (actor_shown one) { walk = no_walk; seen = n + 1 }) clock in
-    λ i. record S {
-      limit = c.in_ok-reply.ensures.limit i;
-      words = set s.words.items 0 (clock i + 1);
-      tree = after_it i;
-      actors = acted us j one c.finish-call.new.self (λ a. record a { walk = no_walk; seen = clock_of S + 1 }) less c.index_mut-2.ensures.value shown i;
-      finished = all i;
-    }
+    let all = made S s.actors.items j one less c.index_mut-2.ensures.value c.finish-call.new.self (λ a. record a { walk = no_walk; seen = clock_of S + 1 }) s.finished.items c.reserve.new.self.items c.push_reserved.new.self.items record { actor = j; call = c.finish-call.result; reply = c.in_ok-reply.reply; at = c.index-clock.result.now } _ (clock_of S)
+    (c.finish-call.ensures.shown ∙ ap (λ n. record (actor_shown one) { walk = no_walk; seen = n + 1 }) clock) c.in_ok-reserve.ensures.items c.push_reserved.ensures.items (λ i. record { actor = j; call = c.finish-call.ensures.call i; reply = reply i; at = clock i }) in
+    λ i. record (all i) { limit = c.in_ok-reply.ensures.limit i; words = set s.words.items 0 (clock i + 1); tree = (c.in_ok-reply.ensures.tree ∙ ap (λ (b : Actor). tree_after S.limit S.tree b.walk.call) before) i }

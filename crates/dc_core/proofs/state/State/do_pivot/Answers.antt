@@ -1,43 +1,25 @@
-use Rattle.std.proofs.Common.{◌≡◌, ◌+◌, ◌<◌, ◌++◌, [], ◌∷◌, ap, sym, ◌∙◌, subst, set, get_or, length, map, rules, arith, true, false, OnOk, OnErr}
-use Rattle.dc_core.specs.Machine.{State, Actor, Finished, actor_at, clock_of, walking, turning, next_word, ended, recorded}
-use Rattle.dc_core.specs.Machine.Act.{Begin, Take, Shut, Write, Open, Commit, Give, Note, Read, Pivot, Check, Again, Quit}
-use Rattle.dc_core.specs.Shown.{state_of, actor_shown, finished_shown, note_shown}
-use Rattle.dc_plain.specs.Requests.{request_of, answer_of}
-use Rattle.dc_plain.specs.Runs.{reply_of, tree_after, alters}
-use Rattle.dc_events.specs.Rows.{count}
-use Rattle.dc_events.specs.Walks.{walk_begun, walk_again, no_walk, walk_noted, walk_read, walk_marked}
-use Rattle.dc_core.proofs.Acted.{acted, unacted, room, this_one, always_err, on_ok, on_err, finished_more, concluding_is}
-use Rattle.dc_core.proofs.Kept.{number}
-use Rattle.dc_core.proofs.state.State.do_pivot.Goals as goal
-use Rattle.std.proofs.Common.{option_map}
-use Rattle.dc_events.specs.Noted.{answer_in}
-use Rattle.dc_core.specs.Machine.{concluding}
+use Rattle.std.proofs.Common.{◌≡◌, ap, sym, ◌∙◌, subst, rules, true, option_map}
+use Rattle.dc_core.specs.Machine.{State, Actor, clock_of, turning}
+use Rattle.dc_core.specs.Machine.Act.{Pivot}
+use Rattle.dc_core.specs.Shown.{state_of, actor_shown}
 use Rattle.dc_core.specs.Told.{AreSpelled}
-use Rattle.dc_core.proofs.Spelled.{pivot_spelled, check_spelled, check_less, check_fresh}
+use Rattle.dc_plain.specs.Requests.{answer_of}
+use Rattle.dc_core.proofs.Acted.{room, this_one, always_err}
+use Rattle.dc_core.proofs.Kept.{number}
+use Rattle.dc_core.proofs.Recorded.{unturned, turned}
+use Rattle.dc_core.proofs.Spelled.{pivot_spelled}
+use Rattle.dc_core.proofs.state.State.do_pivot.Goals as goal
 
 pub turn-requires : goal.turn-requires
-turn-requires c = let s = c.args.self.now in let us = s.actors.items in let j = c.args.actor in let S : State = state_of s in
-    let same = this_one us j c.index_mut-one.result.now (room s j Pivot c.requires.may) c.index_mut-one.ensures.value in
-    subst (λ (b : Actor). b.walk.busy ≡ true → AreSpelled b.walk.notes) (sym same) (pivot_spelled S j c.requires.lives c.requires.may)
+turn-requires c = let s = c.args.self.now in let j = c.args.actor in
+    subst (λ (b : Actor). b.walk.busy ≡ true → AreSpelled b.walk.notes) (sym (this_one s.actors.items j c.index_mut-one.result.now (room s j Pivot c.requires.may) c.index_mut-one.ensures.value)) (pivot_spelled (state_of s) j c.requires.lives c.requires.may)
 
 pub returns-in_err-reply-clause-err : goal.returns-in_err-reply-clause-err
-returns-in_err-reply-clause-err c = let s = c.args.self.now in let us = s.actors.items in let j = c.args.actor in let S : State = state_of s in
-    let one = c.index_mut-one.result.now in
-    let less = room s j (Pivot) c.requires.may in
-    always_err c.from_residual-in_err-reply.result _ (λ i. record S { actors = unacted us j one c.turn.new.self less c.index_mut-one.ensures.value c.in_err-reply.ensures.err i; finished = map finished_shown (c.in_ok-reserve.ensures.items i) })
+returns-in_err-reply-clause-err c = let s = c.args.self.now in let j = c.args.actor in
+    always_err c.from_residual-in_err-reply.result _ (unturned (state_of s) s.actors.items j c.index_mut-one.result.now (room s j Pivot c.requires.may) c.index_mut-one.ensures.value c.turn.new.self s.finished.items c.reserve.new.self.items c.in_err-reply.ensures.err c.in_ok-reserve.ensures.items)
 
 pub returns-clause-done : goal.returns-clause-done
-returns-clause-done c = let s = c.args.self.now in let us = s.actors.items in let j = c.args.actor in let S : State = state_of s in
-    let one = c.index_mut-one.result.now in
-    let less = room s j (Pivot) c.requires.may in
-    let same = this_one us j one less c.index_mut-one.ensures.value in
-    let a : Actor = turning (actor_at S j) (clock_of S) in
-    let o = option_map answer_of c.in_ok-reply.reply in
+returns-clause-done c = let s = c.args.self.now in let j = c.args.actor in let S : State = state_of s in let one = c.index_mut-one.result.now in
     let clock = number s.words.items 0 c.index-clock.result.now (search rules) c.index-clock.ensures in
-    let turned = c.in_ok-reply.ensures.done ∙ ap (turning (actor_shown one)) clock in
-    let now : actor_shown c.turn.new.self ≡ a = turned ∙ ap (λ b. turning b (clock_of S)) same in
-    let told = c.in_ok-reply.ensures.reply ∙ ap (λ (b : Actor). answer_in b.walk) now in
-    (λ i. record S {
-      actors = acted us j one c.conclude.new.one (λ b. ended (turning b (clock_of S)) o) less c.index_mut-one.ensures.value (c.conclude.ensures.actor ∙ ap (λ b. ended b o) turned) i;
-      finished = (c.conclude.ensures.record_made ∙ (λ k. map finished_shown (c.in_ok-reserve.ensures.items k) ++ recorded j (now k) o)) i;
-    }) ∙ concluding_is S j a o ∙ ap (concluding S j a) told
+    turned S s.actors.items j one (room s j Pivot c.requires.may) c.index_mut-one.ensures.value c.turn.new.self c.conclude.new.one (λ b. turning b (clock_of S)) s.finished.items c.reserve.new.self.items c.conclude.new.finished.items (option_map answer_of c.in_ok-reply.reply)
+    (c.in_ok-reply.ensures.done ∙ ap (turning (actor_shown one)) clock) c.in_ok-reply.ensures.reply c.conclude.ensures.actor c.in_ok-reserve.ensures.items c.conclude.ensures.record_made

@@ -1,4 +1,4 @@
-use Rattle.std.proofs.Common.{◌≤◌, arith, rules, IsTrue, sym, ◌∙◌, true≢false}
+use Rattle.std.proofs.Common.{◌≤◌, arith, rules, sym, ◌∙◌, true≢false}
 use Rattle.dc_plain.specs.Requests.{request_of}
 use Rattle.dc_core.specs.Refusals.{IsTouched}
 use Rattle.dc_core.specs.Shown.{state_of}

@@ -1,5 +1,5 @@
 use Rattle.std.proofs.Common.{ℕ, ◌<◌}
-use Rattle.dc_core.specs.Refusals.{IsOdd, IsTouched}
+use Rattle.dc_core.specs.Refusals.{IsTouched}
 use Rattle.dc_core.specs.Shown.{state_of}
 use Rattle.dc_plain.specs.Requests.{request_of}
 use Rattle.dc_core.proofs.state.State.first_touched.Given as goal

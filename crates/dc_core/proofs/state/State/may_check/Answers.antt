@@ -1,4 +1,4 @@
-use Rattle.std.proofs.Common.{◌<◌, rules}
+use Rattle.std.proofs.Common.{rules}
 use Rattle.dc_core.proofs.Acted.{note_room, not_past}
 use Rattle.dc_core.proofs.state.State.may_check.Goals as goal
 

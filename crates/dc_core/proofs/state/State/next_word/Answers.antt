@@ -1,4 +1,4 @@
-use Rattle.std.proofs.Common.{◌≡◌, ◌-◌, ◌<◌, length, arith, rules}
+use Rattle.std.proofs.Common.{◌≡◌, ◌-◌, length, arith, rules}
 use Rattle.dc_core.proofs.Acted.{note_room, read_few, read_some, room}
 use Rattle.dc_core.specs.Machine.Act.{Read}
 use Rattle.dc_core.proofs.state.State.next_word.Goals as goal
