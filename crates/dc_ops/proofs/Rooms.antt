@@ -8,7 +8,8 @@ use Rattle.dc_plain.specs.Trees.{Tree, Inode, inode_of, target_at, kind_of, name
 use Rattle.dc_plain.specs.Trees.Inode.{Directory, Regular, Symbolic}
 use Rattle.dc_plain.specs.Refusals.{is_full}
 use Rattle.dc_plain.specs.declared.TheConstants.{MOST_NAMES, NUMBER_LIMIT}
-use Rattle.dc_store.specs.Added.{CanAdd, CanBeNamed, number_added}
+use Rattle.dc_plain.specs.Conditions.{CanBeNamed}
+use Rattle.dc_store.specs.Added.{CanAdd, number_added}
 use Rattle.dc_store.specs.declared.store.New as rust_new
 use Rattle.dc_store.specs.declared.store.New.TheVariants as news
 use Rattle.dc_ops.specs.Makes.{MakesInode}
