@@ -1,5 +1,5 @@
 -- What is carried out makes another tree.
-use Rattle.std.proofs.Common.{◌≡◌, ◌≢◌, ℕ, ◌==◌, List, Bool, true, false, not, cond, Option, Some, None, Result, Ok, Err, refl, ap, sym, ◌∙◌, arith, IfSome, subst, if◌then◌else◌}
+use Rattle.std.proofs.Common.{◌≡◌, ◌≢◌, ℕ, ◌==◌, List, Bool, true, false, not, cond, Option, Some, None, Result, Ok, Err, refl, ap, sym, ◌∙◌, IfSome, subst, if◌then◌else◌}
 use Rattle.std.specs.Cmp.{IsTotalOrder, tied_itself}
 use Rattle.std.specs.Ordering.{eq_by_cmp, is_eq}
 use Rattle.std.specs.FinMap.Entries.{put, find-put, find-where_key}
@@ -22,8 +22,8 @@ use Rattle.dc_store.specs.Added.{tree_added}
 use Rattle.dc_plain.specs.Spots.{spot_at, spot_shown}
 use Rattle.dc_store.specs.declared.store.New as rust_new
 use Rattle.dc_store.specs.declared.store.New.TheVariants as news
-use Rattle.dc_ops.specs.declared.steps.Plan as rust_plan
-use Rattle.dc_ops.specs.declared.steps.Plan.TheVariants as plans
+use Rattle.dc_ops.specs.declared.plans.Plan as rust_plan
+use Rattle.dc_ops.specs.declared.plans.Plan.TheVariants as plans
 use Rattle.dc_ops.specs.Plans.{effect, CanCarry, IsDrop, IsPlanOf, OnlyDrops, SettlesIf, Plans, Declines}
 use Rattle.dc_ops.proofs.Distinct.{plan_distinct}
 

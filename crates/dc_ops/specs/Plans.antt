@@ -17,8 +17,8 @@ use Rattle.dc_store.specs.Added.{CanAdd, tree_added, number_added}
 use Rattle.dc_store.specs.Moved.{CanStandAt, tree_moved}
 use Rattle.dc_store.specs.declared.store.New as rust_new
 use Rattle.dc_ops.specs.Keys.{AreDistinct, keys_of}
-use Rattle.dc_ops.specs.declared.steps.Plan as rust_plan
-use Rattle.dc_ops.specs.declared.steps.Plan.TheVariants as plans
+use Rattle.dc_ops.specs.declared.plans.Plan as rust_plan
+use Rattle.dc_ops.specs.declared.plans.Plan.TheVariants as plans
 
 -- the reply of a plan and the tree that it leaves
 abbrev pub effect : rust_plan.Plan → Tree → Answer × Tree
