@@ -15,7 +15,7 @@ use Rattle.dc_store.specs.declared.inode.Inode.{Inode}
 use Rattle.dc_store.proofs.Entered.{sorted_entries, found_spot}
 use Rattle.dc_store.proofs.Slots.{tied_ways, found_without}
 use Rattle.dc_store.proofs.Spots.{spots_total, same_spots, lookup-take}
-use Rattle.dc_store.proofs.Tests.{same_number}
+use Rattle.dc_store.proofs.Decides.{same_number}
 
 module _ (n : ℕ) (f : Inode → Inode) (inodes : List (ℕ × Inode)) where
   pub found_changed : (q : ℕ) → inode_at (changed n f inodes) q ≡ cond (eq_by_cmp nat_cmp q n) (option_map f (inode_at inodes q)) (inode_at inodes q)

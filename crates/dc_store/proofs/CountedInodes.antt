@@ -13,7 +13,7 @@ use Rattle.dc_store.specs.declared.node.Node as rust_node
 use Rattle.dc_store.proofs.Changed.{found_changed, sorted_changed}
 use Rattle.dc_store.proofs.NodesKept.{node_found, nodes_kept, nodes_less}
 use Rattle.dc_store.proofs.Slots.{found_without}
-use Rattle.dc_store.proofs.Tests.{itself}
+use Rattle.dc_store.proofs.Decides.{itself}
 
 -- one for the number that lost an entry
 abbrev pub one : Option ℕ → ℕ → ℕ

@@ -18,7 +18,7 @@ use Rattle.dc_store.specs.declared.node.Node.TheVariants as kinds
 use Rattle.dc_store.proofs.Maps.{remove_shown, all_of_each}
 use Rattle.dc_store.proofs.Nodes.{shown_as}
 use Rattle.dc_store.proofs.Stores.{Shows, lives_as}
-use Rattle.dc_store.proofs.Tests.{to_test}
+use Rattle.dc_store.proofs.Decides.{to_test}
 
 nodes_without : (n : ℕ) (nodes : List (ℕ × rust_node.Node)) → IsTrue (is_sorted nat_cmp (map inode_shown nodes)) → map inode_shown (remove_entry (is_at (nat_cmp n)) nodes) ≡ without_number n (map inode_shown nodes)
 nodes_without n nodes in_order =

@@ -11,7 +11,7 @@ use Rattle.dc_store.specs.Inodes.{with_names, entries_of, inode_at, led_to}
 use Rattle.dc_plain.specs.Spots.{spot_at}
 use Rattle.dc_store.specs.declared.inode.Inode.{Inode}
 use Rattle.dc_store.proofs.Spots.{spots_total}
-use Rattle.dc_store.proofs.Tests.{same_number}
+use Rattle.dc_store.proofs.Decides.{same_number}
 
 sorted_names : (d : ℕ) (names : List (List ℕ × ℕ)) (es : List (Spot × ℕ)) → T (is_sorted spot_cmp es) → T (is_sorted spot_cmp (with_names d names es))
 sorted_names d [] es s = s

@@ -2,7 +2,6 @@
 use Rattle.std.proofs.Common.{◌≡◌, ℕ, ◌+◌, ◌<◌, ◌^◌, ◌==◌, List, [], Bool, true, false, cond, Option, Some, None, is_some, option_map, IsTrue, IfSome, T, refl, ap, sym, ◌∙◌, subst, arith}
 use Rattle.std.specs.Cmp.{nat_cmp_total}
 use Rattle.std.specs.FinMap.Entries.{put, is_sorted, is_sorted-put, is_sorted-where_key, find-put}
-use Rattle.std.specs.FinMap.Entries.{find as lookup}
 use Rattle.std.specs.Ordering.{nat_cmp, eq_by_cmp}
 use Rattle.dc_plain.specs.Conditions.{IsFree, CanBeNamed}
 use Rattle.dc_plain.specs.Effects.{with_new, with_entry_for}
@@ -23,7 +22,7 @@ use Rattle.dc_store.proofs.NameCounts.{names_further}
 use Rattle.dc_store.proofs.NodesKept.{shown_at, sorted_shown, nodes_kept, nodes_put}
 use Rattle.dc_store.proofs.Slots.{same_inodes, found_without}
 use Rattle.dc_store.proofs.Stores.{Shows, shows_now, sound_as}
-use Rattle.dc_store.proofs.Tests.{to_test, itself, same_number, is_directory_in}
+use Rattle.dc_store.proofs.Decides.{to_test, same_number, is_directory_in}
 
 -- the inodes stand for the tree, and keep their counts
 pub record Keeps (inodes : List (ℕ × Inode)) (next : ℕ) (t : Tree) : Type 0 where

@@ -14,7 +14,7 @@ use Rattle.dc_store.proofs.Listed.{names_at, names_listed}
 use Rattle.dc_store.proofs.Nodes.{copied_mapped, told}
 use Rattle.dc_store.proofs.NodesKept.{node_found}
 use Rattle.dc_store.proofs.Stores.{sound_as}
-use Rattle.dc_store.proofs.Tests.{from_test}
+use Rattle.dc_store.proofs.Decides.{from_test}
 
 module _ {inodes : List (ℕ × Inode)} {next : ℕ} {t : Tree} (now : Keeps inodes next t) (n : ℕ) where
   names_of_tree : IsTrue (is_sorted name_cmp (names_at (inode_at inodes n))) → map (λ e. e.0) (names_at (inode_at inodes n)) ≡ names_in t n

@@ -13,7 +13,7 @@ use Rattle.dc_store.specs.Keys.{key_of, spot_in, entry_shown, IsKey, AreKept}
 use Rattle.dc_store.proofs.Keys.{cmp-key, spot_in-key_of, key_of-IsKey}
 use Rattle.dc_store.proofs.Maps.{Agree, all_weaker, lookup_shown, insert_shown, keys_insert, remove_shown, keys_remove}
 use Rattle.dc_store.proofs.Spots.{spots_total}
-use Rattle.dc_store.proofs.Tests.{to_test, from_test}
+use Rattle.dc_store.proofs.Decides.{to_test, from_test}
 
 module _ {entries : List (Vec ℕ × ℕ)} (kept : AreKept entries) (spot : Spot) (fits : spot.dir < 2 ^ 64) where
   agrees : (key : List ℕ) → key ≡ key_of spot → Agree {X = ℕ} spot_cmp (λ (k : Vec ℕ). spot_in k.items) (λ n. n) (λ k. slice_cmp nat_cmp key k.items) spot entries

@@ -1,4 +1,4 @@
-pub mod Tests
+pub mod Decides
 pub mod Spots
 pub mod Keys
 pub mod Spelled

@@ -1,10 +1,9 @@
 -- A store with an entry for what lives.
-use Rattle.std.proofs.Common.{◌≡◌, ◌≢◌, ℕ, ◌==◌, List, false, cond, Some, None, IsTrue, true, ap, sym, ◌∙◌, subst}
+use Rattle.std.proofs.Common.{◌≡◌, ◌≢◌, ℕ, ◌==◌, List, false, cond, Some, true, ap, sym, ◌∙◌, subst}
 use Rattle.std.specs.FinMap.Entries.{put}
-use Rattle.dc_names.specs.Bytes.{is_name}
 use Rattle.dc_plain.specs.Conditions.{IsFree, CanBeNamed}
 use Rattle.dc_plain.specs.Effects.{with_entry_for}
-use Rattle.dc_plain.specs.Trees.{Tree, Spot, spot_cmp, inode_of, entry_number, is_directory_inode, is_live_directory}
+use Rattle.dc_plain.specs.Trees.{Tree, Spot, spot_cmp, inode_of, is_directory_inode, is_live_directory}
 use Rattle.dc_plain.specs.Trees.Inode.{Directory}
 use Rattle.dc_plain.specs.Spots.{spot_at}
 use Rattle.dc_store.specs.Laws.{TreeLaws}

@@ -14,7 +14,7 @@ use Rattle.dc_plain.specs.Spots.{spot_at}
 use Rattle.dc_store.specs.declared.inode.Inode.{Inode}
 use Rattle.dc_store.proofs.Entered.{sorted_entries, found_spot}
 use Rattle.dc_store.proofs.Spots.{same_spot, same_spots}
-use Rattle.dc_store.proofs.Tests.{same_number, to_test}
+use Rattle.dc_store.proofs.Decides.{same_number, to_test}
 
 -- the entry of a name in a directory
 entered : ℕ → List ℕ × ℕ → Spot × ℕ

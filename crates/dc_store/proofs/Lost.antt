@@ -17,7 +17,7 @@ use Rattle.dc_store.proofs.Entered.{found_spot}
 use Rattle.dc_store.proofs.NodesKept.{shown_at}
 use Rattle.dc_store.proofs.Slots.{found_without}
 use Rattle.dc_store.proofs.Spots.{same_spot}
-use Rattle.dc_store.proofs.Tests.{itself, some_in}
+use Rattle.dc_store.proofs.Decides.{itself, some_in}
 
 -- what the loss of an entry leaves
 pub record Leaves (lost : Option ℕ) (inodes : List (ℕ × Inode)) (entries : List (Spot × ℕ)) : Type 0 where

@@ -19,7 +19,7 @@ use Rattle.dc_store.specs.declared.node.Node.TheVariants as kinds
 use Rattle.dc_store.proofs.Maps.{insert_shown, all_of_each, remove_inserted, lookup_inserted}
 use Rattle.dc_store.proofs.Nodes.{inode_shown_at}
 use Rattle.dc_store.proofs.Stores.{Shows, sound_as}
-use Rattle.dc_store.proofs.Tests.{same_number, itself}
+use Rattle.dc_store.proofs.Decides.{same_number, itself}
 
 pub differs : (n : ℕ) {next : ℕ} → n ≡ next → eq_by_cmp nat_cmp n next ≡ false → ⊥
 differs n {next} same other = let e = itself n in subst (λ k. eq_by_cmp nat_cmp n k ≡ false → ⊥) same (λ f. cc) other

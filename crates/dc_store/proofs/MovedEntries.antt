@@ -7,7 +7,7 @@ use Rattle.std.specs.declared.cmp.Ordering.TheVariants.{Less, Equal, Greater}
 use Rattle.std.specs.Ordering.{is_eq, eq_by_cmp, ordering_reverse}
 use Rattle.dc_plain.specs.Trees.{Spot, spot_cmp, without_spot}
 use Rattle.dc_store.proofs.Spots.{spots_total, same_spot, same_spots, lookup-take}
-use Rattle.dc_store.proofs.Tests.{to_test}
+use Rattle.dc_store.proofs.Decides.{to_test}
 
 turned : (o : Ordering) → is_eq (ordering_reverse o) ≡ is_eq o
 turned Less = refl

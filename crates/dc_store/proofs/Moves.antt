@@ -19,7 +19,7 @@ use Rattle.dc_store.proofs.Dropped.{entries_left, dropped}
 use Rattle.dc_store.proofs.MovedEntries.{moved_alone, moved_over}
 use Rattle.dc_store.proofs.Spots.{same_spot}
 use Rattle.dc_store.proofs.Stores.{Shows, lives_as}
-use Rattle.dc_store.proofs.Tests.{to_test, from_test, decided, decided_not, other_test, some_in}
+use Rattle.dc_store.proofs.Decides.{to_test, from_test, decided, decided_not, other_test, some_in}
 
 -- a directory with another parent
 new_parent : (to up : ℕ) (o : Option rust_node.Node) → option_map (with_parent to) o ≡ Some (kinds.Dir up) → (up ≡ to) × (old : ℕ) × (o ≡ Some (kinds.Dir old))

@@ -1,5 +1,5 @@
 -- How many names each inode has after an effect.
-use Rattle.std.proofs.Common.{◌≡◌, ◌≢◌, ℕ, ◌+◌, ◌==◌, List, true, false, cond, Option, Some, None, refl, ap, sym, ◌∙◌, subst, arith}
+use Rattle.std.proofs.Common.{◌≡◌, ◌≢◌, ℕ, ◌+◌, ◌==◌, List, true, false, cond, Option, Some, None, refl, ap, sym, subst, arith}
 use Rattle.dc_plain.specs.Conditions.{IsFree, CanLose, CanMove}
 use Rattle.dc_plain.specs.EffectFacts.{Clears}
 use Rattle.dc_plain.specs.Effects.{with_entry_for, without_entry, cleared, tree_moved}
@@ -8,7 +8,7 @@ use Rattle.dc_plain.specs.Spots.{spot_at}
 use Rattle.dc_plain.specs.Trees.{Tree, entry_number, names_of}
 use Rattle.dc_store.specs.Laws.{TreeLaws}
 use Rattle.dc_store.proofs.CountedInodes.{one}
-use Rattle.dc_store.proofs.Tests.{decided, decided_not}
+use Rattle.dc_store.proofs.Decides.{decided, decided_not}
 
 -- one number counts one more, and each other as many
 one_more : (f g : ℕ → ℕ) (n : ℕ) → f n ≡ g n + 1 → ((q : ℕ) → q ≢ n → f q ≡ g q) → (q : ℕ) → f q ≡ g q + cond (n == q) 1 0

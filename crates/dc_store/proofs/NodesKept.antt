@@ -14,7 +14,7 @@ use Rattle.dc_store.specs.declared.node.Node as rust_node
 use Rattle.dc_store.proofs.Changed.{found_changed, sorted_changed}
 use Rattle.dc_store.proofs.Maps.{insert_put, lookup_find, remove_shown, all_of_each}
 use Rattle.dc_store.proofs.Nodes.{shown_the_same}
-use Rattle.dc_store.proofs.Tests.{same_number}
+use Rattle.dc_store.proofs.Decides.{same_number}
 
 exact : (m n : ℕ) → nat_cmp m n ≡ Equal → m ≡ n
 exact m n e = same_number m n (ap is_eq e)

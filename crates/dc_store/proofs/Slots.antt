@@ -14,7 +14,7 @@ use Rattle.dc_store.specs.Slots.{with_slot, inodes_in, IsKept}
 use Rattle.dc_store.specs.declared.inode.Inode.{Inode}
 use Rattle.dc_store.proofs.Maps.{lookup_find}
 use Rattle.dc_store.proofs.Spots.{lookup-take}
-use Rattle.dc_store.proofs.Tests.{same_number, from_test}
+use Rattle.dc_store.proofs.Decides.{same_number, from_test}
 
 exact : (m n : ℕ) → nat_cmp m n ≡ Equal → m ≡ n
 exact m n e = same_number m n (ap is_eq e)

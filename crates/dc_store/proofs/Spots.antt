@@ -1,5 +1,5 @@
 -- Names in directories in order, and lists of entries that are in that order.
-use Rattle.std.proofs.Common.{◌≡◌, ℕ, List, Bool, true, not, cond, None, T, refl, ap, sym}
+use Rattle.std.proofs.Common.{◌≡◌, ℕ, List, true, not, cond, None, T, refl, ap, sym}
 use Rattle.std.proofs.lemmas.Cmp.{on_total, then_total}
 use Rattle.std.proofs.lemmas.Map.Lookups.{exact_pairs}
 use Rattle.std.specs.Cmp.{IsTotalOrder, nat_cmp_total, alike_right}
