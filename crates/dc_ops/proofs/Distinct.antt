@@ -1,20 +1,19 @@
 -- A plan touches each key once.
-use Rattle.std.proofs.Common.{◌≡◌, ◌≢◌, ◌⊎◌, inl, inr, arith, ℕ, zero, suc, List, [], ◌∷◌, ◌++◌, Bool, true, false, Option, Some, None, slice_get, length, refl, ap, sym, ◌∙◌, subst, if◌then◌else◌, ◌==◌}
+use Rattle.std.proofs.Common.{◌≡◌, ◌≢◌, ◌⊎◌, inl, inr, arith, ℕ, zero, suc, List, [], ◌∷◌, ◌++◌, Bool, true, false, Option, Some, None, slice_get, refl, ap, sym, ◌∙◌, subst, if◌then◌else◌, ◌==◌}
 use Rattle.dc_names.specs.declared.kind.Kind.{Kind}
 use Rattle.dc_names.specs.declared.kind.Kind.TheVariants.{Dir, File, Link}
 use Rattle.dc_plain.specs.Facts.{Key, Label}
 use Rattle.dc_plain.specs.Facts.Label.{Entry, Parent, Text}
 use Rattle.dc_plain.specs.KeysShown.{keys_in}
 use Rattle.dc_plain.specs.Spots.{spot_at, spot_shown}
-use Rattle.dc_plain.specs.TouchedKeys.{entry_key, parent_key, keys_gone, keys_at, own_keys, spot_key, with_number}
+use Rattle.dc_plain.specs.TouchedKeys.{keys_gone, keys_at, own_keys, spot_key, with_number}
 use Rattle.dc_plain.specs.Trees.{Tree, Spot, Inode, entry_number, inode_of, kind_of, names_of}
-use Rattle.dc_plain.specs.Trees.Inode.{Directory, Regular, Symbolic}
 use Rattle.dc_store.specs.declared.store.New as rust_new
 use Rattle.dc_store.specs.declared.store.New.TheVariants as news
 use Rattle.dc_ops.specs.Keys.{AreDistinct, keys_made, keys_of, keys_reparented}
 use Rattle.dc_ops.specs.Plans.{CanCarry, Loses}
-use Rattle.dc_ops.specs.declared.steps.Plan as rust_plan
-use Rattle.dc_ops.specs.declared.steps.Plan.TheVariants as plans
+use Rattle.dc_ops.specs.declared.plans.Plan as rust_plan
+use Rattle.dc_ops.specs.declared.plans.Plan.TheVariants as plans
 
 -- a key that isn't there
 abbrev Absent : Key → List Key → Type 0

@@ -1,5 +1,5 @@
 -- What goes with its last name, and what a count says by its kind.
-use Rattle.std.proofs.Common.{◌≡◌, ◌≢◌, ℕ, ◌≤◌, ◌==◌, List, Bool, true, false, Option, Some, None, Ok, is_some, option_and_then, refl, ap, sym, ◌∙◌, arith, length, option_map, subst, cond, if◌then◌else◌, [], ◌∷◌, ◌+◌}
+use Rattle.std.proofs.Common.{◌≡◌, ◌≢◌, ℕ, ◌≤◌, ◌==◌, List, Bool, true, false, Option, Some, None, Ok, option_and_then, refl, ap, sym, ◌∙◌, arith, length, option_map, subst, cond, if◌then◌else◌, [], ◌∷◌, ◌+◌}
 use Rattle.dc_plain.specs.Facts.{Target}
 use Rattle.dc_plain.specs.Resolution.{is_directory}
 use Rattle.dc_plain.specs.TouchedKeys.{keys_gone, keys_at, own_keys}

@@ -1,11 +1,11 @@
 -- The keys of a rename.
 use Rattle.std.proofs.lemmas.Bool.{eq-eqb}
-use Rattle.std.proofs.Common.{◌≡◌, ◌≢◌, subst, true, IfSome, IsTrue, Result, Ok, Err, ℕ, ◌==◌, ◌&&◌, not, List, [], ◌∷◌, ◌++◌, Bool, false, Option, Some, None, refl, ap, sym, ◌∙◌, option_map, if◌then◌else◌}
+use Rattle.std.proofs.Common.{◌≡◌, ◌≢◌, subst, true, IfSome, IsTrue, Ok, Err, ℕ, ◌==◌, ◌&&◌, not, List, [], ◌∷◌, ◌++◌, Bool, false, Option, Some, None, refl, ap, sym, ◌∙◌, option_map, if◌then◌else◌}
 use Rattle.dc_plain.specs.Facts.{Target, Key}
 use Rattle.dc_names.specs.Bytes.{is_empty}
 use Rattle.dc_names.specs.declared.refusal.Refusal.TheVariants.{NotDirectory, IsDirectory, NotEmpty}
 use Rattle.dc_plain.specs.Refusals.{refuse}
-use Rattle.dc_store.specs.Dropped.{is_full_directory}
+use Rattle.dc_plain.specs.Conditions.{is_full_directory}
 use Rattle.dc_plain.specs.Operations.{same_inode, replaceable}
 use Rattle.dc_plain.specs.Resolution.{is_directory}
 use Rattle.dc_plain.specs.TouchedKeys.{entry_key, keys_gone, keys_moved, keys_renamed, keys_taken, parent_key, lead_to_one, with_number}

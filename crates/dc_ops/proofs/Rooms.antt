@@ -1,5 +1,5 @@
 -- Where an entry may be added, there is room for it.
-use Rattle.std.proofs.Common.{◌≡◌, ℕ, ◌<◌, ◌≤◌, ◌^◌, ◌||◌, ◌==◌, nat_le, length, Bool, true, false, Option, Some, None, is_some, option_map, IsTrue, refl, ap, ◌∙◌, arith}
+use Rattle.std.proofs.Common.{◌≡◌, ℕ, ◌<◌, ◌≤◌, ◌||◌, ◌==◌, nat_le, length, Bool, true, false, Option, Some, None, is_some, option_map, IsTrue, refl, ap, ◌∙◌, arith}
 use Rattle.std.proofs.lemmas.Bool.Decides.{nat_tests}
 use Rattle.dc_names.specs.declared.kind.Kind.TheVariants.{Dir}
 use Rattle.dc_plain.specs.Facts.{Target}
@@ -8,7 +8,8 @@ use Rattle.dc_plain.specs.Trees.{Tree, Inode, inode_of, target_at, kind_of, name
 use Rattle.dc_plain.specs.Trees.Inode.{Directory, Regular, Symbolic}
 use Rattle.dc_plain.specs.Refusals.{is_full}
 use Rattle.dc_plain.specs.declared.TheConstants.{MOST_NAMES, NUMBER_LIMIT}
-use Rattle.dc_store.specs.Added.{CanAdd, CanBeNamed, number_added}
+use Rattle.dc_plain.specs.Conditions.{CanBeNamed}
+use Rattle.dc_store.specs.Added.{CanAdd, number_added}
 use Rattle.dc_store.specs.declared.store.New as rust_new
 use Rattle.dc_store.specs.declared.store.New.TheVariants as news
 use Rattle.dc_ops.specs.Makes.{MakesInode}

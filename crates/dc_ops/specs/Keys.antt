@@ -7,8 +7,8 @@ use Rattle.dc_plain.specs.Spots.{spot_shown}
 use Rattle.dc_plain.specs.TouchedKeys.{entry_key, own_keys, parent_key, spot_key}
 use Rattle.dc_store.specs.declared.store.New as rust_new
 use Rattle.dc_store.specs.declared.store.New.TheVariants as news
-use Rattle.dc_ops.specs.declared.steps.Plan as rust_plan
-use Rattle.dc_ops.specs.declared.steps.Plan.TheVariants as plans
+use Rattle.dc_ops.specs.declared.plans.Plan as rust_plan
+use Rattle.dc_ops.specs.declared.plans.Plan.TheVariants as plans
 
 -- the key of its own that what is added has, where that is new
 abbrev pub keys_made : ℕ → rust_new.New → List Key

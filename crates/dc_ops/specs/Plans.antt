@@ -7,18 +7,18 @@ use Rattle.dc_plain.specs.Trees.{Tree, Spot, is_live_directory, entry_number}
 use Rattle.dc_plain.specs.Requests.{Request, Answer}
 use Rattle.dc_plain.specs.Requests.Answer.{Done, Nothing}
 use Rattle.dc_plain.specs.Requests.Request.{Unlink, Rmdir}
+use Rattle.dc_plain.specs.Conditions.{is_full_directory}
 use Rattle.dc_plain.specs.Effects.{without_entry}
 use Rattle.dc_plain.specs.Operations.{Change, operation}
 use Rattle.dc_plain.specs.Runs.{alters}
 use Rattle.dc_plain.specs.Spots.{spot_at, spot_shown}
 use Rattle.dc_plain.specs.TouchedKeys.{keys_gone, keys_touched, with_number}
 use Rattle.dc_store.specs.Added.{CanAdd, tree_added, number_added}
-use Rattle.dc_store.specs.Dropped.{is_full_directory}
 use Rattle.dc_store.specs.Moved.{CanStandAt, tree_moved}
 use Rattle.dc_store.specs.declared.store.New as rust_new
 use Rattle.dc_ops.specs.Keys.{AreDistinct, keys_of}
-use Rattle.dc_ops.specs.declared.steps.Plan as rust_plan
-use Rattle.dc_ops.specs.declared.steps.Plan.TheVariants as plans
+use Rattle.dc_ops.specs.declared.plans.Plan as rust_plan
+use Rattle.dc_ops.specs.declared.plans.Plan.TheVariants as plans
 
 -- the reply of a plan and the tree that it leaves
 abbrev pub effect : rust_plan.Plan → Tree → Answer × Tree

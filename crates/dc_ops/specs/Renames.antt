@@ -1,5 +1,5 @@
 -- A rename once both names are known.
-use Rattle.std.specs.Prelude.{ℕ, List, length, ◌&&◌, Ok, if◌then◌else◌}
+use Rattle.std.specs.Prelude.{List, length, ◌&&◌, Ok, if◌then◌else◌}
 use Rattle.dc_names.specs.declared.refusal.Refusal.TheVariants.{Invalid}
 use Rattle.dc_plain.specs.Facts.{Target, Key}
 use Rattle.dc_plain.specs.TouchedKeys.{keys_renamed}

@@ -1,23 +1,23 @@
 //! What a call makes of a store: changes as plans that are carried out, and reads.
 #![tactic(auto)]
 
-mod asking;
-mod carrying;
-mod changes;
+mod conditions;
+mod dispatch;
+mod effects;
 mod finder;
 mod keys;
 mod makes;
 mod paths;
+mod plans;
 mod reads;
 mod renames;
-mod steps;
 mod takes;
 
-pub use carrying::carry;
-pub use changes::plan;
 pub use dc_plain::{Call, Key, Label, Reply};
+pub use dispatch::plan;
+pub use effects::carry;
+pub use plans::Plan;
 pub use reads::{ask, seek};
-pub use steps::Plan;
 
 #[cfg(test)]
 mod tests;

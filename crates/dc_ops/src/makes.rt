@@ -12,7 +12,7 @@ ghost use Rattle.dc_ops.specs.Makes.{MakesInode, made_for, may_end_in_slash};
 ghost use Rattle.dc_ops.specs.Plans.{Settles};
 
 use crate::Plan;
-use crate::asking::{is_full, is_there, name_or, place_text, present, refuse};
+use crate::conditions::{is_full, is_there, name_or, place_text, present, refuse};
 use crate::paths::{path_of, place_path};
 use dc_names::Refusal;
 use dc_plain::{MOST_NAMES, Target, is_directory, paths_lead_to_the_living};

@@ -11,7 +11,9 @@ ghost use Rattle.dc_ops.specs.Reads.{answered};
 
 use crate::paths::{path_of, walk_path};
 use dc_names::{NoMemory, Refusal};
-use dc_plain::{Call, Follow, Reply, Target, paths_lead_to_the_living};
+use dc_plain::{
+    Call, Follow, Reply, Target, alters_tells_whether_trees_differ, paths_lead_to_the_living,
+};
 use dc_store::Store;
 use std::alloc::Global;
 
@@ -28,6 +30,7 @@ pub fn seek<S: Store>(store: &S, call: &Call<'_>) -> Reply
     ensures { (limit : ℕ) →
         Declines limit (S.tree store.now) (request_of call.now) (answer_of result) }
 {
+    alters_tells_whether_trees_differ();
     match *call {
         Call::Look { base, path, follow } => look(store, base, path, follow),
         Call::Stat { base, path } => stat(store, base, path),
@@ -69,6 +72,7 @@ pub fn ask<S: Store>(alloc: Global, store: &S, call: &Call<'_>) -> Result<Reply,
     ensures { IfOk result (λ reply. (limit : ℕ) →
         Declines limit (S.tree store.now) (request_of call.now) (answer_of reply)) }
 {
+    alters_tells_whether_trees_differ();
     Ok(match *call {
         Call::Readlink { base, path } => read_link(alloc, store, base, path)?,
         Call::List { base, path } => list(alloc, store, base, path)?,

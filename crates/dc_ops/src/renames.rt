@@ -13,7 +13,7 @@ ghost use Rattle.dc_ops.specs.Plans.{SettlesIf};
 ghost use Rattle.dc_ops.specs.Renames.{keys_of_move, move_to};
 
 use crate::Plan;
-use crate::asking::{name_or_each, present, refuse};
+use crate::conditions::{name_or_each, present, refuse};
 use crate::finder::entry;
 use crate::paths::{path_of, place_path};
 use crate::takes::{is_empty, lost_key};

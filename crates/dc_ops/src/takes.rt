@@ -11,7 +11,7 @@ ghost use Rattle.dc_plain.specs.Trees.{names_in, names_of, target_at};
 ghost use Rattle.dc_ops.specs.Plans.{IsDrop, Settles};
 
 use crate::Plan;
-use crate::asking::{name_or, name_or_each, place_text, present, refuse};
+use crate::conditions::{name_or, name_or_each, place_text, present, refuse};
 use dc_names::Refusal;
 use dc_plain::{Key, Target, is_directory};
 use dc_store::Store;

@@ -7,15 +7,15 @@ use Rattle.std.specs.FinMap.Entries.{find as lookup}
 use Rattle.std.specs.Ordering.{nat_cmp, eq_by_cmp, is_eq, ordering_then}
 use Rattle.std.specs.declared.cmp.Ordering.{Ordering}
 use Rattle.std.specs.declared.cmp.Ordering.TheVariants.{Less, Equal, Greater}
-use Rattle.dc_plain.proofs.Made.{spots_total, same_number}
-use Rattle.dc_plain.proofs.Takes.{lookup-take}
 use Rattle.dc_plain.specs.Trees.{Spot, spot_cmp, without_spot}
 use Rattle.dc_store.specs.Names.{name_cmp, without_name}
 use Rattle.dc_store.specs.Inodes.{entries_of, inode_at, led_to, changed, with_name, less_name, without_inode}
 use Rattle.dc_plain.specs.Spots.{spot_at}
 use Rattle.dc_store.specs.declared.inode.Inode.{Inode}
-use Rattle.dc_store.proofs.Entered.{same_spots, sorted_entries, found_spot}
+use Rattle.dc_store.proofs.Entered.{sorted_entries, found_spot}
 use Rattle.dc_store.proofs.Slots.{tied_ways, found_without}
+use Rattle.dc_store.proofs.Spots.{spots_total, same_spots, lookup-take}
+use Rattle.dc_store.proofs.Decides.{same_number}
 
 module _ (n : ℕ) (f : Inode → Inode) (inodes : List (ℕ × Inode)) where
   pub found_changed : (q : ℕ) → inode_at (changed n f inodes) q ≡ cond (eq_by_cmp nat_cmp q n) (option_map f (inode_at inodes q)) (inode_at inodes q)

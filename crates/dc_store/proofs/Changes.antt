@@ -3,10 +3,10 @@ use Rattle.std.proofs.Common.{◌≡◌, ℕ, List, true, false, cond, Some, Res
 use Rattle.std.specs.Cmp.{nat_cmp_total}
 use Rattle.std.specs.FinMap.Entries.{put, is_sorted, is_sorted-put, find-put}
 use Rattle.std.specs.Ordering.{nat_cmp, eq_by_cmp}
-use Rattle.dc_plain.proofs.Made.{itself, same_number, to_test}
 use Rattle.dc_store.specs.Inodes.{inode_at, count_kept}
 use Rattle.dc_store.specs.declared.inode.Inode.{Inode}
 use Rattle.dc_store.proofs.Slots.{same_inodes}
+use Rattle.dc_store.proofs.Decides.{itself, same_number, to_test}
 
 pub on_err : {A E : Type 0} (r : Result A E) {P Q : Type 0} → (P → Q) → OnErr r P → OnErr r Q
 on_err (Ok a) so h = h

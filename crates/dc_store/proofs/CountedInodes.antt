@@ -5,7 +5,6 @@ use Rattle.std.specs.BTreeMap.{is_at}
 use Rattle.std.specs.FinMap.Entries.{is_sorted}
 use Rattle.std.specs.Map.{remove_entry}
 use Rattle.std.specs.Ordering.{nat_cmp, eq_by_cmp}
-use Rattle.dc_plain.proofs.Made.{itself}
 use Rattle.dc_plain.specs.Trees.{Spot, how_many}
 use Rattle.dc_store.specs.Inodes.{inode_at, changed, one_up, one_down, count_kept, inodes_after, without_inode, nodes_of}
 use Rattle.dc_store.specs.Maps.{node_at, nodes_after}
@@ -14,6 +13,7 @@ use Rattle.dc_store.specs.declared.node.Node as rust_node
 use Rattle.dc_store.proofs.Changed.{found_changed, sorted_changed}
 use Rattle.dc_store.proofs.NodesKept.{node_found, nodes_kept, nodes_less}
 use Rattle.dc_store.proofs.Slots.{found_without}
+use Rattle.dc_store.proofs.Decides.{itself}
 
 -- one for the number that lost an entry
 abbrev pub one : Option ℕ → ℕ → ℕ

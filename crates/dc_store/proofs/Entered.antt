@@ -1,23 +1,17 @@
 -- The entries of inodes in order: what a name finds, and how they change as an inode does.
 use Rattle.std.proofs.Common.{◌≡◌, ℕ, List, [], ◌∷◌, Bool, true, false, cond, ◌&&◌, Option, Some, None, option_and_then, T, refl, ap, ◌∙◌}
-use Rattle.std.specs.FinMap.Entries.{below_all, is_sorted, is_sorted-put, find-put, same_entries}
+use Rattle.std.specs.FinMap.Entries.{below_all, is_sorted, is_sorted-put, find-put}
 use Rattle.std.specs.FinMap.Entries.{find as lookup}
 use Rattle.std.specs.Ordering.{nat_cmp, eq_by_cmp, is_eq, is_lt, ordering_then}
 use Rattle.std.specs.declared.cmp.Ordering.{Ordering}
 use Rattle.std.specs.declared.cmp.Ordering.TheVariants.{Less, Equal, Greater}
-use Rattle.dc_plain.proofs.Made.{spots_total, same_number}
-use Rattle.dc_plain.proofs.SameFacts.{same_spot}
 use Rattle.dc_plain.specs.Trees.{Spot, spot_cmp}
 use Rattle.dc_store.specs.Names.{name_cmp}
 use Rattle.dc_store.specs.Inodes.{with_names, entries_of, inode_at, led_to}
 use Rattle.dc_plain.specs.Spots.{spot_at}
 use Rattle.dc_store.specs.declared.inode.Inode.{Inode}
-
-exact : (x y : Spot) → spot_cmp x y ≡ Equal → x ≡ y
-exact x y e = same_spot x y (ap is_eq e)
-
-pub same_spots : (es fs : List (Spot × ℕ)) → T (is_sorted spot_cmp es) → T (is_sorted spot_cmp fs) → ((q : Spot) → lookup spot_cmp q es ≡ lookup spot_cmp q fs) → es ≡ fs
-same_spots = same_entries spot_cmp spots_total exact
+use Rattle.dc_store.proofs.Spots.{spots_total}
+use Rattle.dc_store.proofs.Decides.{same_number}
 
 sorted_names : (d : ℕ) (names : List (List ℕ × ℕ)) (es : List (Spot × ℕ)) → T (is_sorted spot_cmp es) → T (is_sorted spot_cmp (with_names d names es))
 sorted_names d [] es s = s

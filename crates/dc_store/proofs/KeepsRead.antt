@@ -2,7 +2,6 @@
 use Rattle.std.proofs.Common.{◌≡◌, ℕ, ◌==◌, List, [], map, Bor, Option, Some, None, option_map, IfSome, IfNone, IsTrue, refl, ap, sym, ◌∙◌, subst, arith}
 use Rattle.std.specs.FinMap.Entries.{is_sorted}
 use Rattle.std.specs.Option.{option_copied}
-use Rattle.dc_plain.proofs.Made.{from_test}
 use Rattle.dc_plain.specs.Trees.{Tree, Spot, how_many, inode_of, names_in}
 use Rattle.dc_store.specs.Inodes.{entries_of, nodes_of, inode_at}
 use Rattle.dc_store.specs.Keys.{names_by}
@@ -15,6 +14,7 @@ use Rattle.dc_store.proofs.Listed.{names_at, names_listed}
 use Rattle.dc_store.proofs.Nodes.{copied_mapped, told}
 use Rattle.dc_store.proofs.NodesKept.{node_found}
 use Rattle.dc_store.proofs.Stores.{sound_as}
+use Rattle.dc_store.proofs.Decides.{from_test}
 
 module _ {inodes : List (ℕ × Inode)} {next : ℕ} {t : Tree} (now : Keeps inodes next t) (n : ℕ) where
   names_of_tree : IsTrue (is_sorted name_cmp (names_at (inode_at inodes n))) → map (λ e. e.0) (names_at (inode_at inodes n)) ≡ names_in t n

@@ -8,16 +8,16 @@ use Rattle.std.specs.Global.{Vec}
 use Rattle.std.specs.List.{AllByRecursion}
 use Rattle.std.specs.Map.{lookup, remove_entry}
 use Rattle.std.specs.Ordering.{nat_cmp}
-use Rattle.dc_plain.proofs.Made.{spots_total, to_test, from_test}
-use Rattle.dc_plain.proofs.Puts.{All-weaker}
 use Rattle.dc_plain.specs.Trees.{Spot, spot_cmp, without_spot}
 use Rattle.dc_store.specs.Keys.{key_of, spot_in, entry_shown, IsKey, AreKept}
 use Rattle.dc_store.proofs.Keys.{cmp-key, spot_in-key_of, key_of-IsKey}
-use Rattle.dc_store.proofs.Maps.{Agree, lookup_shown, insert_shown, keys_insert, remove_shown, keys_remove}
+use Rattle.dc_store.proofs.Maps.{Agree, all_weaker, lookup_shown, insert_shown, keys_insert, remove_shown, keys_remove}
+use Rattle.dc_store.proofs.Spots.{spots_total}
+use Rattle.dc_store.proofs.Decides.{to_test, from_test}
 
 module _ {entries : List (Vec ℕ × ℕ)} (kept : AreKept entries) (spot : Spot) (fits : spot.dir < 2 ^ 64) where
   agrees : (key : List ℕ) → key ≡ key_of spot → Agree {X = ℕ} spot_cmp (λ (k : Vec ℕ). spot_in k.items) (λ n. n) (λ k. slice_cmp nat_cmp key k.items) spot entries
-  agrees key is = All-weaker (λ e. IsKey e.0.items) _ (λ e good. ap (λ (k : List ℕ). slice_cmp nat_cmp k e.0.items) is ∙ cmp-key spot e.0.items fits good) entries kept.keys
+  agrees key is = all_weaker (λ e. IsKey e.0.items) _ (λ e good. ap (λ (k : List ℕ). slice_cmp nat_cmp k e.0.items) is ∙ cmp-key spot e.0.items fits good) entries kept.keys
 
   same_option : (o : Option ℕ) → option_map (λ n. n) o ≡ o
   same_option None = refl

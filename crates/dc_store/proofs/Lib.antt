@@ -1,3 +1,5 @@
+pub mod Decides
+pub mod Spots
 pub mod Keys
 pub mod Spelled
 pub mod Maps
@@ -19,7 +21,7 @@ pub mod Changed
 pub mod Listed
 pub mod NodesKept
 pub mod CountedInodes
-pub mod MovedCounts
+pub mod NameCounts
 pub mod Lost
 pub mod Keeps
 pub mod KeepsMoved

@@ -6,15 +6,15 @@ use Rattle.std.specs.FinMap.Entries.{find as lookup}
 use Rattle.std.specs.Ordering.{nat_cmp, eq_by_cmp, is_eq, is_lt, ordering_then}
 use Rattle.std.specs.declared.cmp.Ordering.{Ordering}
 use Rattle.std.specs.declared.cmp.Ordering.TheVariants.{Less, Equal, Greater}
-use Rattle.dc_plain.proofs.Made.{same_number, to_test}
-use Rattle.dc_plain.proofs.SameFacts.{same_spot}
 use Rattle.dc_plain.specs.Trees.{Spot, spot_cmp}
 use Rattle.dc_store.specs.Keys.{names_by}
 use Rattle.dc_store.specs.Names.{name_cmp}
 use Rattle.dc_store.specs.Inodes.{entries_of, inode_at, led_to}
 use Rattle.dc_plain.specs.Spots.{spot_at}
 use Rattle.dc_store.specs.declared.inode.Inode.{Inode}
-use Rattle.dc_store.proofs.Entered.{same_spots, sorted_entries, found_spot}
+use Rattle.dc_store.proofs.Entered.{sorted_entries, found_spot}
+use Rattle.dc_store.proofs.Spots.{same_spot, same_spots}
+use Rattle.dc_store.proofs.Decides.{same_number, to_test}
 
 -- the entry of a name in a directory
 entered : ℕ → List ℕ × ℕ → Spot × ℕ

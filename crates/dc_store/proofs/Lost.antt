@@ -4,8 +4,6 @@ use Rattle.std.specs.FinMap.Entries.{is_sorted, is_sorted-where_key}
 use Rattle.std.specs.FinMap.Entries.{find as lookup}
 use Rattle.std.specs.List.{AllByRecursion}
 use Rattle.std.specs.Ordering.{nat_cmp, eq_by_cmp}
-use Rattle.dc_plain.proofs.Made.{itself}
-use Rattle.dc_plain.proofs.SameFacts.{same_spot}
 use Rattle.dc_plain.specs.IsWellFormed.{IsWellFormed, Stands}
 use Rattle.dc_plain.specs.Trees.{Tree, Spot, spot_cmp, entry_number, inode_of, is_directory_inode, is_live_directory}
 use Rattle.dc_store.specs.Inodes.{entries_of, nodes_of, inode_at, changed, one_down, count_kept, inodes_after, without_inode}
@@ -18,10 +16,8 @@ use Rattle.dc_store.proofs.CountedInodes.{IsCounted, had_name, lost_nodes, lost_
 use Rattle.dc_store.proofs.Entered.{found_spot}
 use Rattle.dc_store.proofs.NodesKept.{shown_at}
 use Rattle.dc_store.proofs.Slots.{found_without}
-
-pub there : (o : Option Inode) → IsTrue (is_some o) → (i : Inode) × (o ≡ Some i)
-there None h = absurd cc
-there (Some i) h = (i, refl)
+use Rattle.dc_store.proofs.Spots.{same_spot}
+use Rattle.dc_store.proofs.Decides.{itself, some_in}
 
 -- what the loss of an entry leaves
 pub record Leaves (lost : Option ℕ) (inodes : List (ℕ × Inode)) (entries : List (Spot × ℕ)) : Type 0 where
@@ -33,7 +29,7 @@ module _ (inodes : List (ℕ × Inode)) (sorted : T (is_sorted nat_cmp inodes)) 
   pub left : (lost : Option ℕ) → IsCounted lost inodes entries → IfSome lost (λ n. IsTrue (is_some (inode_at inodes n))) → Leaves lost inodes entries
   left None counted lives = record { nodes = refl; counted = counted; kept = λ q node e. e }
   left (Some n) counted lives =
-      let (i, is) = there (inode_at inodes n) lives in
+      let (i, is) = some_in (inode_at inodes n) lives in
       record { nodes = lost_nodes inodes sorted entries n counted i is; counted = lost_counted inodes sorted entries n counted i is; kept = lost_kept inodes sorted entries n counted i is }
 
   pub can_lose : (lost : Option ℕ) → IsCounted lost inodes entries → IfSome lost (λ n. IfSome (inode_at inodes n) (λ inode. 0 < inode.count))

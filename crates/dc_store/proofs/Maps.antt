@@ -54,6 +54,10 @@ pub all_of_each : {X : Type 0} (P : X → Type 0) → ((x : X) → P x) → (xs 
 all_of_each P so [] = tt
 all_of_each P so (x ∷ xs) = (so x, all_of_each P so xs)
 
+pub all_weaker : {X : Type 0} (P Q : X → Type 0) → ((x : X) → P x → Q x) → (xs : List X) → AllByRecursion P xs → AllByRecursion Q xs
+all_weaker P Q so [] all = tt
+all_weaker P Q so (x ∷ xs) all = (so x all.0, all_weaker P Q so xs all.1)
+
 -- what was absent goes as it came
 pub remove_inserted : {K X : Type 0} {R : K → K → Ordering} → IsTotalOrder R → (k : K) (v : X) (es : List (K × X)) → lookup (is_at (R k)) es ≡ None
     → remove_entry (is_at (R k)) (insert_entry R es k v) ≡ es

@@ -1,29 +1,25 @@
 -- An entry put in before another goes, or after: the list is the same.
 use Rattle.std.proofs.Common.{◌≡◌, ℕ, List, true, false, not, cond, Some, None, IsTrue, refl, ap, sym, ◌∙◌}
-use Rattle.std.specs.FinMap.Entries.{put, is_sorted, is_sorted-put, is_sorted-where_key, find-put, same_entries}
+use Rattle.std.specs.FinMap.Entries.{put, is_sorted, is_sorted-put, is_sorted-where_key, find-put}
 use Rattle.std.specs.FinMap.Entries.{find as lookup}
 use Rattle.std.specs.declared.cmp.Ordering.{Ordering}
 use Rattle.std.specs.declared.cmp.Ordering.TheVariants.{Less, Equal, Greater}
 use Rattle.std.specs.Ordering.{is_eq, eq_by_cmp, ordering_reverse}
-use Rattle.dc_plain.proofs.Made.{spots_total, to_test}
-use Rattle.dc_plain.proofs.SameFacts.{same_spot}
-use Rattle.dc_plain.proofs.Takes.{lookup-take}
 use Rattle.dc_plain.specs.Trees.{Spot, spot_cmp, without_spot}
+use Rattle.dc_store.proofs.Spots.{spots_total, same_spot, same_spots, lookup-take}
+use Rattle.dc_store.proofs.Decides.{to_test}
 
 turned : (o : Ordering) → is_eq (ordering_reverse o) ≡ is_eq o
 turned Less = refl
 turned Equal = refl
 turned Greater = refl
 
-pub ties_both_ways : (x y : Spot) → eq_by_cmp spot_cmp x y ≡ eq_by_cmp spot_cmp y x
+ties_both_ways : (x y : Spot) → eq_by_cmp spot_cmp x y ≡ eq_by_cmp spot_cmp y x
 ties_both_ways x y = ap is_eq (spots_total.antisymm x y) ∙ turned (spot_cmp y x)
-
-exact : (x y : Spot) → spot_cmp x y ≡ Equal → x ≡ y
-exact x y e = same_spot x y (ap is_eq e)
 
 module _ (a b : Spot) (n : ℕ) (es : List (Spot × ℕ)) (sorted : IsTrue (is_sorted spot_cmp es)) (apart : eq_by_cmp spot_cmp a b ≡ false) where
   -- what is left where the old entry goes after the new one was put in
-  pub found_after : (q : Spot) → lookup spot_cmp q (without_spot a (put spot_cmp b n es)) ≡ cond (not (eq_by_cmp spot_cmp a q)) (cond (eq_by_cmp spot_cmp q b) (Some n) (lookup spot_cmp q es)) None
+  found_after : (q : Spot) → lookup spot_cmp q (without_spot a (put spot_cmp b n es)) ≡ cond (not (eq_by_cmp spot_cmp a q)) (cond (eq_by_cmp spot_cmp q b) (Some n) (lookup spot_cmp q es)) None
   found_after q = lookup-take spot_cmp spots_total a q (put spot_cmp b n es) ∙ ap (λ o. cond (not (eq_by_cmp spot_cmp a q)) o None) (find-put spot_cmp spots_total q b n es)
 
   found_before : (rest : List (Spot × ℕ)) (q : Spot) → lookup spot_cmp q (put spot_cmp b n (without_spot a rest)) ≡ cond (eq_by_cmp spot_cmp q b) (Some n) (cond (not (eq_by_cmp spot_cmp a q)) (lookup spot_cmp q rest) None)
@@ -46,7 +42,7 @@ module _ (a b : Spot) (n : ℕ) (es : List (Spot × ℕ)) (sorted : IsTrue (is_s
 
   order_after : IsTrue (is_sorted spot_cmp es) → (rest : List (Spot × ℕ)) → IsTrue (is_sorted spot_cmp rest) → ((q : Spot) → eq_by_cmp spot_cmp q b ≡ false → lookup spot_cmp q rest ≡ lookup spot_cmp q es)
       → without_spot a (put spot_cmp b n es) ≡ put spot_cmp b n (without_spot a rest)
-  order_after s rest r same = same_entries spot_cmp spots_total exact (without_spot a (put spot_cmp b n es)) (put spot_cmp b n (without_spot a rest))
+  order_after s rest r same = same_spots (without_spot a (put spot_cmp b n es)) (put spot_cmp b n (without_spot a rest))
       (is_sorted-where_key spot_cmp _ (put spot_cmp b n es) (is_sorted-put spot_cmp spots_total b n es (to_test _ s)))
       (is_sorted-put spot_cmp spots_total b n (without_spot a rest) (is_sorted-where_key spot_cmp _ rest (to_test _ r)))
       (λ q. alike rest q (same q))

@@ -8,9 +8,9 @@ use Rattle.std.specs.FinMap.Entries.{find as lookup_entry}
 use Rattle.std.specs.Global.{Vec}
 use Rattle.std.specs.Map.{lookup, remove_entry}
 use Rattle.std.specs.Ordering.{nat_cmp}
-use Rattle.dc_plain.proofs.Made.{to_test, from_test}
 use Rattle.dc_store.specs.Names.{name_cmp, name_shown, without_name}
 use Rattle.dc_store.proofs.Maps.{Agree, lookup_shown, insert_shown, remove_shown, all_of_each}
+use Rattle.dc_store.proofs.Decides.{to_test, from_test}
 
 module _ (entries : List (Vec ℕ × ℕ)) (name : List ℕ) where
   agrees : Agree {X = ℕ} name_cmp (λ (k : Vec ℕ). k.items) (λ n. n) (λ k. slice_cmp nat_cmp name k.items) name entries

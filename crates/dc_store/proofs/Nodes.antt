@@ -6,7 +6,6 @@ use Rattle.std.specs.Option.{option_copied}
 use Rattle.std.specs.Ordering.{nat_cmp}
 use Rattle.dc_names.specs.Paths.{fault_of, path_in}
 use Rattle.dc_names.specs.declared.fault.TextFault.{TextFault}
-use Rattle.dc_plain.proofs.Made.{is_directory_in}
 use Rattle.dc_plain.specs.Facts.{Target}
 use Rattle.dc_plain.specs.IsWellFormed.{Stands}
 use Rattle.dc_plain.specs.Resolution.{root}
@@ -16,6 +15,7 @@ use Rattle.dc_store.specs.Maps.{IsNodeAt, inode_shown, node_shown, tree_in, node
 use Rattle.dc_store.specs.declared.node.Node as rust_node
 use Rattle.dc_store.specs.declared.node.Node.TheVariants as kinds
 use Rattle.dc_store.proofs.Maps.{lookup_shown, all_of_each}
+use Rattle.dc_store.proofs.Decides.{is_directory_in}
 
 pub copied_mapped : {X Y : Type 0} (f : X → Y) (o : Option (Bor X)) → option_map (λ x. f x.now) o ≡ option_map f (option_copied o)
 copied_mapped f None = refl

@@ -7,7 +7,6 @@ use Rattle.std.specs.FinMap.Entries.{find as lookup}
 use Rattle.std.specs.Map.{remove_entry}
 use Rattle.std.specs.Ordering.{nat_cmp, eq_by_cmp, is_eq, is_lt}
 use Rattle.std.specs.declared.cmp.Ordering.TheVariants.{Less, Equal, Greater}
-use Rattle.dc_plain.proofs.Made.{same_number}
 use Rattle.dc_store.specs.Inodes.{nodes_of, inode_at, changed, held_by, without_inode}
 use Rattle.dc_store.specs.Maps.{inode_shown, node_shown, node_at, with_parent}
 use Rattle.dc_store.specs.declared.inode.Inode.{Inode}
@@ -15,6 +14,7 @@ use Rattle.dc_store.specs.declared.node.Node as rust_node
 use Rattle.dc_store.proofs.Changed.{found_changed, sorted_changed}
 use Rattle.dc_store.proofs.Maps.{insert_put, lookup_find, remove_shown, all_of_each}
 use Rattle.dc_store.proofs.Nodes.{shown_the_same}
+use Rattle.dc_store.proofs.Decides.{same_number}
 
 exact : (m n : ℕ) → nat_cmp m n ≡ Equal → m ≡ n
 exact m n e = same_number m n (ap is_eq e)

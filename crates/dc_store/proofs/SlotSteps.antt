@@ -8,11 +8,11 @@ use Rattle.std.specs.Ordering.{nat_cmp, eq_by_cmp}
 use Rattle.slab.specs.Slab.{Slab, Updates, slab_len, with_value}
 use Rattle.slab.specs.Slab.{get as slot}
 use Rattle.slab.proofs.SlabLemmas.{ContainsKey-within, Updates-with_value}
-use Rattle.dc_plain.proofs.Made.{itself}
 use Rattle.dc_store.specs.Inodes.{inode_at, without_inode}
 use Rattle.dc_store.specs.Slots.{inodes_in, IsKept}
 use Rattle.dc_store.specs.declared.inode.Inode.{Inode}
 use Rattle.dc_store.proofs.Slots.{IsAt, at_number, placed, kept_so, sorted_in}
+use Rattle.dc_store.proofs.Decides.{itself}
 
 some_not_none : {X : Type 0} (o : Option X) → o ≡ None → IsTrue (is_some o) → ⊥
 some_not_none None e h = cc

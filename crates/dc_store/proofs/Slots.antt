@@ -9,12 +9,12 @@ use Rattle.std.specs.Ordering.{nat_cmp, eq_by_cmp, is_eq}
 use Rattle.std.specs.declared.cmp.Ordering.TheVariants.{Equal}
 use Rattle.slab.specs.Slab.{Slab, slab_len}
 use Rattle.slab.specs.Slab.{get as slot}
-use Rattle.dc_plain.proofs.Made.{same_number, from_test}
-use Rattle.dc_plain.proofs.Takes.{lookup-take}
 use Rattle.dc_store.specs.Inodes.{inode_at, without_inode}
 use Rattle.dc_store.specs.Slots.{with_slot, inodes_in, IsKept}
 use Rattle.dc_store.specs.declared.inode.Inode.{Inode}
 use Rattle.dc_store.proofs.Maps.{lookup_find}
+use Rattle.dc_store.proofs.Spots.{lookup-take}
+use Rattle.dc_store.proofs.Decides.{same_number, from_test}
 
 exact : (m n : ℕ) → nat_cmp m n ≡ Equal → m ≡ n
 exact m n e = same_number m n (ap is_eq e)

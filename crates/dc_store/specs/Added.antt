@@ -1,19 +1,14 @@
 -- What a new entry leads to, and the tree that it makes.
-use Rattle.std.specs.Prelude.{◌≡◌, ℕ, ◌<◌, List, false, is_some, IsTrue}
-use Rattle.dc_plain.specs.Trees.{Tree, inode_of, is_live_directory, names_of}
+use Rattle.std.specs.Prelude.{ℕ, ◌<◌, List}
+use Rattle.dc_plain.specs.Conditions.{CanBeNamed}
+use Rattle.dc_plain.specs.Trees.{Tree}
 use Rattle.dc_plain.specs.Trees.Inode.{Directory, Regular, Symbolic}
 use Rattle.dc_plain.specs.Effects.{with_new, with_entry_for}
-use Rattle.dc_plain.specs.declared.TheConstants.{MOST_NAMES, NUMBER_LIMIT}
+use Rattle.dc_plain.specs.declared.TheConstants.{NUMBER_LIMIT}
 use Rattle.dc_store.specs.declared.store.New as rust_new
 use Rattle.dc_store.specs.declared.store.New.TheVariants as news
 
--- what may have a further name: a file or a link with fewer than `MOST_NAMES` names
-pub record CanBeNamed (t : Tree) (n : ℕ) : Type 0 where
-  pub lives : IsTrue (is_some (inode_of t n))
-  pub no_directory : is_live_directory t n ≡ false
-  pub few : names_of t n < MOST_NAMES
-
--- a new inode needs a number below the limit
+-- a new inode needs a number below the limit, and a further name an inode that may have one
 abbrev pub CanAdd : Tree → rust_new.New → Type 0
 CanAdd t news.Dir = t.next < NUMBER_LIMIT
 CanAdd t news.File = t.next < NUMBER_LIMIT

@@ -1,12 +1,8 @@
 -- What may lose an entry.
-use Rattle.std.specs.Prelude.{◌≡◌, ℕ, Bool, not, ◌&&◌, IfSome, IsSomeAnd, IsTrue}
-use Rattle.dc_names.specs.Bytes.{is_empty}
+use Rattle.std.specs.Prelude.{◌≡◌, not, IfSome, IsSomeAnd, IsTrue}
+use Rattle.dc_plain.specs.Conditions.{is_full_directory}
 use Rattle.dc_plain.specs.Effects.{without_entry}
-use Rattle.dc_plain.specs.Trees.{Tree, Spot, entry_number, is_live_directory, names_in}
-
--- a directory in which entries stand
-abbrev pub is_full_directory : Tree → ℕ → Bool
-is_full_directory t n = is_live_directory t n && not (is_empty (names_in t n))
+use Rattle.dc_plain.specs.Trees.{Tree, Spot, entry_number}
 
 -- the entry is there, and leads to no directory in which entries stand
 abbrev pub CanDrop : Tree → Spot → Type 0

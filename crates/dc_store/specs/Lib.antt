@@ -10,3 +10,4 @@ pub mod Inodes
 pub mod Slots
 pub mod Lending
 pub mod Slabs
+pub mod Laws

@@ -5,6 +5,7 @@ mod entries;
 mod entry_bytes;
 mod inode;
 mod inodes;
+mod laws;
 mod map_store;
 mod names;
 mod node;

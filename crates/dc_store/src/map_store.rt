@@ -2,13 +2,14 @@ ghost use Rattle.std.specs.Prelude.{◌≡◌, ◌<◌, None, option_map, IfSome
 ghost use Rattle.dc_plain.specs.Effects.{with_new, with_entry_for};
 ghost use Rattle.dc_plain.specs.IsWellFormed.{IsWellFormed};
 ghost use Rattle.dc_plain.specs.Trees.{Tree, empty_tree, inode_of, entry_number, is_live_directory};
-ghost use Rattle.dc_store.specs.Added.{CanBeNamed};
+ghost use Rattle.dc_plain.specs.Conditions.{CanBeNamed};
 ghost use Rattle.dc_store.specs.Maps.{tree_in, node_shown, IsNodeAt, CanKeep, IsSound};
 ghost use Rattle.dc_store.specs.Moved.{CanMove, Moves};
 ghost use Rattle.dc_plain.specs.Spots.{spot_at, spot_shown};
 ghost use Rattle.dc_plain.specs.declared.TheConstants.{NUMBER_LIMIT};
 
 use crate::entries::Entries;
+use crate::laws::trees_keep_their_laws;
 use crate::node::{Node, drop_unnamed, set_parent};
 use crate::store::{New, Store};
 use dc_names::{Kind, Name, NoMemory};
@@ -68,6 +69,7 @@ impl MapStore {
         ensures number { IfOk result (λ number. number ≡ self.old.next) }
         ensures err { OnErr result (self.new ≡ self.old) }
     {
+        trees_keep_their_laws();
         let number = self.next;
         self.nodes.insert(number, node)?;
         let Ok(_) = self.entries.insert(alloc, dir, name, number) else {
@@ -87,6 +89,7 @@ impl MapStore {
             ≡ with_entry_for self.old dir name.entry.bytes.now number) }
         ensures err { OnErr result (self.new ≡ self.old) }
     {
+        trees_keep_their_laws();
         self.entries.insert(alloc, dir, name, number)?;
         Ok(())
     }
@@ -98,6 +101,7 @@ impl MapStore {
             (Moves self.old (spot_shown old.entry) (spot_shown new.entry) self.new) }
         ensures err { OnErr result (self.new ≡ self.old) }
     {
+        trees_keep_their_laws();
         // An entry that isn't there could not move; the caller knows that this one is.
         let Some(number) = self.entries.get(old.dir, old.name) else {
             unreachable!();
@@ -174,6 +178,7 @@ impl Store for MapStore {
     }
 
     fn drop_entry(&mut self, dir: u64, name: Name<'_>) {
+        trees_keep_their_laws();
         let lost = self.entries.remove(dir, name);
         drop_unnamed(&mut self.nodes, &self.entries, lost);
     }

@@ -2,7 +2,7 @@ ghost use Rattle.std.specs.Prelude.{◌≡◌, ◌<◌, [], None, option_map, If
 ghost use Rattle.dc_plain.specs.Effects.{with_new, with_entry_for};
 ghost use Rattle.dc_plain.specs.IsWellFormed.{IsWellFormed};
 ghost use Rattle.dc_plain.specs.Trees.{Tree, empty_tree, inode_of, entry_number, names_in, is_live_directory};
-ghost use Rattle.dc_store.specs.Added.{CanBeNamed};
+ghost use Rattle.dc_plain.specs.Conditions.{CanBeNamed};
 ghost use Rattle.dc_store.specs.Inodes.{tree_of};
 ghost use Rattle.dc_store.specs.Maps.{node_shown, CanKeep};
 ghost use Rattle.dc_store.specs.Moved.{CanMove, Moves};
@@ -12,6 +12,7 @@ ghost use Rattle.dc_plain.specs.declared.TheConstants.{NUMBER_LIMIT};
 
 use crate::inode::Inode;
 use crate::inodes::Inodes;
+use crate::laws::trees_keep_their_laws;
 use crate::names::Names;
 use crate::node::Node;
 use crate::store::{New, Store};
@@ -74,6 +75,7 @@ impl SlabStore {
         ensures number { IfOk result (λ number. number ≡ self.old.next) }
         ensures err { OnErr result (self.new ≡ self.old) }
     {
+        trees_keep_their_laws();
         let number = self.next;
         let inode = Inode {
             node,
@@ -98,6 +100,7 @@ impl SlabStore {
             ≡ with_entry_for self.old dir name.entry.bytes.now number) }
         ensures err { OnErr result (self.new ≡ self.old) }
     {
+        trees_keep_their_laws();
         self.inodes.enter(alloc, dir, name, number)?;
         self.inodes.count_up(number);
         Ok(())
@@ -110,6 +113,7 @@ impl SlabStore {
             (Moves self.old (spot_shown old.entry) (spot_shown new.entry) self.new) }
         ensures err { OnErr result (self.new ≡ self.old) }
     {
+        trees_keep_their_laws();
         // An entry that isn't there could not move; the caller knows that this one is.
         let Some(number) = self.find(old.dir, old.name) else {
             unreachable!();
@@ -190,6 +194,7 @@ impl Store for SlabStore {
     }
 
     fn drop_entry(&mut self, dir: u64, name: Name<'_>) {
+        trees_keep_their_laws();
         let lost = self.inodes.leave(dir, name);
         self.inodes.lose(lost);
     }

@@ -1,8 +1,8 @@
 ghost use Rattle.std.specs.Prelude.{◌≡◌, ◌≢◌, ◌&&◌, true, false, length, not, is_some, Some, IfSome, IsTrue};
 ghost use Rattle.dc_plain.specs.Operations.{is_beneath};
 ghost use Rattle.dc_plain.specs.Trees.{entry_number, is_live_directory};
-ghost use Rattle.dc_store.specs.Added.{CanAdd, CanBeNamed};
-ghost use Rattle.dc_store.specs.Dropped.{is_full_directory};
+ghost use Rattle.dc_plain.specs.Conditions.{CanBeNamed, is_full_directory};
+ghost use Rattle.dc_store.specs.Added.{CanAdd};
 ghost use Rattle.dc_plain.specs.Spots.{spot_at};
 
 use crate::{MapStore, New, SlabStore, Store};

@@ -1,4 +1,4 @@
-//! After a refused allocation every inode is as it was. `rt try --test --fail-alloc N..` refuses each in turn.
+//! After a refused allocation every inode is as it was: `rt try --test --fail-alloc N` refuses the Nth.
 use super::{Step, answers};
 use crate::{MapStore, New, SlabStore, Store};
 use dc_names::{NoMemory, parse};

@@ -12,7 +12,7 @@ returns g c limit =
     let change : Call → Change = λ call. change_of limit t (request_of call) in
     elim c.match-call.branch [
       | in-Readlink+in_ok-read_link-in-Readlink w ↦
-          reads_so limit t (request_of c.args.call.now) _ _ (ap change w.in-Readlink.is) (ap answer_of w.result-is ∙ w.in_ok-read_link-in-Readlink.ensures)
+          reads_so c.alters_tells_whether_trees_differ.ensures limit t (request_of c.args.call.now) _ _ (ap change w.in-Readlink.is) (ap answer_of w.result-is ∙ w.in_ok-read_link-in-Readlink.ensures)
       | in-List+in_ok-list-in-List w ↦
-          reads_so limit t (request_of c.args.call.now) _ _ (ap change w.in-List.is) (ap answer_of w.result-is ∙ w.in_ok-list-in-List.ensures)
+          reads_so c.alters_tells_whether_trees_differ.ensures limit t (request_of c.args.call.now) _ _ (ap change w.in-List.is) (ap answer_of w.result-is ∙ w.in_ok-list-in-List.ensures)
     ]

@@ -1,4 +1,3 @@
-use Rattle.std.proofs.Common.{sym, ◌∙◌}
 use Rattle.dc_plain.specs.declared.call.Follow.TheVariants.{Yes}
 use Rattle.dc_ops.proofs.Goes.{stat_told}
 use Rattle.dc_ops.proofs.reads.stat.Goals as goal

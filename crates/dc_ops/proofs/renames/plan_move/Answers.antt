@@ -2,7 +2,6 @@ use Rattle.std.proofs.Common.{◌∙◌, ◌&&◌, length, ap, arith, rules, sym
 use Rattle.std.proofs.lemmas.Grind.{common_steps}
 use Rattle.dc_plain.specs.TouchedKeys.{keys_gone, with_number}
 use Rattle.dc_plain.specs.Operations.{is_beneath}
-use Rattle.dc_plain.specs.Spots.{spot_shown}
 use Rattle.dc_ops.proofs.Renamed.{gives_way, live_by, other_there, renamed_keys}
 use Rattle.dc_ops.proofs.renames.plan_move.Goals as goal
 

@@ -4,10 +4,10 @@ use Rattle.dc_store.proofs.map_store.MapStoreStore.drop_entry.Goals as goal
 
 pub invariant_of-self : goal.invariant_of-self
 invariant_of-self c =
-    let (n, leads, now) = after_drop _ _ (shows_now c.self.invariant c.self.view_is) c.requires c.remove-lost.ensures.rest c.remove-lost.ensures.before c.drop_unnamed.ensures.rest c.drop_unnamed.ensures.kept in
+    let (n, leads, now) = after_drop c.trees_keep_their_laws.ensures _ _ (shows_now c.self.invariant c.self.view_is) c.requires c.remove-lost.ensures.rest c.remove-lost.ensures.before c.drop_unnamed.ensures.rest c.drop_unnamed.ensures.kept in
     sound_as now
 
 pub returns : goal.returns
 returns c =
-    let (n, leads, now) = after_drop _ _ (shows_now c.self.invariant c.self.view_is) c.requires c.remove-lost.ensures.rest c.remove-lost.ensures.before c.drop_unnamed.ensures.rest c.drop_unnamed.ensures.kept in
+    let (n, leads, now) = after_drop c.trees_keep_their_laws.ensures _ _ (shows_now c.self.invariant c.self.view_is) c.requires c.remove-lost.ensures.rest c.remove-lost.ensures.before c.drop_unnamed.ensures.rest c.drop_unnamed.ensures.kept in
     if_some_at _ leads now.shows

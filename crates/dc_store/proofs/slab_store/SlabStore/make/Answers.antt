@@ -9,19 +9,19 @@ use Rattle.dc_store.proofs.Keeps.{Keeps, keeps_now, tied_as, no_inode, taken_bac
 use Rattle.dc_store.proofs.slab_store.SlabStore.make.Goals as goal
 
 pub insert-requires : goal.insert-requires
-insert-requires c = no_inode (keeps_now c.self.invariant c.self.view_is)
+insert-requires c = no_inode (keeps_now c.self.invariant c.self.view_is) c.trees_keep_their_laws.ensures
 
 pub invariant_of-self-in_default : goal.invariant_of-self-in_default
-invariant_of-self-in_default c = tied_as (taken_back (keeps_now c.self.invariant c.self.view_is) _ c.in_ok-insert.ensures.ok (c.remove.ensures ∙ ap (without_inode c.self.inside.next) c.in_default.ensures.err))
+invariant_of-self-in_default c = tied_as (taken_back (keeps_now c.self.invariant c.self.view_is) c.trees_keep_their_laws.ensures _ c.in_ok-insert.ensures.ok (c.remove.ensures ∙ ap (without_inode c.self.inside.next) c.in_default.ensures.err))
 
 pub returns-in_default-clause-err : goal.returns-in_default-clause-err
 returns-in_default-clause-err c =
-    let back = taken_back (keeps_now c.self.invariant c.self.view_is) _ c.in_ok-insert.ensures.ok (c.remove.ensures ∙ ap (without_inode c.self.inside.next) c.in_default.ensures.err) in
+    let back = taken_back (keeps_now c.self.invariant c.self.view_is) c.trees_keep_their_laws.ensures _ c.in_ok-insert.ensures.ok (c.remove.ensures ∙ ap (without_inode c.self.inside.next) c.in_default.ensures.err) in
     back.shows.shows
 
 made : (c : goal.After-self-1) → Keeps c.enter.new.self (c.self.inside.next + 1) (with_new c.args.self.now c.args.dir c.args.name.bytes.now (node_shown c.args.node))
 made c =
-    made_in (keeps_now c.self.invariant c.self.view_is) c.args.dir c.args.name.bytes.now c.requires.directory c.requires.free c.args.name.valid c.args.node c.requires.room c.requires.fits
+    made_in (keeps_now c.self.invariant c.self.view_is) c.trees_keep_their_laws.ensures c.args.dir c.args.name.bytes.now (record { held = c.requires.directory; free = c.requires.free; named = c.args.name.valid }) c.args.node c.requires.room c.requires.fits
     (c.in_ok-insert.ensures.ok ∙ ap (λ names. put {X = Inode} nat_cmp c.self.inside.next record { node = c.args.node; names = names; count = 1 } c.self.inside.inodes) c.new.ensures) c.in-Ok.ensures.ok
 
 pub invariant_of-self-2 : goal.invariant_of-self-2

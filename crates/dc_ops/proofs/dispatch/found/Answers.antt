@@ -1,6 +1,6 @@
 use Rattle.dc_ops.proofs.Alters.{settles_as}
-use Rattle.dc_ops.proofs.changes.found.Goals as goal
-use Rattle.dc_ops.proofs.changes.found.Goals.{in-Mkdir+in_ok-plan_make-in-Mkdir, in-Create+in_ok-plan_make-in-Create, in-Symlink+in_ok-plan_symlink-in-Symlink, in-Link+in_ok-plan_link-in-Link, in-Unlink+in_ok-plan_unlink-in-Unlink, in-Rmdir+in_ok-plan_rmdir-in-Rmdir, in-Rename+in_ok-plan_rename-in-Rename}
+use Rattle.dc_ops.proofs.dispatch.found.Goals as goal
+use Rattle.dc_ops.proofs.dispatch.found.Goals.{in-Mkdir+in_ok-plan_make-in-Mkdir, in-Create+in_ok-plan_make-in-Create, in-Symlink+in_ok-plan_symlink-in-Symlink, in-Link+in_ok-plan_link-in-Link, in-Unlink+in_ok-plan_unlink-in-Unlink, in-Rmdir+in_ok-plan_rmdir-in-Rmdir, in-Rename+in_ok-plan_rename-in-Rename}
 
 pub returns-clause-settled : goal.returns-clause-settled
 returns-clause-settled g c =

@@ -12,7 +12,7 @@ use crate::makes::{plan_link, plan_make, plan_symlink};
 use crate::renames::plan_rename;
 use crate::takes::{plan_rmdir, plan_unlink};
 use dc_names::Refusal;
-use dc_plain::{Call, Reply};
+use dc_plain::{Call, Reply, alters_tells_whether_trees_differ, names_in_directories_are_in_order};
 use dc_store::{New, Store};
 
 /// The plan of a change, or the reply of one that alters nothing: its refusal, or `Unit` of a rename
@@ -25,6 +25,8 @@ pub fn plan<'a, S: Store>(store: &S, call: &Call<'a>, max_inodes: u64) -> Result
     ensures declined { IfErr result (λ reply.
         Declines max_inodes (S.tree store.now) (request_of call.now) (answer_of reply)) }
 {
+    alters_tells_whether_trees_differ();
+    names_in_directories_are_in_order();
     match found(store, call, max_inodes) {
         Ok(Some(plan)) => Ok(plan),
         Ok(None) => Err(Reply::Unit),
