@@ -83,9 +83,9 @@ module _ {limit rows : ℕ} {words : List ℕ} {views : List View} {hist : List 
     still_held : (l : Locked words views R.holder) → (z : View) × (get_elem? (set (set views id both) other nobody) R.holder ≡ some z) × (z.hold.holds ≡ true)
     still_held l = let away : R.holder ≢ other = λ e. let h = ap (λ (u : View). u.hold.holds) (some-injective l.1.0 w (sym l.1.1 ∙ (ap (get_elem? views) e ∙ there))) in true≢false (sym l.1.2 ∙ (h ∙ free)) in
         dite (ℕ_discrete R.holder id)
-            (λ same. let e = ap (λ (u : View). u.hold.holds) (some-injective l.1.0 v (sym l.1.1 ∙ (ap (get_elem? views) same ∙ at))) in
-            (both, set_else (set views id both) other R.holder nobody away ∙ subst (λ z. get_elem? (set views id both) z ≡ some both) (sym same) (set_mine views id v both at), sym e ∙ l.1.2))
-            (λ ne. (l.1.0, set_else (set views id both) other R.holder nobody away ∙ (set_else views id R.holder both ne ∙ l.1.1), l.1.2))
+        (λ same. let e = ap (λ (u : View). u.hold.holds) (some-injective l.1.0 v (sym l.1.1 ∙ (ap (get_elem? views) same ∙ at))) in
+        (both, set_else (set views id both) other R.holder nobody away ∙ subst (λ z. get_elem? (set views id both) z ≡ some both) (sym same) (set_mine views id v both at), sym e ∙ l.1.2))
+        (λ ne. (l.1.0, set_else (set views id both) other R.holder nobody away ∙ (set_else views id R.holder both ne ∙ l.1.1), l.1.2))
 
     pub joins : Rule limit rows words (set (set views id both) other nobody) hist
     joins = let f = R.fits id v at in let g = R.fits other w there in record {

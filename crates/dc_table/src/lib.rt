@@ -40,9 +40,9 @@ mod sheet;
 mod shutting;
 mod steps;
 mod table;
-mod walking;
 #[cfg(test)]
 mod tests;
+mod walking;
 
 pub use fault::{ChangeFault, MakeFault};
 pub use shared::Shared;
