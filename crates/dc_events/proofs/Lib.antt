@@ -10,3 +10,4 @@ pub mod Walker
 pub mod Walks
 pub mod Legal
 pub mod Opening
+pub mod Passes

@@ -1,5 +1,5 @@
 -- Each event keeps the rule, a new table has it, and records under it are legal.
-use Rattle.std.specs.Prelude.{◌≡◌, ℕ, ◌+◌, ◌-◌, ◌%◌, ◌<◌, ◌≤◌, true, false, List, [], ◌∷◌, ◌++◌, length, get_or, set, replicate, None}
+use Rattle.std.specs.Prelude.{◌≡◌, ◌≢◌, ℕ, ◌+◌, ◌-◌, ◌%◌, ◌<◌, ◌≤◌, true, false, List, [], ◌∷◌, ◌++◌, length, get_or, set, replicate, None}
 use mathlib.Core.Option.{some}
 use lib.ListN.{get_elem?}
 use Rattle.dc_plain.specs.FactLaws.{UntouchedStay}
@@ -15,6 +15,7 @@ use Rattle.dc_events.specs.Standing.{tree_of, Stands, Rising, all_hits}
 use Rattle.dc_events.specs.Rows.{most, base_of, count, row_words, Tells, IsWhole, opening_words, IsUntouched}
 use Rattle.dc_events.specs.Rule.{Rule, AllEven, once_below}
 use Rattle.dc_events.specs.Effects.{begun, again, quit, taken, wrote, committed, gave, answered, noted, note_at, read, pivoted, checked, faulted, nobody}
+use Rattle.dc_events.specs.Passes.{newcomer, joined_with}
 use Rattle.dc_events.specs.Legal.{Legal}
 
 -- what is so of each actor's view under the rule
@@ -51,6 +52,12 @@ pub record WalkersKeepTheRule : Type 0 where
   pub check : Seated (λ limit rows words views hist id v. (i : ℕ) → v.walk.pivoted ≡ true → get_elem? v.walk.notes i ≡ some (note_at v i) → IsWhole (note_at v i) → (note_at v i).count ≡ count words (note_at v i).row
       → Rule limit rows words (set views id (checked v i)) hist)
   pub fault : Seated (λ limit rows words views hist id v. (why : Fault) → Rule limit rows words (set views id (faulted v why)) hist)
+
+-- the steps of passes, which change views alone
+pub record PassesKeepTheRule : Type 0 where
+  pub split : Seated (λ limit rows words views hist id v. Rule limit rows words (views ++ newcomer v ∷ []) hist)
+  pub join : Seated (λ limit rows words views hist id v. (other : ℕ) (w : View) → other ≢ id → get_elem? views other ≡ some w → w.hold.holds ≡ false
+      → Rule limit rows words (set (set views id (joined_with v w)) other nobody) hist)
 
 -- what is known of every plain tree
 pub record TreeLaws : Type 0 where

@@ -7,4 +7,5 @@ pub mod Walks
 pub mod Noted
 pub mod Effects
 pub mod Legal
+pub mod Passes
 pub mod Laws

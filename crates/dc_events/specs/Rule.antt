@@ -52,9 +52,9 @@ pub record RowFits (t : Tree) (words : List ℕ) (row : ℕ) : Type 0 where
   pub told : count words row % 2 ≡ 0 → Tells t (row_words words row)
   pub spent : count words row ≡ most → Spells (row_words words row) None
 
-abbrev pub total : (View → ℕ) → List View → ℕ
+abbrev pub total : {A : Type 0} → (A → ℕ) → List A → ℕ
 total f [] = 0
-total f (v ∷ vs) = f v + total f vs
+total f (x ∷ xs) = f x + total f xs
 
 abbrev pub book_hits : ℕ → Book → ℕ
 book_hits p b = hits p b.own + all_hits p b.joined

@@ -4,4 +4,6 @@
 
 mod laws;
 
-pub use laws::{events_keep_the_rule, new_tables_have_the_rule, records_are_legal};
+pub use laws::{
+    events_keep_the_rule, new_tables_have_the_rule, passes_keep_the_rule, records_are_legal,
+};

@@ -3,6 +3,7 @@ pub mod Parts
 pub mod Sessions
 pub mod Lines
 pub mod Numbers
+pub mod AnswerWords
 pub mod Responses
 pub mod ReplyLines
 mod WorkedLines

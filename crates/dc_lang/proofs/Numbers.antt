@@ -11,7 +11,7 @@ use Rattle.std.proofs.lemmas.Bool.Decides.{nat_tests, eqb_tells, leb_tells}
 use Rattle.std.proofs.lemmas.Fmt.{decimal_digit, decimal_nonempty, first_decimal, digits_decimal, digits_value-decimal, decimal-digits_value, IsAscii-from_digits}
 use Rattle.std.proofs.lemmas.Str.{IsUtf8-from_ascii}
 use Rattle.std.proofs.lemmas.Str.Parse.{IsNumeralModel, numerals_by_value, tells_all_ascii_digits, not_in_digits, parse_plain}
-use Rattle.dc_lang.specs.Responses.{begins_plainly, is_numeral, number_in}
+use Rattle.dc_lang.specs.ReadingReplies.{begins_plainly, is_numeral, number_in}
 use Rattle.dc_lang.proofs.Words.{chosen}
 use Rattle.dc_lang.proofs.Parts.{HasNoSpace}
 

@@ -4,4 +4,5 @@ pub mod Commands
 pub mod Reading
 pub mod Replies
 pub mod Responses
+pub mod ReadingReplies
 pub mod Writing

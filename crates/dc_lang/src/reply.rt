@@ -1,7 +1,8 @@
 ghost use Rattle.std.specs.Prelude.{◌≡◌, IfOk, IsErrOf, map, option_map};
 ghost use Rattle.dc_plain.specs.Requests.{answer_of};
 ghost use Rattle.dc_lang.specs.Reading.{Reads};
-ghost use Rattle.dc_lang.specs.Responses.{Response, Tells, begins_plainly, number_in, kind_in, found_in, done_in, refused_in, counted_in, text_in, numbers_in, answer_in, point_in, stamped_from, stamped_in, response_from, without_newline, response_in, stamped_of, response_of};
+ghost use Rattle.dc_lang.specs.Responses.{Response, Tells, stamped_of, response_of};
+ghost use Rattle.dc_lang.specs.ReadingReplies.{begins_plainly, number_in, kind_in, found_in, done_in, refused_in, counted_in, text_in, numbers_in, answer_in, point_in, stamped_from, stamped_in, response_from, without_newline, response_in};
 
 use crate::LineFault;
 use crate::read::{parts, session_in, word_in, words_in};
@@ -35,7 +36,7 @@ fn number_in(text: &[u8]) -> Option<u64>
 }
 
 /// The kind that a text names.
-#[tactic(auto, unfolding(crate::specs::Responses::kind_in))]
+#[tactic(auto, unfolding(crate::specs::ReadingReplies::kind_in))]
 fn kind_in(text: &[u8]) -> Option<Kind>
     ensures { result ≡ kind_in text.now }
 {

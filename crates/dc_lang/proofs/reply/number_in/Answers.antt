@@ -1,5 +1,5 @@
 use Rattle.std.proofs.Common.{◌∙◌, sym, ap}
-use Rattle.dc_lang.specs.Responses.{begins_plainly, number_in}
+use Rattle.dc_lang.specs.ReadingReplies.{begins_plainly, number_in}
 use Rattle.dc_lang.proofs.Numbers.{begins_oddly, no_text, refused_text, text_taken, parsed}
 use Rattle.dc_lang.proofs.reply.number_in.Goals as goal
 

@@ -1,0 +1,10 @@
+pub mod Replies
+pub mod Stamps
+pub mod Sound
+pub mod Orders
+pub mod Complete
+pub mod Points
+pub mod Exact
+pub mod Steps
+pub mod Floors
+pub mod Sorted

@@ -1,0 +1,11 @@
+use Rattle.std.proofs.Common.{drop}
+use Rattle.dc_check.specs.Judges.{judge_of, all_numbered}
+use Rattle.dc_check.specs.Judging.{opening, Passes}
+use Rattle.dc_check.proofs.checking.judge_all.Given as goal
+
+-- what is left passes exactly where all of it passes
+abbrev pub invariant-loop-numbered : goal.invariant-loop-numbered
+invariant-loop-numbered l = record {
+  on : Passes (all_numbered (drop l.numbered-index l.sorted)) (judge_of l.judge) → Passes (all_numbered l.sorted) (opening l.max_inodes);
+  back : Passes (all_numbered l.sorted) (opening l.max_inodes) → Passes (all_numbered (drop l.numbered-index l.sorted)) (judge_of l.judge);
+}

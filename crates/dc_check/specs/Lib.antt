@@ -1,0 +1,5 @@
+-- What the checker makes of stamps.
+pub mod Stamps
+pub mod Judging
+pub mod Judges
+pub mod Phases

@@ -1,0 +1,151 @@
+ghost use Rattle.std.specs.Prelude.{◌≡◌, ◌≤◌, ◌↔◌, false, IsTrue, IfOk, OnOk, IfErr};
+ghost use Rattle.dc_plain.specs.Requests.{answer_of};
+ghost use Rattle.dc_plain.specs.declared.TheConstants.{MOST_INODES};
+ghost use Rattle.dc_check.specs.Stamps.{stamp_of};
+ghost use Rattle.dc_check.specs.Judges.{judge_of, numbered_of, Blames};
+ghost use Rattle.dc_check.specs.Judging.{opening, is_change, IsAnswered, IsAnothers, IsGood, with_met, IsSettled, settled, Reaches, reached, Takes, taken};
+
+use crate::fault::Fault;
+use crate::stamp::{Numbered, Stamp};
+use dc_names::NoMemory;
+use dc_plain::{PlainTree, Reply, same_tree_tells_whether_trees_are_one};
+use std::alloc::Global;
+
+/// The tree after so many changes, and of the stamps with this point the one that alters it, once it
+/// is met.
+#[derive(Drop)]
+pub struct Judge<'a> {
+    tree: PlainTree,
+    clock: u64,
+    change: Option<Numbered<'a>>,
+}
+
+/// Whether two replies say the same.
+fn is_same(reply: &Reply, other: &Reply) -> bool
+    ensures { IsTrue result ↔ (answer_of reply.now ≡ answer_of other.now) }
+{
+    reply == other
+}
+
+impl<'a> Judge<'a> {
+    /// Before any stamp.
+    pub fn new(alloc: Global, max_inodes: u64) -> Result<Judge<'a>, NoMemory>
+        requires least { 1 ≤ max_inodes }
+        requires most { max_inodes ≤ MOST_INODES }
+        ensures { IfOk result (λ judge. judge_of judge ≡ opening max_inodes) }
+    {
+        Ok(Judge {
+            tree: PlainTree::new(alloc, max_inodes)?,
+            clock: 0,
+            change: None,
+        })
+    }
+
+    /// Whether the call of a stamp alters the tree.
+    fn is_change(&self, alloc: Global, stamp: &Stamp) -> Result<bool, NoMemory>
+        ensures { IfOk result (λ alters.
+            alters ≡ is_change (judge_of self.now) (stamp_of stamp.now)) }
+    {
+        self.tree.alters(alloc, &stamp.call.as_call())
+    }
+
+    /// Makes the change that was met, if any, and then judges its reply.
+    pub fn settle(&mut self, alloc: Global) -> Result<(), Fault>
+        ensures ok { OnOk result (IsSettled (judge_of self.old)) }
+        ensures new { OnOk result (judge_of self.new ≡ settled (judge_of self.old)) }
+        ensures err { IfErr result (λ fault. Blames fault → IsSettled (judge_of self.old) → ⊥) }
+    {
+        let Some(change) = self.change else {
+            return Ok(());
+        };
+        self.change = None;
+        let reply = self.tree.apply(alloc, &change.stamp.call.as_call())?;
+        if is_same(&reply, &change.stamp.reply) {
+            Ok(())
+        } else {
+            Err(Fault::Reply(change.line))
+        }
+    }
+
+    /// Goes on to a point. From one point to the next there is a change.
+    fn reach(&mut self, alloc: Global, at: u64) -> Result<(), Fault>
+        ensures ok { OnOk result (Reaches (judge_of self.old) at) }
+        ensures new { OnOk result (judge_of self.new ≡ reached (judge_of self.old) at) }
+        ensures err { IfErr result (λ fault. Blames fault → Reaches (judge_of self.old) at → ⊥) }
+    {
+        if at == self.clock {
+            return Ok(());
+        }
+        let altered = self.change.is_some();
+        self.settle(alloc)?;
+        if !altered || self.clock.checked_add(1) != Some(at) {
+            return Err(Fault::Gap(self.clock));
+        }
+        self.clock = at;
+        Ok(())
+    }
+
+    /// The fault of a stamp, or else that of the change before it, whose reply isn't judged yet.
+    fn first_fault(&mut self, alloc: Global, fault: Fault) -> Fault {
+        match self.settle(alloc) {
+            Ok(()) => fault,
+            Err(earlier) => earlier,
+        }
+    }
+
+    /// Judges a stamp that doesn't alter the tree.
+    fn pass(&mut self, alloc: Global, numbered: Numbered) -> Result<(), Fault>
+        requires { is_change (judge_of self.old) (numbered_of numbered) ≡ false }
+        ensures answered { OnOk result (IsAnswered (judge_of self.old) (numbered_of numbered.entry)) }
+        ensures anothers { OnOk result
+            (IsAnothers (judge_of self.old).change (numbered_of numbered.entry)) }
+        ensures same { OnOk result (judge_of self.new ≡ judge_of self.old) }
+        ensures err { IfErr result (λ fault. Blames fault
+            → IsAnswered (judge_of self.old) (numbered_of numbered.entry)
+            → IsAnothers (judge_of self.old).change (numbered_of numbered.entry) → ⊥) }
+    {
+        same_tree_tells_whether_trees_are_one();
+        let Numbered { line, stamp } = numbered;
+        let reply = self.tree.apply(alloc, &stamp.call.as_call())?;
+        if !is_same(&reply, &stamp.reply) {
+            return Err(self.first_fault(alloc, Fault::Reply(line)));
+        }
+        match self.change {
+            Some(change) if change.stamp.session == stamp.session => {
+                Err(self.first_fault(alloc, Fault::Order(line)))
+            }
+            _ => Ok(()),
+        }
+    }
+
+    /// Judges a stamp at the point that was reached.
+    fn meet(&mut self, alloc: Global, numbered: Numbered<'a>) -> Result<(), Fault>
+        ensures ok { OnOk result (IsGood (judge_of self.old) (numbered_of numbered.entry)) }
+        ensures new { OnOk result (judge_of self.new
+            ≡ with_met (judge_of self.old) (numbered_of numbered.entry)) }
+        ensures err { IfErr result (λ fault. Blames fault
+            → IsGood (judge_of self.old) (numbered_of numbered.entry) → ⊥) }
+    {
+        if !self.is_change(alloc, numbered.stamp)? {
+            return self.pass(alloc, numbered);
+        }
+        if self.change.is_some() {
+            return Err(self.first_fault(alloc, Fault::Order(numbered.line)));
+        }
+        // Its reply is judged as the change is made, since others at this point need the tree as it is.
+        self.change = Some(numbered);
+        Ok(())
+    }
+
+    /// Judges the next stamp by its point.
+    pub fn take(&mut self, alloc: Global, numbered: Numbered<'a>) -> Result<(), Fault>
+        ensures ok { OnOk result (Takes (judge_of self.old) (numbered_of numbered.entry)) }
+        ensures new { OnOk result (judge_of self.new
+            ≡ taken (judge_of self.old) (numbered_of numbered.entry)) }
+        ensures err { IfErr result (λ fault. Blames fault
+            → Takes (judge_of self.old) (numbered_of numbered.entry) → ⊥) }
+    {
+        self.reach(alloc, numbered.stamp.at)?;
+        self.meet(alloc, numbered)
+    }
+}

@@ -1,0 +1,18 @@
+//! The checker: it says whether the stamped replies of many sessions are what one plain tree answers.
+#![tactic(auto)]
+
+mod checking;
+mod fault;
+mod judge;
+mod order;
+mod phases;
+mod record;
+mod stamp;
+
+pub use checking::check;
+pub use phases::{Phased, check_phases};
+pub use record::{RecordFault, Served, commands_of, count_lines, record_of};
+pub use stamp::{Stamp, Verdict};
+
+#[cfg(test)]
+mod tests;

@@ -1,0 +1,54 @@
+ghost use Rattle.std.specs.Prelude.{◌≡◌, ◌↔◌, None, IfOk, map};
+ghost use Rattle.dc_check.specs.Stamps.{stamps_of};
+ghost use Rattle.dc_check.specs.Judges.{all_numbered};
+ghost use Rattle.dc_check.specs.Judging.{RisesByActor, IsByPoint};
+
+use crate::stamp::{Numbered, Stamp};
+use dc_names::NoMemory;
+use std::alloc::{AllocError, Global};
+use std::collections::BTreeMap;
+
+/// The first line whose point is below an earlier one of its session.
+pub fn first_falling(alloc: Global, stamps: &[Stamp]) -> Result<Option<u64>, NoMemory>
+    ensures { IfOk result (λ line. (line ≡ None) ↔ RisesByActor (stamps_of stamps.now)) }
+{
+    let mut latest: BTreeMap<u64, u64> = BTreeMap::new(alloc);
+    for (i, stamp) in stamps.iter().enumerate() {
+        let before = latest.get(&stamp.session).copied().unwrap_or(0);
+        if stamp.at < before {
+            return Ok(Some(i as u64 + 1));
+        }
+        latest.insert(stamp.session, stamp.at)?;
+    }
+    Ok(None)
+}
+
+/// The stamps with their lines.
+fn numbered(alloc: Global, stamps: &[Stamp]) -> Result<Vec<Numbered<'_>>, AllocError>
+    ensures { IfOk result (λ numbered. all_numbered numbered.items ≡ stamps_of stamps.now) }
+{
+    let mut numbered = Vec::new(alloc);
+    for (i, stamp) in stamps.iter().enumerate() {
+        let line = i as u64 + 1;
+        numbered.push(Numbered { line, stamp })?;
+    }
+    Ok(numbered)
+}
+
+/// The stamps by their points, those of one point in the order of their lines.
+pub fn by_point(alloc: Global, stamps: &[Stamp]) -> Result<Vec<Numbered<'_>>, NoMemory>
+    ensures { IfOk result (λ sorted.
+        IsByPoint (stamps_of stamps.now) (all_numbered sorted.items)) }
+{
+    let mut sorted = numbered(alloc, stamps)?;
+    sorted.sort_by_key(|numbered| numbered.stamp.at)?;
+    Ok(sorted)
+}
+
+/// The line of the first stamp with a point above this one, where there is one.
+pub fn first_above(stamps: &[Stamp], point: u64) -> u64 {
+    match stamps.iter().position(|stamp| stamp.at > point) {
+        Some(i) => i as u64 + 1,
+        None => 0,
+    }
+}

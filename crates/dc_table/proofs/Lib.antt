@@ -1,0 +1,13 @@
+pub mod Totals
+pub mod Sharing
+pub mod Cells
+pub mod Kept
+pub mod Moves
+pub mod Ending
+pub mod Slots
+pub mod Shuts
+pub mod Refills
+pub mod Commits
+pub mod Stages
+pub mod Altering
+pub mod Walks

@@ -1,0 +1,14 @@
+use Rattle.std.proofs.Common.{rules, ◌+◌, ◌<◌, ◌%◌, sym, subst, ◌∙◌}
+use Rattle.atomic_table.specs.Table.{Allows, step}
+use mathlib.Core.Option.{none}
+use Rattle.dc_table.specs.Kept.{Kept}
+use Rattle.dc_table.specs.Plays.{raised}
+use Rattle.dc_table.proofs.Moves.{opens_row, at_place}
+use Rattle.dc_table.proofs.shared.Shared.open_row.Goals as goal
+
+pub fetch_add-requires : goal.fetch_add-requires
+fetch_add-requires c = let h = c.requires.pass.1 in (
+  search rules,
+  search rules,
+  at_place _ _ _ _ c.args.row _ c.word_of-count.ensures.place (opens_row _ c.events_keep_the_rule.ensures.holders _ _ _ c.args.row c.requires.row.0 h.has h.part c.requires.row.1),
+)

@@ -1,0 +1,40 @@
+use Rattle.std.proofs.Common.{refl, arith, ◌+◌, map, ap, sym, subst, ◌∙◌, ◌<◌}
+use Rattle.dc_plain.specs.KeysShown.{key_shown}
+use Rattle.dc_table.specs.Changes.{words_of, tree_now}
+use Rattle.dc_table.specs.Passes.{share}
+use Rattle.dc_table.proofs.Shuts.{key_at, none_more, within, even_now, low_now, odd_now, shut_more, low_odd, sized, may_empty, retired}
+use Rattle.dc_table.proofs.Stages.{wrote_only, shut_words, then_only, on_pass}
+use Rattle.dc_table.proofs.shared.Shared.shut_key.Goals as goal
+
+pub returns-in_default-clause-stage : goal.returns-in_default-clause-stage
+returns-in_default-clause-stage c = none_more _ _ _ _ _ c.args.i (map key_shown c.args.keys.now) (key_shown c.index-keys-i.result) (key_at c.args.keys.now c.args.i c.index-keys-i.result c.requires.place c.index-keys-i.is) c.requires.stage c.in_default.ensures.row
+
+pub shut_row-odd-requires-clause-row : goal.shut_row-odd-requires-clause-row
+shut_row-odd-requires-clause-row c = let here = key_at c.args.keys.now c.args.i c.index-keys-i.result c.requires.place c.index-keys-i.is in let held = (c.in-Some.ensures.row c.in-Some.row).0 refl in (
+  within _ _ _ _ _ c.args.i _ _ here c.requires.stage c.in-Some.row held c.requires.distinct,
+  record {
+    even = even_now _ _ _ _ _ c.args.i _ _ here c.requires.stage c.in-Some.row held c.requires.distinct;
+    low = low_now _ _ _ _ _ c.args.i _ _ here c.requires.stage c.in-Some.row held c.requires.distinct;
+  },
+)
+
+pub open_with-requires-clause-odd : goal.open_with-requires-clause-odd
+open_with-requires-clause-odd c = let here = key_at c.args.keys.now c.args.i c.index-keys-i.result c.requires.place c.index-keys-i.is in let held = (c.in-Some.ensures.row c.in-Some.row).0 refl in let s = c.shut_row-odd in
+    odd_now _ _ _ _ _ c.args.i _ _ here c.requires.stage c.in-Some.row held c.requires.distinct _ (shut_words c.args.pass.now s.new.pass c.in-Some.row s.result s.ensures.count s.ensures.view)
+
+pub open_with-requires-clause-low : goal.open_with-requires-clause-low
+open_with-requires-clause-low c = let here = key_at c.args.keys.now c.args.i c.index-keys-i.result c.requires.place c.index-keys-i.is in let held = (c.in-Some.ensures.row c.in-Some.row).0 refl in let s = c.shut_row-odd in
+    low_odd _ _ _ _ _ c.args.i _ _ here c.requires.stage c.in-Some.row held c.requires.distinct _ (shut_words c.args.pass.now s.new.pass c.in-Some.row s.result s.ensures.count s.ensures.view)
+
+pub returns-then-odd-ge-MOST_COUNT-clause-stage : goal.returns-then-odd-ge-MOST_COUNT-clause-stage
+returns-then-odd-ge-MOST_COUNT-clause-stage c = let here = key_at c.args.keys.now c.args.i c.index-keys-i.result c.requires.place c.index-keys-i.is in let held = (c.in-Some.ensures.row c.in-Some.row).0 refl in let s = c.shut_row-odd in
+    let only = wrote_only c.args.pass.now s.new.pass s.ensures.same.0 s.ensures.same.1 _ _ s.ensures.view in
+    on_pass c.args.pass.now c.open_with.new.pass (then_only c.args.pass.now s.new.pass c.open_with.new.pass only c.open_with.ensures.pass) _ _ _ 0 (c.args.i + 1) _
+    (retired _ _ _ _ _ c.args.i _ _ here c.requires.stage c.in-Some.row held c.requires.distinct _ (shut_words c.args.pass.now s.new.pass c.in-Some.row s.result s.ensures.count s.ensures.view) _ _ _
+    c.empty_row_spells_nothing.ensures c.in-Some.ensures.valid c.open_with.ensures.wrote c.retire.ensures (ap (λ l. l.rows) c.remove.ensures.dropped) c.remove.ensures.unused)
+
+pub returns-else-odd-ge-MOST_COUNT-clause-stage : goal.returns-else-odd-ge-MOST_COUNT-clause-stage
+returns-else-odd-ge-MOST_COUNT-clause-stage c = let here = key_at c.args.keys.now c.args.i c.index-keys-i.result c.requires.place c.index-keys-i.is in let held = (c.in-Some.ensures.row c.in-Some.row).0 refl in let s = c.shut_row-odd in
+    let only = wrote_only c.args.pass.now s.new.pass s.ensures.same.0 s.ensures.same.1 _ _ s.ensures.view in let n = s.ensures.count in
+    on_pass c.args.pass.now s.new.pass only _ _ _ 0 (c.args.i + 1) _
+    (shut_more _ _ _ _ _ c.args.i _ _ here c.requires.stage c.in-Some.row held c.requires.distinct _ (shut_words c.args.pass.now s.new.pass c.in-Some.row s.result n s.ensures.view) c.in-Some.ensures.valid (omega arith))

@@ -1,0 +1,12 @@
+-- What the shared table keeps, and what its passes know.
+pub mod Codes
+pub mod ViewCodes
+pub mod Shares
+pub mod Rows
+pub mod Kept
+pub mod Plays
+pub mod Passes
+pub mod Ends
+pub mod Sizes
+pub mod Changes
+pub mod Walking

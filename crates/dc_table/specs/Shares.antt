@@ -1,0 +1,85 @@
+-- What a pass knows: its view, the sizes of its table, and its share. All shares add up to one.
+use Rattle.std.specs.Prelude.{◌≡◌, ℕ, ◌+◌, ◌*◌, ◌-◌, ◌^◌, ◌<◌, ◌≤◌, false, List, [], ◌∷◌, length, max, refl}
+use Rattle.std.specs.Coded.{Coded, code_by, coded×, coded_ℕ}
+use mathlib.Core.Option.{some}
+use lib.ListN.{get_elem?}
+use Rattle.dc_events.specs.Views.{View}
+use Rattle.dc_events.specs.Rule.{total}
+use Rattle.dc_events.specs.Effects.{nobody}
+use Rattle.dc_events.specs.Passes.{newcomer, joined_with}
+use Rattle.dc_table.specs.ViewCodes.{coded_view}
+
+-- so many parts of a whole that was halved so often, of a table with this limit of inodes and so many rows
+pub record Share : Type 0 where
+  pub limit : ℕ
+  pub rows : ℕ
+  pub parts : ℕ
+  pub halvings : ℕ
+
+pub record Known : Type 0 where
+  pub view : View
+  pub share : Share
+
+abbrev pub share_coded : Coded Share
+share_coded = code_by (ℕ × (ℕ × (ℕ × ℕ))) (coded× coded_ℕ (coded× coded_ℕ (coded× coded_ℕ coded_ℕ)))
+    (λ x. (x.limit, (x.rows, (x.parts, x.halvings)))) (λ p. record { limit = p.0; rows = p.1.0; parts = p.1.1.0; halvings = p.1.1.1 }) (λ _. refl)
+
+abbrev pub known_coded : Coded Known
+known_coded = code_by (View × Share) (coded× coded_view share_coded) (λ x. (x.view, x.share)) (λ p. record { view = p.0; share = p.1 }) (λ _. refl)
+
+abbrev pub with_view : Known → View → Known
+with_view k v = record k { view = v }
+
+-- half of a share
+abbrev pub halved : Share → Share
+halved s = record s { halvings = s.halvings + 1 }
+
+-- two shares brought to the greater number of halvings, and added
+abbrev pub added : Share → Share → Share
+added a b = let top = max a.halvings b.halvings in
+    record a { parts = a.parts * 2 ^ (top - a.halvings) + b.parts * 2 ^ (top - b.halvings); halvings = top }
+
+abbrev pub no_share : Share
+no_share = record { limit = 0; rows = 0; parts = 0; halvings = 0 }
+
+abbrev pub IsWhole : Share → Type 0
+IsWhole s = s.parts ≡ 2 ^ s.halvings
+
+-- the first pass of a table has the whole
+abbrev pub first_known : ℕ → ℕ → Known
+first_known limit rows = record { view = nobody; share = record { limit = limit; rows = rows; parts = 1; halvings = 0 } }
+
+-- a pass is cut in two halves, of which the new one has seen what the old one has
+abbrev pub kept_half : Known → Known
+kept_half k = record k { share = halved k.share }
+
+abbrev pub new_half : Known → Known
+new_half k = record { view = newcomer k.view; share = halved k.share }
+
+-- a pass takes in another, of which nothing is left
+abbrev pub both : Known → Known → Known
+both k l = record { view = joined_with k.view l.view; share = added k.share l.share }
+
+abbrev pub spent : Known
+spent = record { view = nobody; share = no_share }
+
+-- a share in parts of a whole that was halved `top` times
+abbrev pub weight : ℕ → Known → ℕ
+weight top k = k.share.parts * 2 ^ (top - k.share.halvings)
+
+abbrev pub Everyone : List Known → (Known → Type 0) → Type 0
+Everyone passes So = (id : ℕ) (k : Known) → get_elem? passes id ≡ some k → So k
+
+-- a pass that was joined to another has nothing left
+pub record IsSpent (v : View) : Type 0 where
+  pub own : v.book.own ≡ []
+  pub joined : v.book.joined ≡ []
+  pub free : v.hold.holds ≡ false
+
+-- the passes name the sizes of their table; those without a part are spent; the shares of all are the whole
+pub record Shares (limit rows : ℕ) (passes : List Known) : Type 0 where
+  pub top : ℕ
+  pub named : Everyone passes (λ k. 0 < k.share.parts → (k.share.limit ≡ limit) × (k.share.rows ≡ rows))
+  pub spent : Everyone passes (λ k. k.share.parts ≡ 0 → IsSpent k.view)
+  pub few : Everyone passes (λ k. k.share.halvings ≤ top)
+  pub whole : total (weight top) passes ≡ 2 ^ top

@@ -1,0 +1,57 @@
+-- When a pass may take a step of a walk, and what the step tells it.
+use Rattle.std.specs.Prelude.{◌≡◌, ◌≢◌, ℕ, ◌+◌, ◌-◌, ◌%◌, ◌<◌, ◌≤◌, Bool, true, false, length, Option as Maybe}
+use mathlib.Core.Option.{some}
+use lib.ListN.{get_elem?}
+use Rattle.atomic_table.specs.Table.{Step}
+use Rattle.dc_plain.specs.Requests.{Request}
+use Rattle.dc_row.specs.declared.TheConstants.{ROW_WORDS}
+use Rattle.dc_events.specs.Views.{View, Note}
+use Rattle.dc_events.specs.Views.Fault.{Busy, Changed}
+use Rattle.dc_events.specs.Rows.{IsWhole}
+use Rattle.dc_events.specs.Walks.{last_of}
+use Rattle.dc_events.specs.Effects.{begins, quit, noted, note_at, read, pivoted, checked, faulted}
+use Rattle.dc_table.specs.Shares.{with_view}
+use Rattle.dc_table.specs.Kept.{sheet_of}
+use Rattle.dc_table.specs.Plays.{Place, known_at}
+use Rattle.dc_table.specs.declared.table.Value.{Value}
+
+-- a walk that has no pivot yet may note, and may make its pivot
+abbrev pub IsFresh : View → Type 0
+IsFresh v = v.walk.busy ≡ true → v.walk.pivoted ≡ false
+
+-- the word is the next one of the row that was noted last
+pub record CanRead (v : View) (row word : ℕ) : Type 0 where
+  pub busy : v.walk.busy ≡ true
+  pub fresh : v.walk.pivoted ≡ false
+  pub there : get_elem? v.walk.notes (last_of v.walk) ≡ some (note_at v (last_of v.walk))
+  pub of_row : (note_at v (last_of v.walk)).row ≡ row
+  pub next : length (note_at v (last_of v.walk)).words + 1 ≡ word
+  pub inside : word < ROW_WORDS
+
+-- note i is of the row, with this count, and whole
+pub record CanCheck (v : View) (i row count : ℕ) : Type 0 where
+  pub turned : v.walk.pivoted ≡ true
+  pub there : get_elem? v.walk.notes i ≡ some (note_at v i)
+  pub whole : IsWhole (note_at v i)
+  pub of_row : (note_at v i).row ≡ row
+  pub counted : (note_at v i).count ≡ count
+
+-- an even count is noted, an odd one is a fault
+abbrev pub noted_as : Request → ℕ → Bool → Step (Maybe Value) → Place → ℕ → Place → Type 0
+noted_as call row first st m r m' = let k = known_at m in let v = begins first k.view call in
+    (r % 2 ≡ 0 → m' ≡ (sheet_of (with_view k (noted v row r)), m.1)) × (r % 2 ≢ 0 → m' ≡ (sheet_of (with_view k (faulted v (Busy row))), m.1))
+
+abbrev pub read_as : Step (Maybe Value) → Place → ℕ → Place → Type 0
+read_as st m r m' = let k = known_at m in m' ≡ (sheet_of (with_view k (read k.view r)), m.1)
+
+abbrev pub pivoted_as : Request → Bool → Step (Maybe Value) → Place → ℕ → Place → Type 0
+pivoted_as call first st m r m' = let k = known_at m in (m' ≡ (sheet_of (with_view k (pivoted (begins first k.view call) r)), m.1)) × (k.view.book.seen ≤ r)
+
+-- the clock is loaded, and no walk goes on
+abbrev pub learnt_as : Step (Maybe Value) → Place → ℕ → Place → Type 0
+learnt_as st m r m' = let k = known_at m in (m' ≡ (sheet_of (with_view k (pivoted (quit k.view) r)), m.1)) × (k.view.book.seen ≤ r)
+
+-- the count that was noted checks the note; another one is higher, and a fault
+abbrev pub checked_as : ℕ → Step (Maybe Value) → Place → ℕ → Place → Type 0
+checked_as i st m r m' = let k = known_at m in let x = note_at k.view i in
+    (x.count ≡ r → m' ≡ (sheet_of (with_view k (checked k.view i)), m.1)) × (x.count ≢ r → (x.count < r) × (m' ≡ (sheet_of (with_view k (faulted k.view (Changed x.row x.count r))), m.1)))

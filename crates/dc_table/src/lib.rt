@@ -1,0 +1,53 @@
+//! The table that threads share: its words, its lock, and the steps on them.
+//!
+//! # What the words hold, and who writes them when
+//!
+//! Word 0 is the clock: how many calls have altered the tree. The holder of the lock alone raises it, by
+//! one, at the commit of a change. Anybody may load it; a look-up without the lock takes effect at such a
+//! load, its pivot.
+//!
+//! Word 1 is the lock: 1 while a pass has it, else 0. A pass gets it by one compare-exchange from 0 to 1,
+//! and its holder alone writes 0.
+//!
+//! Row r has the `ROW_WORDS` words from 2 + r * `ROW_WORDS` on. The first is its sequence count: even while
+//! the row stands, odd while its other words are written. The others spell a fact (a name in a directory
+//! and where it leads, if anywhere; a dot-dot; the text of a link) or nothing. The holder of the lock
+//! alone writes a row, and each row in the same order: it shuts the row (the count becomes odd), writes
+//! its words, and opens it (the count becomes even, and higher than it ever was). An even row is true of
+//! the tree as it is now. So a change shuts the rows of all keys that it touches before its commit, and
+//! opens them when they tell of the new tree. A count never comes again: a row whose count ends, at 2^62,
+//! is empty and retired.
+//!
+//! The slot holds the value of the lock while it is free: the tree, which row has which key, which rows
+//! are in use, and the clock once more. It is empty while the lock is held, and then the holder has the
+//! value.
+//!
+//! # Who may read
+//!
+//! Whoever has a pass may load any word at any time. What was read of a row counts only where its count
+//! is even before the first of its words is read and the same after the pivot; all rows of a walk for
+//! which this is so were true together at the pivot.
+#![tactic(auto)]
+
+mod changing;
+mod facts;
+mod fault;
+mod passing;
+mod plays;
+mod rewriting;
+mod shared;
+mod sheet;
+mod shutting;
+mod steps;
+mod table;
+mod walking;
+#[cfg(test)]
+mod tests;
+
+pub use fault::{ChangeFault, MakeFault};
+pub use shared::Shared;
+pub use sheet::Sheet;
+pub use table::{Limits, Pass, Protocol, Value};
+
+/// The most that the count of a row may be, and the most calls that may alter the tree: 2^62.
+pub const MOST_COUNT: u64 = 1 << 62;

@@ -1,0 +1,143 @@
+//! How a table begins and ends, and how passes are cut and put together.
+
+ghost use Rattle.std.specs.Prelude.{◌≡◌, ◌*◌, ◌≤◌, ◌↔◌, false, Err, IfOk, IfSome, IsSome};
+ghost use Rattle.dc_table.specs.Ends.{Ends};
+ghost use Rattle.dc_table.specs.Kept.{IsNew};
+ghost use Rattle.dc_table.specs.Passes.{known, share, Fits, IsIdle};
+ghost use Rattle.dc_table.specs.Shares.{IsWhole, first_known, kept_half, new_half, both};
+ghost use Rattle.dc_table.specs.Sizes.{are_right};
+ghost use Rattle.dc_table.specs.declared.fault.MakeFault.TheVariants.{BadSize};
+
+use crate::fault::MakeFault;
+use crate::plays::Halves;
+use crate::shared::Shared;
+use crate::table::{Limits, Pass, Value};
+use atomic_table::{Refused, Table};
+use dc_events::{new_tables_have_the_rule, passes_keep_the_rule, records_are_legal};
+use dc_index::Index;
+use dc_names::NoMemory;
+use dc_plain::MOST_INODES;
+use dc_row::{ROW_WORDS, empty_row_spells_nothing};
+use dc_shrink::Shrinker;
+use dc_store::SlabStore;
+use std::alloc::Global;
+use std::sync::atomic::AtomicU64;
+
+/// The most buckets that a table has.
+const MOST_BUCKETS: u64 = 1024;
+
+/// Whether a table may have so many buckets, and so many inodes live in it.
+fn are_right(buckets: u64, max_inodes: u64) -> bool
+    ensures { result ≡ are_right buckets max_inodes }
+{
+    (1..=MOST_BUCKETS).contains(&buckets)
+        && buckets.is_power_of_two()
+        && (1..=MOST_INODES).contains(&max_inodes)
+}
+
+impl Value {
+    /// The root directory alone, and no row with a key.
+    fn new(alloc: Global, buckets: u64, max_inodes: u64) -> Result<Value, NoMemory>
+        requires { (1 ≤ buckets) × (buckets ≤ 1024) }
+        ensures { IfOk result (λ value. IsNew value (4 * buckets) max_inodes) }
+    {
+        Ok(Value {
+            store: SlabStore::new(alloc)?,
+            index: Index::new(alloc, buckets)?,
+            shrinker: Shrinker::new(alloc, 4 * buckets)?,
+            clock: 0,
+            max_inodes,
+        })
+    }
+}
+
+impl Shared {
+    /// A table with four empty rows in each bucket, over the root directory alone, and its first pass,
+    /// which has done and seen nothing. `BadSize` where buckets are no power of two from 1 to 1,024, or
+    /// the limit of live inodes, the root among them, isn't from 1 to 1,048,576.
+    pub fn new(alloc: Global, buckets: u64, max_inodes: u64) -> Result<(Shared, Pass), MakeFault>
+        ensures made { IfOk result (λ r. Fits r.0 r.1 × IsIdle r.1
+            × (known r.1 ≡ first_known max_inodes (4 * buckets))) }
+        ensures size { (result ≡ Err BadSize) ↔ (are_right buckets max_inodes ≡ false) }
+    {
+        if !are_right(buckets, max_inodes) {
+            return Err(MakeFault::BadSize);
+        }
+        let limits = Limits {
+            max_inodes,
+            rows: 4 * buckets,
+        };
+        Ok(Shared::of(alloc, buckets, &limits)?)
+    }
+
+    fn of(alloc: Global, buckets: u64, limits: &Limits) -> Result<(Shared, Pass), NoMemory>
+        requires buckets { (1 ≤ buckets) × (buckets ≤ 1024) }
+        requires rows { limits.now.rows ≡ 4 * buckets }
+        ensures { IfOk result (λ r. Fits r.0 r.1 × IsIdle r.1
+            × (known r.1 ≡ first_known limits.now.max_inodes (4 * buckets))) }
+    {
+        new_tables_have_the_rule();
+        empty_row_spells_nothing();
+        let value = Value::new(alloc, buckets, limits.max_inodes)?;
+        let words = vec![in alloc; 0; 2 + limits.rows as usize * ROW_WORDS]?;
+        let mut slots = Vec::with_capacity(alloc, 1)?;
+        slots.push_reserved(Some(value));
+        match Table::new(alloc, words.as_slice(), slots, limits) {
+            Ok((table, pass)) => Ok((
+                Shared {
+                    table,
+                    limits: *limits,
+                    waiting: AtomicU64::new(0),
+                },
+                pass,
+            )),
+            Err(Refused { slots: _ }) => Err(NoMemory),
+        }
+    }
+
+    /// A pass for another thread, which has seen what this one has. It gets half of the share.
+    pub fn split(&self, pass: &mut Pass) -> Pass
+        requires pass { Fits self.now pass.old × IsIdle pass.old }
+        ensures same { Fits self.now pass.new × IsIdle pass.new × (pass.new.id ≡ pass.old.id) }
+        ensures kept { known pass.new ≡ kept_half (known pass.old) }
+        ensures new { Fits self.now result × IsIdle result × (known result ≡ new_half (known pass.old)) }
+    {
+        passes_keep_the_rule();
+        self.table.shared.split_seat::<Halves>(pass)
+    }
+
+    /// Takes in what another pass did and saw, and its share.
+    pub fn join(&self, pass: &mut Pass, other: Pass)
+        requires pass { Fits self.now pass.old × IsIdle pass.old }
+        requires other { Fits self.now other × IsIdle other }
+        ensures same { Fits self.now pass.new × IsIdle pass.new × (pass.new.id ≡ pass.old.id) }
+        ensures both { known pass.new ≡ both (known pass.old) (known other) }
+    {
+        passes_keep_the_rule();
+        self.table.shared.join_seat::<Halves>(pass, other);
+    }
+
+    /// Ends the table: the tree, and how many calls altered it, are those of a history in which the
+    /// records of the pass stand. `None` where another pass has the lock and so the tree; never where
+    /// this one has the whole share.
+    pub fn close(self, pass: Pass) -> Option<Value>
+        requires pass { Fits self pass × IsIdle pass }
+        ensures tree { IfSome result (λ x. Ends (share pass).limit (known pass) x.store x.clock) }
+        ensures whole { IsWhole (share pass) → IsSome result }
+    {
+        records_are_legal();
+        let Shared {
+            table,
+            limits: _,
+            waiting: _,
+        } = self;
+        let mut closed = table.close_with(pass);
+        let lock = closed.word(1);
+        let value = closed.take(0);
+        closed.free();
+        if lock != 0 {
+            return None;
+        }
+        value
+    }
+}

@@ -1,0 +1,144 @@
+//! The steps of a walk without the lock. None waits. Each is the event of its name.
+
+ghost use Rattle.std.specs.Prelude.{◌≡◌, ◌≢◌, ◌%◌, ◌+◌, ◌<◌, ◌≤◌, false, IfOk, IfErr, OnOk};
+ghost use Rattle.dc_events.specs.Effects.{begins, quit, noted, read, pivoted, checked, faulted};
+ghost use Rattle.dc_events.specs.Views.Fault.{Busy, Changed};
+ghost use Rattle.dc_plain.specs.Requests.{request_of};
+ghost use Rattle.dc_table.specs.Passes.{view, share, Fits, IsSamePass, IsIdle};
+ghost use Rattle.dc_table.specs.Walking.{IsFresh, CanRead, CanCheck};
+
+use crate::plays::{Asked, Check, Learn, Note, Pivot, Read};
+use crate::shared::Shared;
+use crate::table::Pass;
+use dc_events::events_keep_the_rule;
+use dc_plain::Call;
+use std::marker::Brand;
+
+impl Shared {
+    /// Notes the count of a row, where it is even: `first` begins the walk of the call. An odd count is
+    /// an `Err`, and isn't noted.
+    pub fn note(
+        &self,
+        pass: &mut Pass,
+        call: &Call<'_>,
+        row: u64,
+        first: bool,
+    ) -> Result<u64, u64>
+        requires pass { Fits self.now pass.old × IsIdle pass.old }
+        requires row { row < (share pass.old).rows }
+        requires fresh { (begins first (view pass.old) (request_of call.now)).walk.pivoted ≡ false }
+        ensures same { IsSamePass pass.old pass.new × IsIdle pass.new }
+        ensures noted { IfOk result (λ n. (n % 2 ≡ 0) × (view pass.new
+            ≡ noted (begins first (view pass.old) (request_of call.now)) row n)) }
+        ensures odd { IfErr result (λ n. view pass.new
+            ≡ faulted (begins first (view pass.old) (request_of call.now)) (Busy row)) }
+    {
+        let found = self.note_as::<Brand>(pass, call, row, first);
+        if found % 2 == 0 {
+            Ok(found)
+        } else {
+            Err(found)
+        }
+    }
+
+    fn note_as<C: Asked>(&self, pass: &mut Pass, call: &Call<'_>, row: u64, first: bool) -> u64
+        requires asked { (C.call ≡ request_of call.now) × (C.about ≡ row) × (C.first ≡ first) }
+        requires pass { Fits self.now pass.old × IsIdle pass.old }
+        requires row { row < (share pass.old).rows }
+        requires fresh { (begins first (view pass.old) (request_of call.now)).walk.pivoted ≡ false }
+        ensures same { IsSamePass pass.old pass.new × IsIdle pass.new }
+        ensures even { result % 2 ≡ 0 → view pass.new
+            ≡ noted (begins first (view pass.old) (request_of call.now)) row result }
+        ensures odd { result % 2 ≢ 0 → view pass.new
+            ≡ faulted (begins first (view pass.old) (request_of call.now)) (Busy row) }
+    {
+        events_keep_the_rule();
+        let count = self.word_of(row, 0);
+        self.table.shared.load::<Note<C>>(pass, count)
+    }
+
+    /// Reads the next word of the row that was noted last.
+    pub fn read_word(&self, pass: &mut Pass, row: u64, word: u64) -> u64
+        requires pass { Fits self.now pass.old × IsIdle pass.old }
+        requires row { row < (share pass.old).rows }
+        requires word { CanRead (view pass.old) row word }
+        ensures same { IsSamePass pass.old pass.new × IsIdle pass.new }
+        ensures view { view pass.new ≡ read (view pass.old) result }
+    {
+        events_keep_the_rule();
+        let place = self.word_of(row, word);
+        self.table.shared.load::<Read>(pass, place)
+    }
+
+    /// Loads the clock: the point at which the call takes effect, if all that was noted stands.
+    pub fn pivot(&self, pass: &mut Pass, call: &Call<'_>, first: bool) -> u64
+        requires pass { Fits self.now pass.old × IsIdle pass.old }
+        requires fresh { IsFresh (begins first (view pass.old) (request_of call.now)) }
+        ensures same { IsSamePass pass.old pass.new × IsIdle pass.new }
+        ensures view { view pass.new
+            ≡ pivoted (begins first (view pass.old) (request_of call.now)) result }
+        ensures later { (view pass.old).book.seen ≤ result }
+    {
+        self.pivot_as::<Brand>(pass, call, first)
+    }
+
+    fn pivot_as<C: Asked>(&self, pass: &mut Pass, call: &Call<'_>, first: bool) -> u64
+        requires asked { (C.call ≡ request_of call.now) × (C.first ≡ first) }
+        requires pass { Fits self.now pass.old × IsIdle pass.old }
+        requires fresh { IsFresh (begins first (view pass.old) (request_of call.now)) }
+        ensures same { IsSamePass pass.old pass.new × IsIdle pass.new }
+        ensures view { view pass.new
+            ≡ pivoted (begins first (view pass.old) (request_of call.now)) result }
+        ensures later { (view pass.old).book.seen ≤ result }
+    {
+        events_keep_the_rule();
+        let _words = self.table.word_count();
+        self.table.shared.load::<Pivot<C>>(pass, 0)
+    }
+
+    /// Loads the clock, which the pass has then seen. A walk that went on is given up.
+    pub fn learn(&self, pass: &mut Pass) -> u64
+        requires pass { Fits self.now pass.old × IsIdle pass.old }
+        ensures same { IsSamePass pass.old pass.new × IsIdle pass.new }
+        ensures view { view pass.new ≡ pivoted (quit (view pass.old)) result }
+        ensures later { (view pass.old).book.seen ≤ result }
+    {
+        events_keep_the_rule();
+        let _words = self.table.word_count();
+        self.table.shared.load::<Learn>(pass, 0)
+    }
+
+    /// Whether the row of note `i`, the first being 0, still has the count that was noted. An `Err` has
+    /// the counts noted and found. Where the notes that were checked answer the call, it is recorded.
+    pub fn check(&self, pass: &mut Pass, i: u64, row: u64, noted: u64) -> Result<(), (u64, u64)>
+        requires pass { Fits self.now pass.old × IsIdle pass.old }
+        requires row { row < (share pass.old).rows }
+        requires note { CanCheck (view pass.old) i row noted }
+        ensures same { IsSamePass pass.old pass.new × IsIdle pass.new }
+        ensures checked { OnOk result (view pass.new ≡ checked (view pass.old) i) }
+        ensures changed { IfErr result (λ e. (e.0 ≡ noted) × (noted < e.1)
+            × (view pass.new ≡ faulted (view pass.old) (Changed row noted e.1))) }
+    {
+        let found = self.check_as::<Brand>(pass, i, row, noted);
+        if found == noted {
+            Ok(())
+        } else {
+            Err((noted, found))
+        }
+    }
+
+    fn check_as<C: Asked>(&self, pass: &mut Pass, i: u64, row: u64, noted: u64) -> u64
+        requires asked { C.about ≡ i }
+        requires pass { Fits self.now pass.old × IsIdle pass.old }
+        requires row { row < (share pass.old).rows }
+        requires note { CanCheck (view pass.old) i row noted }
+        ensures same { IsSamePass pass.old pass.new × IsIdle pass.new }
+        ensures same_count { result ≡ noted → view pass.new ≡ checked (view pass.old) i }
+        ensures other_count { result ≢ noted → (noted < result)
+            × (view pass.new ≡ faulted (view pass.old) (Changed row noted result)) }
+    {
+        events_keep_the_rule();
+        let count = self.word_of(row, 0);
+        self.table.shared.load::<Check<C>>(pass, count)
+    }
+}
