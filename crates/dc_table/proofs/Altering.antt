@@ -12,7 +12,7 @@ use Rattle.dc_plain.specs.TouchedKeys.{keys_touched}
 use Rattle.dc_row.specs.Decoding.{SpelledIsRead}
 use Rattle.dc_plain.specs.Operations.{operation}
 use Rattle.dc_ops.specs.Plans.{effect}
-use Rattle.dc_ops.specs.declared.steps.Plan as rust_plan
+use Rattle.dc_ops.specs.declared.plans.Plan as rust_plan
 use Rattle.dc_events.specs.Views.{View}
 use Rattle.dc_events.specs.Standing.{tree_of}
 use Rattle.dc_events.specs.Rows.{most, row_words}
