@@ -30,6 +30,7 @@
 #![tactic(auto)]
 
 mod changing;
+mod evicting;
 mod facts;
 mod fault;
 mod passing;
@@ -40,9 +41,9 @@ mod sheet;
 mod shutting;
 mod steps;
 mod table;
-mod walking;
 #[cfg(test)]
 mod tests;
+mod walking;
 
 pub use fault::{ChangeFault, MakeFault};
 pub use shared::Shared;

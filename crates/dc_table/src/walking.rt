@@ -17,13 +17,7 @@ use std::marker::Brand;
 impl Shared {
     /// Notes the count of a row, where it is even: `first` begins the walk of the call. An odd count is
     /// an `Err`, and isn't noted.
-    pub fn note(
-        &self,
-        pass: &mut Pass,
-        call: &Call<'_>,
-        row: u64,
-        first: bool,
-    ) -> Result<u64, u64>
+    pub fn note(&self, pass: &mut Pass, call: &Call<'_>, row: u64, first: bool) -> Result<u64, u64>
         requires pass { Fits self.now pass.old × IsIdle pass.old }
         requires row { row < (share pass.old).rows }
         requires fresh { (begins first (view pass.old) (request_of call.now)).walk.pivoted ≡ false }
