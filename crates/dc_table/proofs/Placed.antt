@@ -1,15 +1,16 @@
 -- A row is written anew, and gets another slot.
-use Rattle.std.proofs.Common.{◌≡◌, ◌≢◌, ◌⊎◌, ◌↔◌, ℕ, ◌+◌, ◌*◌, ◌%◌, ◌-◌, ◌<◌, ◌≤◌, Bool, true, false, ◌||◌, List, [], ◌∷◌, length, slice_set, set, Some, None, refl, sym, ap, ◌∙◌, subst, subst₂, arith, inl, inr, ⊎_elim, nat_eq, true≢false, length-set, set-set, get_or, get_or-set_same, get_or-set_other, if◌then◌else◌}
+use Rattle.std.proofs.Common.{◌≡◌, ◌≢◌, ◌⊎◌, ◌↔◌, ℕ, ◌+◌, ◌*◌, ◌%◌, ◌-◌, ◌<◌, ◌≤◌, Bool, true, false, ◌||◌, List, [], ◌∷◌, length, slice_set, set, Option, Some, None, is_some, refl, sym, ap, ◌∙◌, subst, subst₂, arith, inl, inr, ⊎_elim, nat_eq, true≢false, length-set, set-set, get_or, get_or-set_same, get_or-set_other, if◌then◌else◌}
 use Rattle.std.proofs.lemmas.Bool.{cases_lt, eq-eqb}
 use Rattle.std.proofs.lemmas.List.{get_or_past}
 use Rattle.std.proofs.lemmas.Map.Keys.{any_passes_from_place}
+use Rattle.std.specs.Option.{unwrap_or}
 use Rattle.dc_plain.specs.Facts.{Key}
 use Rattle.dc_plain.specs.Trees.{Tree}
 use Rattle.dc_row.specs.Spelling.{Spells}
 use Rattle.dc_row.specs.declared.TheConstants.{ROW_WORDS, EMPTY_ROW}
 use Rattle.dc_index.specs.Slots.{Slot, slot_of, has_key, cleared}
 use Rattle.dc_index.specs.Slots.Slot.{Free, Retired, Holds as Held}
-use Rattle.dc_shrink.specs.Listings.{Listing, is_in, last_of}
+use Rattle.dc_shrink.specs.Listings.{Listing, is_in, last_of, pins_of}
 use Rattle.dc_shrink.specs.Uses.{SetsUse}
 use Rattle.dc_events.specs.Rows.{most, base_of, count, row_words}
 use Rattle.dc_table.specs.Rows.{At, OfNone, Agree, FitsSlot, IsOf, MayTell, MayStand, Rest, Wrote}
@@ -130,3 +131,15 @@ module _ (t : Tree) (rows : ℕ) (words : List ℕ) (slots : List Slot) (used : 
   pub told_nothing : Spells EMPTY_ROW None → (u : List ℕ) (ss : List Slot) (after : Listing) → Emptied words u slots ss row → after ≡ used → Rest t rows u ss after
   told_nothing empty u ss after e same = placed_empty t rows words g.before_slots g.before_used g.rest row g.inside g.open_still empty u ss after
       record { slot = e.slot; more = e.more; is = over e.slot ss e.is; keyless = e.keyless; redone = e.redone; low = e.low } (subst (λ z. SetsUse row false g.before_used z) (sym same) g.unused) (ap (λ (z : Listing). z.rows) same ∙ g.same_rows)
+
+some_there : (o : Option ℕ) → 0 < unwrap_or o 0 → is_some o ≡ true
+some_there None l = absurd (omega arith)
+some_there (Some n) l = refl
+
+or_right : (a b : Bool) → b ≡ true → (a || b) ≡ true
+or_right true b e = refl
+or_right false b e = e
+
+-- a pinned row has a key
+pub pinned_keyed : (slots : List Slot) (used : Listing) (row : ℕ) → Agree slots used → 0 < pins_of used row → has_key (slot_of slots row) ≡ true
+pinned_keyed slots used row agree pins = agree row ∙ or_right (is_in used.listed row) _ (some_there _ pins)

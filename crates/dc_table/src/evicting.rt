@@ -42,7 +42,7 @@ impl Shared {
     }
 
     /// Empties a row that has a key, which it loses. Whether it is in use is another's matter.
-    fn empty(&self, pass: &mut Pass, kept: &mut Value, row: u64)
+    pub(crate) fn empty(&self, pass: &mut Pass, kept: &mut Value, row: u64)
         requires pass { Fits self.now pass.old × IsHolder pass.old }
         requires row { (row < (share pass.old).rows) × CanShut (view pass.old) row }
         requires size { length (words_of pass.old) ≡ base_of (share pass.old).rows }

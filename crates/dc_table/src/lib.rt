@@ -34,6 +34,7 @@ mod evicting;
 mod facts;
 mod fault;
 mod passing;
+mod pinning;
 mod plays;
 mod rewriting;
 mod shared;
