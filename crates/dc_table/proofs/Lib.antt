@@ -11,3 +11,4 @@ pub mod Commits
 pub mod Stages
 pub mod Altering
 pub mod Walks
+pub mod Placed

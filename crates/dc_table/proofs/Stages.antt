@@ -9,7 +9,7 @@ use Rattle.dc_events.specs.Standing.{tree_of}
 use Rattle.dc_events.specs.Rows.{base_of, count}
 use Rattle.dc_events.specs.Effects.{wrote}
 use Rattle.dc_table.specs.Shares.{Share}
-use Rattle.dc_table.specs.Rows.{Stage}
+use Rattle.dc_table.specs.Rows.{Stage, Rest}
 use Rattle.dc_table.specs.Changes.{with_words, words_of, tree_now, OnlyWrites}
 use Rattle.dc_table.specs.Passes.{Pass, view, share, IsSamePass, IsHolder}
 
@@ -40,3 +40,7 @@ then_only p q r a b = record {
   holder = b.holder;
   only = b.only ∙ ap (λ (v : View). with_words v (words_of r)) a.only;
 }
+
+-- all rows fit, on a pass whose tree and sizes are the same
+pub rest_on : (p q : Pass) → OnlyWrites p q → (words : List ℕ) (slots : List Slot) (used : Listing) → Rest (tree_now p) (share p).rows words slots used → Rest (tree_now q) (share q).rows words slots used
+rest_on p q w words slots used s = subst₂ (λ (t : Tree) (rows : ℕ). Rest t rows words slots used) (sym (tree_same p q w)) (sym (rows_same p q w.same)) s

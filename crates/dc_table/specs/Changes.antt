@@ -7,7 +7,7 @@ use Rattle.dc_plain.specs.Runs.{reply_of}
 use Rattle.dc_events.specs.Views.{View, Record}
 use Rattle.dc_events.specs.Standing.{tree_of}
 use Rattle.dc_events.specs.Rows.{most}
-use Rattle.dc_events.specs.Effects.{committed}
+use Rattle.dc_events.specs.Effects.{committed, with_seen, empty_hold}
 use Rattle.dc_table.specs.Rows.{Stage, Rest}
 use Rattle.dc_table.specs.Passes.{Pass, view, share, IsSamePass, IsHolder}
 use Rattle.dc_table.specs.declared.table.Value.{Value}
@@ -80,3 +80,9 @@ pub record Failed (v w : View) (fault : ChangeFault) : Type 0 where
 pub record IsTaken (v : View) : Type 0 where
   pub early : length v.hold.history ≤ most
   pub seen : v.book.seen ≡ length v.hold.history
+
+-- the pass had the lock, and has it no more: it has seen a later clock, and its walk and its records are as they were
+pub record Rested (v w : View) : Type 0 where
+  pub clock : ℕ
+  pub later : v.book.seen ≤ clock
+  pub same : w ≡ record v { book = with_seen v.book clock; hold = empty_hold }

@@ -10,3 +10,4 @@ pub mod Ends
 pub mod Sizes
 pub mod Changes
 pub mod Walking
+pub mod Filling

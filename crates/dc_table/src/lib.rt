@@ -30,9 +30,11 @@
 #![tactic(auto)]
 
 mod changing;
+mod evicting;
 mod facts;
 mod fault;
 mod passing;
+mod pinning;
 mod plays;
 mod rewriting;
 mod shared;

@@ -1,0 +1,14 @@
+use Rattle.std.proofs.Common.{ap, refl}
+use Rattle.dc_table.proofs.shared.Shared.fill.Goals as goal
+
+pub tell-requires-clause-given : goal.tell-requires-clause-given
+tell-requires-clause-given c = record {
+  before_slots = c.args.kept.now.index;
+  before_used = c.args.kept.now.shrinker;
+  rest = c.requires.rest;
+  given = c.in_ok-set.ensures.set;
+  unused = c.remove.ensures.unused;
+  same_rows = ap (λ l. l.rows) c.remove.ensures.dropped;
+  inside = c.in-Some-choose.ensures.within;
+  open_still = c.in-Some-choose.ensures.safe.2;
+}
