@@ -229,21 +229,6 @@ fn largest_inputs(rt: HostRuntime) -> Result<(), Fail> {
     Ok(())
 }
 
-/// A file that has 65,000 names gets no further one: EMLINK.
-#[test]
-fn names_of_one_file(rt: HostRuntime) -> Result<(), Fail> {
-    let mut input = Vec::from_slice(rt.alloc(), b"0 create /z\n")?;
-    for name in 0..65_000u64 {
-        let line = format!(in rt.alloc(); "0 link /z /{name:x}\n")?;
-        input.extend_from_slice(line.as_bytes())?;
-    }
-    let (result, output) = served(&rt, rt.alloc(), USUAL, &input);
-    assert_eq!(rt; result, Ok(()));
-    let end = b"\n0 ok 2 @64999\n0 no 31 @65000\n".as_slice();
-    assert!(rt; output.as_slice().ends_with(end));
-    Ok(())
-}
-
 #[test]
 fn words_of_the_command_line(rt: HostRuntime) -> Result<(), Fail> {
     for (line, want) in [
