@@ -8,15 +8,18 @@ use Rattle.dc_plain.specs.declared.call.Follow.{Follow}
 use Rattle.dc_plain.specs.Facts.{Teller, told_by}
 use Rattle.dc_plain.specs.Places.{walk}
 use Rattle.dc_plain.specs.Resolution.{Outcome}
+use Rattle.dc_plain.specs.Requests.Request.{Look}
 use Rattle.dc_plain.specs.Requests.{Request, Answer, answer_of as reply_shown}
 use Rattle.dc_row.specs.declared.TheConstants.{ROW_WORDS}
 use Rattle.dc_events.specs.Views.{View, Record, Book}
 use Rattle.dc_events.specs.Effects.{begun, begins, with_seen, with_record}
 use Rattle.dc_walk.specs.Uses.{Use, Marked, facts_of}
 use Rattle.dc_walk.specs.Asking.{IsWalk, SameWalk}
+use Rattle.dc_walk.specs.Long.{has_long_name}
 use Rattle.dc_walk.specs.Causes.{HasCause}
 use Rattle.dc_walk.specs.declared.TheConstants.{BUCKET_ROWS, MOST_LOADS}
 use Rattle.dc_walk.specs.declared.why.Why as rust_why
+use Rattle.dc_walk.specs.declared.why.Why.TheVariants as whys
 use Rattle.dc_walk.specs.declared.walking.Quick as rust_fast
 use Rattle.dc_walk.specs.declared.walking.Quick.TheVariants as fasts
 
@@ -49,6 +52,12 @@ pub record GaveUp (outcome : Teller → Option Outcome) (buckets : ℕ) (before 
   pub first_load : now.first_load ≡ before.loads
   pub loads : now.loads ≤ before.loads + MOST_LOADS
 
+-- a name has no room in a row, and no step was made
+pub record IsTooLong (text : List ℕ) (before now : View) (why : rust_why.Why) : Type 0 where
+  pub is_long : why ≡ whys.Long
+  pub name : has_long_name text ≡ true
+  pub same : now ≡ before
+
 -- exactly this record was made
 pub record Recorded (call : Request) (answer : Answer) (at : ℕ) (before now : View) : Type 0 where
   pub book : now.book ≡ noted_in before.book call answer at
@@ -71,6 +80,11 @@ pub record IsChecking (call : Request) (answer : Answer) (uses : List Use) (book
   pub more : c < length uses → IsOpen call uses book at c w
   pub done : c ≡ length uses → w.book ≡ noted_in book call answer at
 
-abbrev pub Keeps : (outcome : Teller → Option Outcome) (call : Request) (buckets : ℕ) (before now : View) → rust_fast.Quick → Type 0
-Keeps outcome call buckets before now (fasts.Done stamped) = Recorded call (reply_shown stamped.reply) stamped.at before now
-Keeps outcome call buckets before now (fasts.Again why) = GaveUp outcome buckets before now why
+abbrev pub Keeps : (base : ℕ) (text : List ℕ) (how : Follow) (buckets : ℕ) (before now : View) → rust_fast.Quick → Type 0
+Keeps base text how buckets before now (fasts.Done stamped) = Recorded (Look base text how) (reply_shown stamped.reply) stamped.at before now
+Keeps base text how buckets before now (fasts.Again why) = GaveUp (outcome_by base text how) buckets before now why ⊎ IsTooLong text before now why
+
+-- a name that has no room is the cause, whatever else would be
+abbrev pub IsLongAgain : rust_fast.Quick → Type 0
+IsLongAgain (fasts.Done stamped) = ⊥
+IsLongAgain (fasts.Again why) = why ≡ whys.Long

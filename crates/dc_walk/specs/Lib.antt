@@ -1,6 +1,7 @@
 -- What a walk does to the view of its pass, and what it finds.
 pub mod Probes
 pub mod Uses
+pub mod Long
 pub mod Asking
 pub mod Finds
 pub mod Causes

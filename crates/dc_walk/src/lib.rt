@@ -4,6 +4,7 @@
 mod asking;
 mod bucket;
 mod finder;
+mod long;
 mod looking;
 mod probing;
 mod used;

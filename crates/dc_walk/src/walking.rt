@@ -1,17 +1,19 @@
 //! A look-up without the lock.
 
-ghost use Rattle.std.specs.Prelude.{◌≡◌, ◌≤◌, ◌+◌, not, map, IfOk, IfErr};
+ghost use Rattle.std.specs.Prelude.{◌≡◌, ◌≤◌, ◌+◌, true, not, map, IfOk, IfErr};
 ghost use Rattle.dc_plain.specs.Requests.{answer_of};
 ghost use Rattle.dc_plain.specs.Requests.Request.{Look};
 ghost use Rattle.dc_events.specs.Effects.{begins};
 ghost use Rattle.dc_table.specs.Passes.{view, share, IsSamePass, IsIdle};
-ghost use Rattle.dc_walk.specs.Fasts.{GaveUp, Keeps, Went, outcome_by};
+ghost use Rattle.dc_walk.specs.Fasts.{GaveUp, Keeps, Went, IsLongAgain, outcome_by};
 ghost use Rattle.dc_walk.specs.Findings.{CanWalk, buckets_of};
 ghost use Rattle.dc_walk.specs.Finds.{use_shown, AllInside};
+ghost use Rattle.dc_walk.specs.Long.{has_long_name};
 ghost use Rattle.dc_walk.specs.declared.TheConstants.{MOST_LOADS};
 
 use crate::MOST_USED;
 use crate::finder::Rows;
+use crate::long::has_long_name;
 use crate::used::Used;
 use crate::why::Why;
 use arrayvec::ArrayVec;
@@ -97,11 +99,14 @@ pub fn fast(
 ) -> Quick
     requires can { CanWalk shared.now pass.old }
     ensures same { IsSamePass pass.old pass.new × IsIdle pass.new }
-    ensures keeps { Keeps (outcome_by base path.entry.bytes.now follow)
-        (Look base path.entry.bytes.now follow) (buckets_of pass.old)
+    ensures keeps { Keeps base path.entry.bytes.now follow (buckets_of pass.old)
         (view pass.old) (view pass.new) result }
+    ensures long { has_long_name path.entry.bytes.now ≡ true → IsLongAgain result }
     ensures loads { (view pass.new).loads ≤ (view pass.old).loads + MOST_LOADS }
 {
+    if has_long_name(path) {
+        return Quick::Again(Why::Long);
+    }
     words_have_the_fact_they_spell();
     let (reply, begun) = match go(shared, pass, used, base, path, follow) {
         Ok(went) => went,

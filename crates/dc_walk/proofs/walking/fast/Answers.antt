@@ -1,4 +1,4 @@
-use Rattle.std.proofs.Common.{arith, refl, ap, sym, ◌≡◌, ◌∙◌, ◌<◌, ◌≤◌, ◌+◌, [], not, suc, ℕ, get_or, length, map, subst}
+use Rattle.std.proofs.Common.{arith, refl, ap, sym, ◌≡◌, ◌∙◌, ◌<◌, ◌≤◌, ◌+◌, inl, [], not, suc, ℕ, get_or, length, map, subst}
 use Rattle.std.proofs.lemmas.List.{length-map}
 use Rattle.dc_plain.specs.Requests.Request.{Look}
 use Rattle.dc_plain.specs.Requests.{answer_of}
@@ -48,8 +48,8 @@ returns-in-Err-check-clause-keeps c =
     let row : ℕ = (get_or c.as_slice.result.now c.loop-c.c blank).row in
     let higher : c.in-Err-check.noted < c.in-Err-check.found = omega arith in
     let few : length (map use_shown items) ≤ MOST_USED = omega (arith, length-map items use_shown, c.len-c-end.ensures.value, c.len-c-end.ensures.fits) in
-    failed_check {outcome = outcome_by c.args.base c.args.path.bytes.now c.args.follow} (view c.args.pass.now) (view c.loop-c.pass) (view c.check.new.pass) (buckets_of c.args.pass.now) row c.in-Err-check.noted c.in-Err-check.found
-    c.loop-c.invariant.checking less (changed.2 ∙ ap (λ (n : ℕ). faulted (view c.loop-c.pass) (Changed row n c.in-Err-check.found)) (sym noted)) higher c.loop-c.invariant.later few
+    inl (failed_check {outcome = outcome_by c.args.base c.args.path.bytes.now c.args.follow} (view c.args.pass.now) (view c.loop-c.pass) (view c.check.new.pass) (buckets_of c.args.pass.now) row c.in-Err-check.noted c.in-Err-check.found
+    c.loop-c.invariant.checking less (changed.2 ∙ ap (λ (n : ℕ). faulted (view c.loop-c.pass) (Changed row n c.in-Err-check.found)) (sym noted)) higher c.loop-c.invariant.later few)
 
 pub loop-c-preserved : goal.loop-c-preserved
 loop-c-preserved c =
