@@ -7,6 +7,8 @@ mod finder;
 mod long;
 mod looking;
 mod probing;
+#[cfg(test)]
+mod tests;
 mod used;
 mod walking;
 mod why;
