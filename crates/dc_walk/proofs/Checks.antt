@@ -1,0 +1,170 @@
+-- The pivot of a walk, and the checks of the notes that it used.
+use Rattle.std.proofs.Common.{◌≡◌, ℕ, zero, suc, ◌+◌, ◌*◌, ◌-◌, ◌<◌, ◌≤◌, ◌⊎◌, inl, inr, List, [], ◌∷◌, ◌++◌, Bool, true, false, if◌then◌else◌, Option, Some, None, option_map, map, length, get_or, set, take, refl, ap, ap₂, sym, ◌∙◌, subst, arith}
+use Rattle.std.proofs.Math.Seq.{take-length}
+use Rattle.std.specs.List.{Contains}
+use Rattle.std.proofs.lemmas.List.Elements.{Contains-append_right}
+use mathlib.Core.Option.{some}
+use lib.ListN.{get_elem?}
+use Rattle.dc_names.specs.Paths.{fault_of}
+use Rattle.dc_plain.specs.declared.call.Follow.{Follow}
+use Rattle.dc_plain.specs.Facts.{Fact, Teller, told_by}
+use Rattle.dc_plain.specs.FactLaws.{outcome_answer, answer_told}
+use Rattle.dc_plain.specs.Resolution.{Outcome}
+use Rattle.dc_plain.specs.Requests.{Request, Answer}
+use Rattle.dc_plain.specs.Requests.Request.{Look}
+use Rattle.dc_row.specs.Decoding.{SpelledIsRead}
+use Rattle.dc_row.specs.declared.TheConstants.{ROW_WORDS}
+use Rattle.dc_events.specs.Views.{View, Note, Record, Book, Fault}
+use Rattle.dc_events.specs.Views.Fault.{Changed}
+use Rattle.dc_events.specs.Walks.{no_note}
+use Rattle.dc_events.specs.Noted.{facts_in}
+use Rattle.dc_events.specs.Effects.{begins, begun, with_seen, with_record, concluded, settled, turned, pivoted, marked, checked, faulted, note_at}
+use Rattle.dc_table.specs.Walking.{CanCheck}
+use Rattle.dc_walk.specs.Uses.{Use, IsUse, Marked, NeedsEach, facts_of}
+use Rattle.dc_walk.specs.Asking.{IsWalk, SameWalk}
+use Rattle.dc_walk.specs.Fasts.{IsChecking, IsOpen, Recorded, GaveUp, Went, outcome_by, noted_in}
+use Rattle.dc_walk.specs.declared.TheConstants.{BUCKET_ROWS, MOST_USED}
+use Rattle.dc_walk.specs.declared.why.Why.TheVariants as whys
+use Rattle.dc_walk.proofs.Marks.{facts_are, marks_next, next_there, IsNext, ticked}
+use Rattle.dc_walk.proofs.Told.{answer_is}
+use Rattle.dc_walk.proofs.Questions.{many_facts}
+
+module _ (spelled : SpelledIsRead) (base : ℕ) (text : List ℕ) (how : Follow) (valid : fault_of text ≡ None) where
+  -- what a step concludes, by the outcome from its facts
+  concludes : (v : View) (facts : List Fact) (end : Option Outcome) → v.walk.busy ≡ true → v.walk.call ≡ Look base text how → facts_in v.walk.notes ≡ facts → outcome_by base text how (told_by facts) ≡ end → settled v ≡ concluded v (option_map outcome_answer end)
+  concludes v facts end busy call notes is =
+      ap (concluded v) (ap (λ b. if b then answer_told (told_by (facts_in v.walk.notes)) v.walk.call else None) busy
+      ∙ ap₂ (λ (fs : List Fact) (q : Request). answer_told (told_by fs) q) notes call ∙ answer_is (told_by facts) base text how valid ∙ ap (option_map outcome_answer) is)
+
+  no_more : (c n : ℕ) → c ≡ n → c < n → ⊥
+  no_more c n e l = absurd (omega arith)
+
+  -- after a step that came to nothing
+  goes_on : (call : Request) (answer : Answer) (us : List Use) (book : Book) (start at c : ℕ) (v w : View) → w ≡ v → v.loads ≤ start + ROW_WORDS * (BUCKET_ROWS * length us) + 1 + c → v.first_load ≡ start → c < length us → IsOpen call us book at c v
+      → IsChecking call answer us book start at c w
+  goes_on call answer us book start at c v w e loads first less now = subst (IsChecking call answer us book start at c) (sym e) (record {
+    loads = loads;
+    first_load = first;
+    more = λ l. now;
+    done = λ is. absurd (no_more c (length us) is less);
+  })
+
+  -- after the step that made the record
+  ends : (answer : Answer) (us : List Use) (book : Book) (start at c : ℕ) (v w : View) → w ≡ concluded v (Some answer) → v.loads ≤ start + ROW_WORDS * (BUCKET_ROWS * length us) + 1 + c → v.first_load ≡ start → v.walk.pivot ≡ at → v.book ≡ with_seen book at → v.walk.call ≡ Look base text how → c ≡ length us
+      → IsChecking (Look base text how) answer us book start at c w
+  ends answer us book start at c v w e loads first pivot book_is call all = subst (IsChecking (Look base text how) answer us book start at c) (sym e) (record {
+    loads = loads;
+    first_load = first;
+    more = λ l. absurd (no_more c (length us) all l);
+    done = λ is i. with_record (book_is i) (record { call = call i; reply = answer; at = pivot i; altered = false });
+  })
+
+  module _ (before now w : View) (us : List Use) (answer : Answer) (at : ℕ) (went : Went (outcome_by base text how) (Look base text how) before now us answer) (e : w ≡ pivoted now at) where
+    turned_book : (turned now at).book ≡ with_seen before.book at
+    turned_book = ap (λ (b : Book). with_seen b at) went.same.book
+
+    turned_at : (turned now at).walk.pivot ≡ at
+    turned_at = ap (λ b. if b then at else 0) went.walk.busy
+
+    pub first_check : IsChecking (Look base text how) answer us before.book before.loads at 0 w
+    first_check =
+        let loads = went.walk.loads in let first = went.same.first_load in
+        let facts = facts_are spelled 0 0 now.walk.notes us went.walk.marked in
+        elim (none_or_some us) [
+          | inl none ↦
+              let nobody : outcome_by base text how (told_by []) ≡ Some went.end = ap (λ us. outcome_by base text how (told_by (facts_of us))) (sym none) ∙ went.found in
+              let size : length us ≡ 0 = ap length none in
+              subst (λ a. IsChecking (Look base text how) a us before.book before.loads at 0 w) (sym went.answers)
+              (ends (outcome_answer went.end) us before.book before.loads at 0 (turned now at) w
+              (e ∙ concludes (turned now at) [] (Some went.end) went.walk.busy went.same.call facts nobody)
+              (omega arith) first turned_at turned_book went.same.call (sym size))
+          | inr some_use ↦
+              goes_on (Look base text how) answer us before.book before.loads at 0 (turned now at) w
+              (e ∙ concludes (turned now at) [] None went.walk.busy went.same.call facts (went.walk.needed 0 (subst (λ (n : ℕ). 0 < n) (sym (many_facts us)) some_use)))
+              (omega arith) first some_use
+              (record { busy = went.walk.busy; late = went.walk.busy; pivot = turned_at; call_is = went.same.call; book_is = turned_book; marked = went.walk.marked })
+        ]
+      where
+        none_or_some : (us : List Use) → (us ≡ []) ⊎ (0 < length us)
+        none_or_some [] = inl refl
+        none_or_some (u ∷ us) = inr (omega arith)
+
+  less_or : (c n : ℕ) → c < n → (suc c < n) ⊎ (suc c ≡ n)
+  less_or c n l = grind arith
+
+  -- one check more
+  pub next_check : (before now : View) (us : List Use) (answer : Answer) (at c : ℕ) (d : Use) (v w : View) → Went (outcome_by base text how) (Look base text how) before now us answer → c < length us
+      → IsChecking (Look base text how) answer us before.book before.loads at c v → w ≡ checked v (get_or us c d).place → IsChecking (Look base text how) answer us before.book before.loads at (suc c) w
+  next_check before now us answer at c d v w went less is e =
+      let open_now = is.more less in
+      let place : ℕ = (get_or us c d).place in
+      let m : View = marked v place in
+      let same_place : place - 0 ≡ place = omega arith in
+      let marks : Marked 0 (suc c) m.walk.notes us = subst (λ (i : ℕ). Marked 0 (suc c) (set v.walk.notes i (ticked (get_or v.walk.notes i no_note))) us) same_place (marks_next 0 c v.walk.notes us d open_now.marked less) in
+      let facts = facts_are spelled 0 (suc c) m.walk.notes us marks in
+      let loads = is.loads in
+      elim (less_or c (length us) less) [
+        | inl more ↦
+            let many : length (facts_of us) ≡ length us = many_facts us in
+            goes_on (Look base text how) answer us before.book before.loads at (suc c) m w
+            (e ∙ concludes m (take (suc c) (facts_of us)) None open_now.busy open_now.call_is facts (went.walk.needed (suc c) (omega arith)))
+            (omega arith) is.first_load more
+            (record { busy = open_now.busy; late = open_now.late; pivot = open_now.pivot; call_is = open_now.call_is; book_is = open_now.book_is; marked = marks })
+        | inr all ↦
+            let whole : take (suc c) (facts_of us) ≡ facts_of us = ap (λ (n : ℕ). take n (facts_of us)) (all ∙ sym (many_facts us)) ∙ take-length (facts_of us) in
+            subst (λ a. IsChecking (Look base text how) a us before.book before.loads at (suc c) w) (sym went.answers)
+            (ends (outcome_answer went.end) us before.book before.loads at (suc c) m w
+            (e ∙ concludes m (facts_of us) (Some went.end) open_now.busy open_now.call_is (facts ∙ whole) went.found)
+            (omega arith) is.first_load open_now.pivot open_now.book_is open_now.call_is all)
+      ]
+
+get_map : {X Y : Type 0} (f : X → Y) (xs : List X) (i : ℕ) (d : X) → get_or (map f xs) i (f d) ≡ f (get_or xs i d)
+get_map f [] i d = refl
+get_map f (x ∷ xs) zero d = refl
+get_map f (x ∷ xs) (suc i) d = get_map f xs i d
+
+-- the use of a place in the list
+pub use_there : {X : Type 0} (f : X → Use) (xs ys : List X) (i : ℕ) (d : X) → ys ≡ xs → get_or (map f xs) i (f d) ≡ f (get_or ys i d)
+use_there f xs ys i d same = get_map f xs i d ∙ ap (λ zs. f (get_or zs i d)) (sym same)
+
+there_elem : (xs : List Note) (i : ℕ) → i < length xs → get_elem? xs i ≡ some (get_or xs i no_note)
+there_elem [] i l = absurd (omega arith)
+there_elem (x ∷ xs) zero l = refl
+there_elem (x ∷ xs) (suc i) l = there_elem xs i (omega arith)
+
+can_check : (v : View) (u : Use) → v.walk.pivoted ≡ true → IsNext 0 v.walk.notes u → CanCheck v u.place u.row u.count
+can_check v u late n =
+    let same : u.place - 0 ≡ u.place = omega arith in let inside = n.inside in
+    let is = subst (λ (i : ℕ). IsUse u u.place (get_or v.walk.notes i no_note)) same n.is in
+    let size = is.spells.size in record {
+      turned = late;
+      there = there_elem v.walk.notes u.place (omega arith);
+      whole = omega arith;
+      of_row = is.row;
+      counted = is.count;
+    }
+
+pub ready : {call : Request} {answer : Answer} {us : List Use} {book : Book} {start at c : ℕ} {v : View} (d u : Use) → IsChecking call answer us book start at c v → c < length us → get_or us c d ≡ u → CanCheck v u.place u.row u.count
+ready {us = us} {c = c} {v = v} d u is less here = let now = is.more less in
+    subst (λ (x : Use). CanCheck v x.place x.row x.count) here (can_check v (get_or us c d) now.late (next_there 0 c v.walk.notes us d now.marked less))
+
+pub failed_check : {outcome : Teller → Option Outcome} {call : Request} {answer : Answer} {us : List Use} {at c : ℕ} (before v w : View) (buckets row noted found : ℕ) → IsChecking call answer us before.book before.loads at c v → c < length us → w ≡ faulted v (Changed row noted found) → noted < found
+    → before.book.seen ≤ at → length us ≤ MOST_USED → GaveUp outcome buckets before w (whys.Changed row noted found)
+failed_check {outcome = outcome} {at = at} before v w buckets row noted found is less e higher later few =
+    let loads = is.loads in let book = (is.more less).book_is in
+    let seen : v.book.seen ≡ at = ap (λ (b : Book). b.seen) book in
+    let x = Changed row noted found in
+    subst (λ z. GaveUp outcome buckets before z (whys.Changed row noted found)) (sym e) (record {
+      cause = (Contains-append_right v.faults (x ∷ []) x (0, omega arith, refl), higher);
+      nothing = record { own = ap (λ (b : Book). b.own) book; joined = ap (λ (b : Book). b.joined) book; later = omega arith };
+      first_load = is.first_load;
+      loads = omega arith;
+    })
+
+begins_book : (b : Bool) (v : View) (call : Request) → (begins b v call).book ≡ v.book
+begins_book true v call = refl
+begins_book false v call = refl
+
+-- what a walk has seen is what was seen before
+pub same_seen : {outcome : Teller → Option Outcome} {call : Request} {us : List Use} {answer : Answer} (before : View) (b : Bool) (v : View) → Went outcome call before (begins b v call) us answer → v.book.seen ≡ before.book.seen
+same_seen {call = call} before b v went = ap (λ (b : Book). b.seen) (sym (begins_book b v call) ∙ went.same.book)

@@ -1,0 +1,107 @@
+-- How a walk by rows begins and ends.
+use Rattle.std.proofs.Common.{◌≡◌, ℕ, ◌+◌, ◌*◌, ◌/◌, ◌<◌, ◌≤◌, List, [], ◌∷◌, Bool, true, false, not, Option, Some, None, is_some, IfSome, if◌then◌else◌, length, map, refl, ap, sym, ◌∙◌, subst, arith}
+use Rattle.std.specs.List.{Contains}
+use Rattle.dc_plain.specs.Facts.{Teller, told_by}
+use Rattle.dc_plain.specs.Resolution.{Outcome}
+use Rattle.dc_plain.specs.Requests.{Request, Answer}
+use Rattle.dc_plain.specs.Tellers.{Extends}
+use Rattle.dc_plain.specs.FactLaws.{outcome_answer}
+use Rattle.dc_events.specs.Views.{View, Book, Fault}
+use Rattle.dc_events.specs.Views.Fault.{Busy, Changed}
+use Rattle.dc_events.specs.Effects.{begins, begun}
+use Rattle.dc_table.specs.Passes.{Pass, view, share, IsSamePass, IsIdle}
+use Rattle.dc_table.specs.Shares.{Share}
+use Rattle.dc_walk.specs.Uses.{Use, facts_of}
+use Rattle.dc_walk.specs.Asking.{IsWalk, SameWalk}
+use Rattle.dc_walk.specs.Causes.{HasCause}
+use Rattle.dc_walk.specs.Becomings.{Becomes, IsGood}
+use Rattle.dc_walk.specs.Fasts.{GaveUp, Went}
+use Rattle.dc_walk.specs.Finds.{use_shown, AllSpelled, AllInside}
+use Rattle.dc_walk.specs.Findings.{SameRows, IsFinding, CanWalk, now_in, uses_in, outcome_in, request_in, said_in, buckets_of}
+use Rattle.dc_walk.specs.declared.finder.Rows.{Rows}
+use Rattle.dc_walk.specs.declared.why.Why as rust_why
+use Rattle.dc_walk.specs.declared.why.Why.TheVariants as whys
+use Rattle.dc_walk.specs.declared.used.Used.{Used}
+use Rattle.dc_walk.specs.declared.TheConstants.{BUCKET_ROWS, MOST_USED}
+use Rattle.dc_walk.proofs.Sighted.{outcome_same, request_same}
+use Rattle.dc_walk.proofs.Told.{told_itself}
+
+none_there : {X : Type 0} (x : X) → Contains [] x → ⊥
+none_there x c = let never = c.1 in absurd (omega arith)
+
+-- a cause is one of a walk that was begun
+by_begun : (outcome : Teller → Option Outcome) (buckets : ℕ) (b : Bool) (v : View) (call : Request) (why : rust_why.Why) → HasCause outcome buckets (begins (not b) v call) why → b ≡ true
+by_begun outcome buckets true v call why cause = refl
+by_begun outcome buckets false v call (whys.Miss n) cause = let other = cause.rows 0 (omega arith) in absurd (none_there other.note other.noted)
+by_begun outcome buckets false v call (whys.Busy row) cause = absurd (none_there (Busy row) cause)
+by_begun outcome buckets false v call (whys.Changed row noted found) cause = absurd (none_there (Changed row noted found) cause.0)
+by_begun outcome buckets false v call whys.Long cause = let none : length cause.uses ≡ 0 = ap length cause.marked in let many = cause.many in absurd (omega arith)
+by_begun outcome buckets false v call whys.Link cause = let some = cause.some_note in absurd (omega arith)
+
+module _ (f : Rows) where
+  pub started : (v : View) → CanWalk f.shared.now f.pass.now → now_in f ≡ begun v (request_in f) → f.made ≡ 0 → f.why ≡ None → f.used.now.items ≡ [] → IsGood f
+  started v can now made fresh none = record {
+    finding = subst (λ o. IsFinding f (if is_some o then BUCKET_ROWS else 0)) (sym fresh) (record {
+      can = can;
+      walk = subst (λ (z : View × List Use). IsWalk (outcome_in f) z.0 z.1 0) (λ i. (sym now i, map use_shown (sym none i))) (record {
+        busy = refl;
+        early = refl;
+        marked = refl;
+        few = omega arith;
+        loads = omega arith;
+        needed = λ i l. absurd (omega arith);
+        distinct = λ i l. absurd (omega arith);
+      });
+      made = made ∙ ap (λ (z : View). length z.walk.notes) (sym now);
+      call = ap (λ (z : View). z.walk.call) now;
+      spelled = subst AllSpelled (sym none) tt;
+      inside = subst (AllInside (share f.pass.now).rows) (sym none) tt;
+    });
+    cause = subst (λ o. IfSome o (HasCause (outcome_in f) (buckets_of f.pass.now) (now_in f))) (sym fresh) tt;
+  }
+
+  module _ {g : Rows} (v : View) (begins_so : now_in f ≡ begun v (request_in f)) (b : Becomes f g) (good : IsGood f) (p : Pass) (same : p ≡ g.pass.now) (us : List Used) (same_used : us ≡ g.used.now.items) where
+    now_is : now_in g ≡ begins (not g.begun) (view p) (request_in f)
+    now_is = λ i. begins (not g.begun) (view (sym same i)) (request_same b.same i)
+
+    walked_same : SameWalk (begun v (request_in f)) (begins (not g.begun) (view p) (request_in f))
+    walked_same = subst (λ (z : View × View). SameWalk z.0 z.1) (λ i. (begins_so i, now_is i)) b.walk
+
+    pub same_pass_so : IsSamePass f.pass.now p
+    same_pass_so = subst (IsSamePass f.pass.now) (sym same) b.same.same_pass
+
+    pub idle_so : IsIdle p
+    idle_so = let good_now = b.good good in subst IsIdle (sym same) good_now.finding.can.idle
+
+    pub inside_so : AllInside (share f.pass.now).rows us
+    inside_so = let good_now = b.good good in
+        subst (λ (z : Share × List Used). AllInside z.0.rows z.1) (λ i. (b.same.same_pass.same_share i, sym same_used i)) good_now.finding.inside
+
+    pub went_so : (end : Outcome) (answer : Answer) → g.why ≡ None → ((teller : Teller) → Extends (said_in g) teller → outcome_in f teller ≡ Some end) → answer ≡ outcome_answer end
+        → Went (outcome_in f) (request_in f) v (begins (not g.begun) (view p) (request_in f)) (map use_shown us) answer
+    went_so end answer fresh found is = record {
+      walk = subst (λ (z : (Teller → Option Outcome) × View × List Use). IsWalk z.0 z.1 z.2 0) (λ i. (outcome_same b.same i, now_is i, map use_shown (sym same_used i)))
+          (subst (λ o. IsFinding g (if is_some o then BUCKET_ROWS else 0)) fresh (b.good good).finding).walk;
+      same = walked_same;
+      end = end;
+      found = ap (λ (items : List Used). outcome_in f (told_by (facts_of (map use_shown items)))) same_used ∙ found (said_in g) (told_itself (said_in g));
+      answers = is;
+    }
+
+    pub gave_so : (why : rust_why.Why) → g.why ≡ Some why → length (map use_shown us) ≤ MOST_USED → GaveUp (outcome_in f) (buckets_of f.pass.now) v (view p) why
+    gave_so why is few =
+        let good_now = b.good good in
+        let cause : HasCause (outcome_in g) (buckets_of g.pass.now) (now_in g) why = subst (λ o. IfSome o (HasCause (outcome_in g) (buckets_of g.pass.now) (now_in g))) is good_now.cause in
+        let buckets : buckets_of g.pass.now ≡ buckets_of f.pass.now = ap (λ (x : Share). x.rows / BUCKET_ROWS) b.same.same_pass.same_share in
+        let cause_now = subst (λ (z : (Teller → Option Outcome) × ℕ × View). HasCause z.0 z.1 z.2 why) (λ i. (outcome_same b.same i, buckets i, now_is i)) cause in
+        let begun_is = by_begun (outcome_in f) (buckets_of f.pass.now) g.begun (view p) (request_in f) why cause_now in
+        let now : begins (not g.begun) (view p) (request_in f) ≡ view p = ap (λ b. begins (not b) (view p) (request_in f)) begun_is in
+        let walk = subst (λ (z : View × List Use). IsWalk (outcome_in g) z.0 z.1 BUCKET_ROWS) (λ i. ((now_is ∙ now) i, map use_shown (sym same_used i))) (subst (λ o. IsFinding g (if is_some o then BUCKET_ROWS else 0)) is good_now.finding).walk in
+        let kept = subst (SameWalk (begun v (request_in f))) now walked_same in
+        let loads = walk.loads in let first = kept.first_load in
+        let seen = ap (λ (b : Book). b.seen) kept.book in record {
+          cause = subst (λ z. HasCause (outcome_in f) (buckets_of f.pass.now) z why) now cause_now;
+          nothing = record { own = ap (λ (b : Book). b.own) kept.book; joined = ap (λ (b : Book). b.joined) kept.book; later = omega arith };
+          first_load = first;
+          loads = omega arith;
+        }

@@ -1,0 +1,11 @@
+pub mod Seats
+pub mod Probed
+pub mod Marks
+pub mod Told
+pub mod Walked
+pub mod Sighted
+pub mod Lookings
+pub mod Standing
+pub mod Questions
+pub mod Ended
+pub mod Checks

@@ -1,0 +1,109 @@
+-- The words of a row, read one after the other.
+use Rattle.std.proofs.Common.{◌≡◌, ℕ, zero, suc, ◌+◌, ◌-◌, ◌<◌, List, [], ◌∷◌, ◌++◌, true, false, length, get_or, set, take, drop, refl, ap, ap₂, sym, ◌∙◌, subst, arith, length-append}
+use Rattle.std.proofs.Math.Seq.{get_or-append_seam, set-append_seam, take-suc-set, take-length}
+use Rattle.std.proofs.lemmas.List.{drop-set-add}
+use mathlib.Core.Option.{some}
+use lib.ListN.{get_elem?}
+use Rattle.dc_row.specs.declared.TheConstants.{ROW_WORDS}
+use Rattle.dc_events.specs.Views.{View, Note}
+use Rattle.dc_events.specs.Effects.{noted, read, note_at}
+use Rattle.dc_events.specs.Walks.{last_of, no_note, extended}
+use Rattle.dc_table.specs.Walking.{CanRead}
+use Rattle.dc_walk.specs.Probes.{probed, fresh_note}
+
+last_place : (xs : List Note) (x : Note) → length (xs ++ x ∷ []) - 1 ≡ length xs
+last_place xs x = let size : length (xs ++ x ∷ []) ≡ length xs + 1 = length-append xs (x ∷ []) in omega arith
+
+last_note : (xs : List Note) (x : Note) → get_or (xs ++ x ∷ []) (length (xs ++ x ∷ []) - 1) no_note ≡ x
+last_note xs x = ap (λ (k : ℕ). get_or (xs ++ x ∷ []) k no_note) (last_place xs x) ∙ get_or-append_seam xs x [] no_note
+
+there_at : (xs : List Note) (x : Note) → get_elem? (xs ++ x ∷ []) (length xs) ≡ some x
+there_at [] x = refl
+there_at (y ∷ ys) x = there_at ys x
+
+-- the first word is the count
+pub first_read : (v : View) (row count : ℕ) → noted v row count ≡ probed v row count []
+first_read v row count = refl
+
+module _ (v : View) (row count : ℕ) (words : List ℕ) where
+  can_read_so : v.walk.busy ≡ true → v.walk.pivoted ≡ false → (i : ℕ) → length words + 1 ≡ i → i < ROW_WORDS → CanRead (probed v row count words) row i
+  can_read_so busy fresh i next inside =
+      let x = fresh_note row count words in let xs = v.walk.notes in record {
+        busy = busy;
+        fresh = fresh;
+        there = ap (get_elem? (xs ++ x ∷ [])) (last_place xs x) ∙ there_at xs x ∙ ap some (sym (last_note xs x));
+        of_row = ap (λ (n : Note). n.row) (last_note xs x);
+        next = ap (λ (n : Note). length n.words + 1) (last_note xs x) ∙ next;
+        inside = inside;
+      }
+
+  read_so : (w : ℕ) → read (probed v row count words) w ≡ probed v row count (words ++ w ∷ [])
+  read_so w =
+      let x = fresh_note row count words in let xs = v.walk.notes in
+      let size : length (words ++ w ∷ []) ≡ length words + 1 = length-append words (w ∷ []) in
+      let loads : v.loads + (1 + length words) + 1 ≡ v.loads + (1 + length (words ++ w ∷ [])) = omega arith in
+      let notes : set (xs ++ x ∷ []) (length (xs ++ x ∷ []) - 1) (extended (get_or (xs ++ x ∷ []) (length (xs ++ x ∷ []) - 1) no_note) w) ≡ xs ++ fresh_note row count (words ++ w ∷ []) ∷ []
+      = ap₂ (λ (k : ℕ) (n : Note). set (xs ++ x ∷ []) k (extended n w)) (last_place xs x) (last_note xs x) ∙ set-append_seam xs x [] (fresh_note row count (words ++ w ∷ [])) in
+      λ i. record v { walk = record v.walk { notes = notes i }; loads = loads i }
+
+-- the words after the first, up to the i-th
+abbrev pub read_of : List ℕ → ℕ → List ℕ
+read_of words i = take (i - 1) (drop 1 words)
+
+kept_first : (words : List ℕ) (i w : ℕ) → 0 < i → get_or (set words i w) 0 0 ≡ get_or words 0 0
+kept_first [] zero w l = absurd (omega arith)
+kept_first [] (suc i) w l = refl
+kept_first (x ∷ xs) zero w l = absurd (omega arith)
+kept_first (x ∷ xs) (suc i) w l = refl
+
+dropped : (words : List ℕ) → length (drop 1 words) ≡ length words - 1
+dropped [] = refl
+dropped (x ∷ xs) = let is : length xs ≡ suc (length xs) - 1 = omega arith in is
+
+one_more : (words : List ℕ) (k w : ℕ) → k < length (drop 1 words) → take (suc k) (drop 1 (set words (1 + k) w)) ≡ take k (drop 1 words) ++ w ∷ []
+one_more words k w l = ap (take (suc k)) (drop-set-add 1 words k w) ∙ take-suc-set (drop 1 words) k w l
+
+read_more : (words : List ℕ) (i w : ℕ) → 0 < i → i < length words → read_of (set words i w) (i + 1) ≡ read_of words i ++ w ∷ []
+read_more words zero w early l = absurd (omega arith)
+read_more words (suc k) w early l =
+    let size = dropped words in
+    let place : suc k + 1 - 1 ≡ suc k = omega arith in
+    let after : 1 + k ≡ suc k = omega arith in
+    let before : suc k - 1 ≡ k = omega arith in
+    ap (λ (n : ℕ). take n (drop 1 (set words (suc k) w))) place ∙ ap (λ (n : ℕ). take (suc k) (drop 1 (set words n w))) (sym after) ∙ one_more words k w (omega arith) ∙ ap (λ (n : ℕ). take n (drop 1 words) ++ w ∷ []) (sym before)
+
+take_size : (k : ℕ) (xs : List ℕ) → k < length xs + 1 → length (take k xs) ≡ k
+take_size zero xs l = refl
+take_size (suc k) [] l = absurd (omega arith)
+take_size (suc k) (x ∷ xs) l = ap suc (take_size k xs (omega arith))
+
+read_size : (words : List ℕ) (i : ℕ) → 0 < i → i < length words + 1 → length (read_of words i) + 1 ≡ i
+read_size words i early l = let size = dropped words in let is = take_size (i - 1) (drop 1 words) (omega arith) in omega arith
+
+module _ (v p : View) (row i : ℕ) (words : List ℕ) (size : length words ≡ ROW_WORDS) (early : 0 < i) (inside : i < ROW_WORDS) (is : p ≡ probed v row (get_or words 0 0) (read_of words i)) where
+  within : i < length words
+  within = subst (λ (n : ℕ). i < n) (sym size) inside
+
+  pub can_read : v.walk.busy ≡ true → v.walk.pivoted ≡ false → CanRead p row i
+  can_read busy fresh = let less = within in subst (λ q. CanRead q row i) (sym is) (can_read_so v row (get_or words 0 0) (read_of words i) busy fresh i (read_size words i early (omega arith)) inside)
+
+  pub next_read : (q : View) (w : ℕ) → q ≡ read p w → q ≡ probed v row (get_or (set words i w) 0 0) (read_of (set words i w) (i + 1))
+  next_read q w e =
+      e ∙ ap (λ u. read u w) is ∙ read_so v row (get_or words 0 0) (read_of words i) w
+      ∙ ap₂ (λ (n : ℕ) (ws : List ℕ). probed v row n ws) (sym (kept_first words i w early)) (sym (read_more words i w early within))
+
+-- all words
+pub read_whole : (words : List ℕ) → length words ≡ ROW_WORDS → (i : ℕ) → i ≡ ROW_WORDS → read_of words i ≡ drop 1 words
+read_whole words size i all =
+    let many = dropped words in
+    let last : i - 1 ≡ length (drop 1 words) = ap (λ (n : ℕ). n - 1) (all ∙ sym size) ∙ sym many in
+    ap (λ (n : ℕ). take n (drop 1 words)) last ∙ take-length (drop 1 words)
+
+-- the words of a row are its count and the others
+pub count_first : (words : List ℕ) → length words ≡ ROW_WORDS → get_or words 0 0 ∷ drop 1 words ≡ words
+count_first [] size = absurd (omega (arith, size))
+count_first (x ∷ xs) size = refl
+
+pub rest_size : (words : List ℕ) → length words ≡ ROW_WORDS → length (drop 1 words) + 1 ≡ ROW_WORDS
+rest_size [] size = absurd (omega (arith, size))
+rest_size (x ∷ xs) size = let all : suc (length xs) ≡ 8 = size in let is : length xs + 1 ≡ 8 = omega arith in is

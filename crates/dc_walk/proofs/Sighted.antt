@@ -1,0 +1,144 @@
+-- What a finder over rows knows after a look at a row.
+use Rattle.std.proofs.Common.{◌≡◌, ℕ, ◌+◌, ◌<◌, ◌≤◌, ◌/◌, List, [], ◌∷◌, ◌++◌, false, Option, Some, None, length, map, refl, ap, ap₂, sym, ◌∙◌, subst, arith, length-append}
+use Rattle.std.proofs.lemmas.List.{append-nil, append_assoc, map-append}
+use Rattle.std.specs.List.{Contains}
+use Rattle.std.proofs.lemmas.List.Elements.{Contains-append_left}
+use Rattle.dc_names.specs.Paths.{path_in}
+use Rattle.dc_plain.specs.Facts.{Fact, Label, Target, Teller, told_by}
+use Rattle.dc_plain.specs.Facts.Fact.{Leads}
+use Rattle.dc_plain.specs.Places.{walk}
+use Rattle.dc_plain.specs.Resolution.{Outcome}
+use Rattle.dc_plain.specs.Requests.{Request}
+use Rattle.dc_plain.specs.Requests.Request.{Look}
+use Rattle.dc_row.specs.Spelling.{Spells}
+use Rattle.dc_events.specs.Views.{View, Note, Fault}
+use Rattle.dc_events.specs.Views.Fault.{Busy}
+use Rattle.dc_events.specs.Rows.{note_words, IsWhole}
+use Rattle.dc_events.specs.Effects.{faulted}
+use Rattle.dc_row.specs.declared.TheConstants.{ROW_WORDS}
+use Rattle.dc_walk.specs.declared.TheConstants.{BUCKET_ROWS}
+use Rattle.dc_walk.specs.Probes.{probed, fresh_note}
+use Rattle.dc_walk.specs.Uses.{Use, facts_of}
+use Rattle.dc_walk.specs.Asking.{IsWalk, IsOther, GoesOn, SameWalk}
+use Rattle.dc_walk.specs.Finds.{use_shown, told_in, AllSpelled, AllInside}
+use Rattle.dc_walk.specs.Findings.{SameRows, IsFinding, CanWalk, now_in, uses_in, outcome_in, request_in, said_in}
+use Rattle.dc_walk.specs.Sights.{Fails, Answers}
+use Rattle.dc_walk.specs.declared.finder.Rows.{Rows}
+use Rattle.dc_walk.specs.declared.used.Used.{Used}
+use Rattle.dc_walk.proofs.Told.{new_same}
+use Rattle.dc_walk.proofs.Walked.{passed, stumbled, answered, last_noted, last_fault, other_still}
+use Rattle.dc_walk.proofs.Seats.{same_pass, same_passes, fits_still}
+use Rattle.dc_table.specs.Shares.{Share}
+use Rattle.dc_table.specs.Passes.{Pass, share, IsSamePass, IsIdle}
+use Rattle.dc_table.specs.declared.shared.Shared.{Shared}
+
+pub outcome_same : {f g : Rows} → SameRows f g → outcome_in g ≡ outcome_in f
+outcome_same s = λ i teller. walk teller (s.base i) (path_in (s.path i).bytes.now) (s.follow i)
+
+pub request_same : {f g : Rows} → SameRows f g → request_in g ≡ request_in f
+request_same s = λ i. Look (s.base i) (s.path i).bytes.now (s.follow i)
+
+same_walk : (v : View) → SameWalk v v
+same_walk v = record { call = refl; book = refl; first_load = refl }
+
+pub on_probed : {v w : View} (row count : ℕ) (words : List ℕ) → w ≡ probed v row count words → GoesOn v w
+on_probed {v = v} row count words e = subst (GoesOn v) (sym e) (record {
+  notes = fresh_note row count words ∷ [];
+  noted = refl;
+  more = [];
+  faults = sym (append-nil v.faults);
+  same = record { call = refl; book = refl; first_load = refl };
+})
+
+pub on_odd : {v w : View} (row : ℕ) → w ≡ faulted v (Busy row) → GoesOn v w
+on_odd {v = v} row e = subst (GoesOn v) (sym e) (record {
+  notes = [];
+  noted = sym (append-nil v.walk.notes);
+  more = Busy row ∷ [];
+  faults = refl;
+  same = record { call = refl; book = refl; first_load = refl };
+})
+
+module _ {f g : Rows} where
+  pub finds_on : (v : View) (us : List Use) (k : ℕ) → SameRows f g → CanWalk g.shared.now g.pass.now → AllSpelled g.used.now.items → AllInside (share g.pass.now).rows g.used.now.items → now_in g ≡ v → IsWalk (outcome_in f) v us k → uses_in g ≡ us → g.made ≡ length v.walk.notes → v.walk.call ≡ request_in f → IsFinding g k
+  finds_on v us k s can spelled inside now w uses made call = record {
+    can = can;
+    walk = subst (λ (z : (Teller → Option Outcome) × View × List Use). IsWalk z.0 z.1 z.2 k) (λ i. (sym (outcome_same s) i, sym now i, sym uses i)) w;
+    made = made ∙ ap (λ (z : View). length z.walk.notes) (sym now);
+    call = ap (λ (z : View). z.walk.call) now ∙ call ∙ sym (request_same s);
+    spelled = spelled;
+    inside = inside;
+  }
+
+  module _ (row n : ℕ) (label : Label) (k : ℕ) (s : SameRows f g) (can : CanWalk g.shared.now g.pass.now) (is : IsFinding f k) where
+    inside_still : g.used.now ≡ f.used.now → AllInside (share g.pass.now).rows g.used.now.items
+    inside_still used = subst (λ (z : Share × List Used). AllInside z.0.rows z.1) (λ i. (sym s.same_pass.same_share i, (sym used i).items)) is.inside
+
+    pub failed_odd : g.used.now ≡ f.used.now → g.made ≡ f.made → now_in g ≡ faulted (now_in f) (Busy row) → Fails f n label g k × Contains (now_in g).faults (Busy row)
+    failed_odd used made now =
+        let uses : uses_in g ≡ uses_in f = ap (λ u. map use_shown u.items) used in (
+          record { finding = finds_on (faulted (now_in f) (Busy row)) (uses_in f) (k + 1) s can (subst (λ u. AllSpelled u.items) (sym used) is.spelled) (inside_still used) now (stumbled row is.walk) uses (made ∙ is.made) is.call; used = used },
+          subst (λ (z : View). Contains z.faults (Busy row)) (sym now) (last_fault (now_in f).faults (Busy row)),
+        )
+
+    module _ (count : ℕ) (words : List ℕ) (made : g.made ≡ f.made + 1) (now : now_in g ≡ probed (now_in f) row count words) where
+      made_so : g.made ≡ length ((now_in f).walk.notes ++ fresh_note row count words ∷ [])
+      made_so =
+          let size : length ((now_in f).walk.notes ++ fresh_note row count words ∷ []) ≡ length (now_in f).walk.notes + 1 = length-append (now_in f).walk.notes (fresh_note row count words ∷ []) in
+          let many = is.made in omega arith
+
+      pub failed_other : g.used.now ≡ f.used.now → length words + 1 ≡ ROW_WORDS → ((target : Option Target) → Spells (count ∷ words) (Some (Leads n label target)) → ⊥) → Fails f n label g k × IsOther (now_in g) row n label
+      failed_other used whole other =
+          let uses : uses_in g ≡ uses_in f = ap (λ u. map use_shown u.items) used in
+          let x = fresh_note row count words in (
+            record { finding = finds_on (probed (now_in f) row count words) (uses_in f) (k + 1) s can (subst (λ u. AllSpelled u.items) (sym used) is.spelled) (inside_still used) now (passed row count words whole is.walk) uses made_so is.call; used = used },
+            subst (λ (z : View). IsOther z row n label) (sym now) (record { note = x; noted = last_noted (now_in f).walk.notes x; is_of = refl; whole = whole; other = other }),
+          )
+
+      pub answers_so : (target : Option Target) (u : Use) → uses_in g ≡ uses_in f ++ u ∷ [] → AllSpelled g.used.now.items → AllInside (share f.pass.now).rows g.used.now.items → u.row ≡ row → u.count ≡ count → u.place ≡ f.made → u.fact ≡ Leads n label target → Spells (count ∷ words) (Some (Leads n label target))
+          → k < BUCKET_ROWS → outcome_in f (said_in f) ≡ None → (said_in f).entry n label ≡ None → Answers f n label g target
+      answers_so target u uses spelled inside row_is count_is place fact spells early none new =
+          let many = is.made in
+          let said : Spells (u.count ∷ words) (Some u.fact) = subst (λ (z : ℕ × Fact). Spells (z.0 ∷ words) (Some z.1)) (λ i. (sym count_is i, sym fact i)) spells in
+          record {
+            finding = finds_on (probed (now_in f) row count words) (uses_in f ++ u ∷ []) 0 s can spelled (subst (λ (x : Share). AllInside x.rows g.used.now.items) (sym s.same_pass.same_share) inside) now
+                (subst (λ (z : ℕ × ℕ). IsWalk (outcome_in f) (probed (now_in f) z.0 z.1 words) (uses_in f ++ u ∷ []) 0) (λ i. (row_is i, count_is i)) (answered u words is.walk early (place ∙ many) said none (new_same n label target (said_in f) u.fact fact new)))
+                uses made_so is.call;
+            use_of = u;
+            fact = fact;
+            uses = uses;
+          }
+
+pub on_still : {v : View} → GoesOn v v
+on_still {v = v} = record { notes = []; noted = sym (append-nil v.walk.notes); more = []; faults = sym (append-nil v.faults); same = same_walk v }
+
+pub on_again : {u v w : View} → GoesOn u v → GoesOn v w → GoesOn u w
+on_again {u = u} a b = record {
+  notes = a.notes ++ b.notes;
+  noted = b.noted ∙ ap (λ xs. xs ++ b.notes) a.noted ∙ append_assoc u.walk.notes a.notes b.notes;
+  more = a.more ++ b.more;
+  faults = b.faults ∙ ap (λ xs. xs ++ b.more) a.faults ∙ append_assoc u.faults a.more b.more;
+  same = record { call = b.same.call ∙ a.same.call; book = b.same.book ∙ a.same.book; first_load = b.same.first_load ∙ a.same.first_load };
+}
+
+pub other_on : {v w : View} {row n : ℕ} {label : Label} → GoesOn v w → IsOther v row n label → IsOther w row n label
+other_on {w = w} on o = other_still on.notes w on.noted o
+
+pub fault_on : {v w : View} {fault : Fault} → GoesOn v w → Contains v.faults fault → Contains w.faults fault
+fault_on {v = v} {fault = fault} on c = subst (λ (xs : List Fault). Contains xs fault) (sym on.faults) (Contains-append_left v.faults on.more fault c)
+
+pub same_again : {f g h : Rows} → SameRows f g → SameRows g h → SameRows f h
+same_again a b = record { shared = b.shared ∙ a.shared; pass = b.pass ∙ a.pass; used = b.used ∙ a.used; base = b.base ∙ a.base; path = b.path ∙ a.path; follow = b.follow ∙ a.follow; same_pass = same_passes a.same_pass b.same_pass }
+
+pub same_still : (f : Rows) → SameRows f f
+same_still f = record { shared = refl; pass = refl; used = refl; base = refl; path = refl; follow = refl; same_pass = same_pass f.pass.now }
+
+pub can_still : {t u : Shared} {p q : Pass} → u ≡ t → IsSamePass p q → IsIdle q → CanWalk t p → CanWalk u q
+can_still {p = p} {q = q} e same idle c = subst (λ x. CanWalk x q) (sym e) (record {
+  fits = fits_still c.fits same;
+  idle = idle;
+  some_bucket = subst (λ (x : Share). 0 < x.rows / BUCKET_ROWS) (sym same.same_share) c.some_bucket;
+})
+
+pub still_needed : {f g : Rows} → SameRows f g → g.used.now ≡ f.used.now → outcome_in f (said_in f) ≡ None → outcome_in g (said_in g) ≡ None
+still_needed {f} {g} s used e = (λ i. outcome_same s i (told_in (used i).items)) ∙ e

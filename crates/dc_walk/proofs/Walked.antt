@@ -1,0 +1,84 @@
+-- The state of a walk, step by step.
+use Rattle.std.proofs.Common.{◌≡◌, ℕ, ◌+◌, ◌*◌, ◌<◌, ◌≤◌, List, [], ◌∷◌, ◌++◌, Bool, true, false, Option, Some, None, length, map, refl, ap, sym, ◌∙◌, subst, arith, length-append}
+use Rattle.std.specs.List.{Contains}
+use Rattle.std.proofs.lemmas.List.{map-append}
+use Rattle.std.proofs.lemmas.List.Elements.{Contains-append_left, Contains-append_right}
+use Rattle.dc_plain.specs.Facts.{Fact, Label, Target, Teller, told_by}
+use Rattle.dc_plain.specs.Resolution.{Outcome}
+use Rattle.dc_row.specs.Spelling.{Spells}
+use Rattle.dc_events.specs.Views.{View, Note, Fault}
+use Rattle.dc_events.specs.Views.Fault.{Busy}
+use Rattle.dc_events.specs.Rows.{note_words}
+use Rattle.dc_events.specs.Effects.{faulted}
+use Rattle.dc_row.specs.declared.TheConstants.{ROW_WORDS}
+use Rattle.dc_walk.specs.declared.TheConstants.{BUCKET_ROWS}
+use Rattle.dc_walk.specs.Probes.{probed, fresh_note}
+use Rattle.dc_walk.specs.Uses.{Use, IsUse, IsNew, Marked, facts_of, NeedsEach, DiffersEach}
+use Rattle.dc_walk.specs.Asking.{IsWalk, SameWalk, IsOther}
+use Rattle.dc_walk.proofs.Marks.{more_unused, more_used}
+use Rattle.dc_walk.proofs.Told.{needs_more, differs_more}
+
+module _ {outcome : Teller → Option Outcome} {v : View} {us : List Use} {k : ℕ} where
+  -- a row that tells of another key
+  pub passed : (row count : ℕ) (words : List ℕ) → length words + 1 ≡ ROW_WORDS → IsWalk outcome v us k → IsWalk outcome (probed v row count words) us (k + 1)
+  passed row count words whole w =
+      let few = w.few in let loads = w.loads in
+      let size : length (v.walk.notes ++ fresh_note row count words ∷ []) ≡ length v.walk.notes + 1 = length-append v.walk.notes (fresh_note row count words ∷ []) in record {
+        busy = w.busy;
+        early = w.early;
+        marked = more_unused 0 v.walk.notes us (fresh_note row count words) w.marked refl;
+        few = omega arith;
+        loads = omega arith;
+        needed = w.needed;
+        distinct = w.distinct;
+      }
+
+  -- a row that is odd
+  pub stumbled : (row : ℕ) → IsWalk outcome v us k → IsWalk outcome (faulted v (Busy row)) us (k + 1)
+  stumbled row w = let few = w.few in let loads = w.loads in record {
+    busy = w.busy;
+    early = w.early;
+    marked = w.marked;
+    few = omega arith;
+    loads = omega arith;
+    needed = w.needed;
+    distinct = w.distinct;
+  }
+
+  -- a row that answers
+  pub answered : (u : Use) (words : List ℕ) → IsWalk outcome v us k → k < BUCKET_ROWS → u.place ≡ length v.walk.notes → Spells (u.count ∷ words) (Some u.fact) → outcome (told_by (facts_of us)) ≡ None → IsNew (told_by (facts_of us)) u.fact
+      → IsWalk outcome (probed v u.row u.count words) (us ++ u ∷ []) 0
+  answered u words w early at spells unsettled new =
+      let few = w.few in let loads = w.loads in
+      let x = fresh_note u.row u.count words in let whole = spells.size in
+      let size : length (v.walk.notes ++ x ∷ []) ≡ length v.walk.notes + 1 = length-append v.walk.notes (x ∷ []) in
+      let placed : u.place ≡ 0 + length v.walk.notes = omega arith in
+      let many : length (us ++ u ∷ []) ≡ length us + 1 = length-append us (u ∷ []) in record {
+        busy = w.busy;
+        early = w.early;
+        marked = more_used 0 v.walk.notes us x u w.marked (record { at = placed; row = refl; count = refl; spells = spells }) refl;
+        few = omega arith;
+        loads = omega arith;
+        needed = subst (NeedsEach outcome) (sym (map-append (λ u. u.fact) us (u ∷ []))) (needs_more outcome (facts_of us) u.fact w.needed unsettled);
+        distinct = subst DiffersEach (sym (map-append (λ u. u.fact) us (u ∷ []))) (differs_more (facts_of us) u.fact w.distinct new);
+      }
+
+  -- looking no further
+  pub rested : (n : ℕ) → k ≤ n → IsWalk outcome v us k → IsWalk outcome v us n
+  rested n l w = let few = w.few in let loads = w.loads in record { busy = w.busy; early = w.early; marked = w.marked; few = omega arith; loads = omega arith; needed = w.needed; distinct = w.distinct }
+
+-- what a row told stays noted
+pub other_still : {v : View} {row n : ℕ} {label : Label} (more : List Note) (w : View) → w.walk.notes ≡ v.walk.notes ++ more → IsOther v row n label → IsOther w row n label
+other_still {v = v} more w is o = record {
+  note = o.note;
+  noted = subst (λ notes. Contains notes o.note) (sym is) (Contains-append_left v.walk.notes more o.note o.noted);
+  is_of = o.is_of;
+  whole = o.whole;
+  other = o.other;
+}
+
+pub last_noted : (xs : List Note) (x : Note) → Contains (xs ++ x ∷ []) x
+last_noted xs x = Contains-append_right xs (x ∷ []) x (0, omega arith, refl)
+
+pub last_fault : (xs : List Fault) (x : Fault) → Contains (xs ++ x ∷ []) x
+last_fault xs x = Contains-append_right xs (x ∷ []) x (0, omega arith, refl)

@@ -1,0 +1,58 @@
+use Rattle.std.proofs.Common.{arith, ◌≡◌, ◌+◌, ◌<◌, refl, ap, sym, ◌∙◌, subst}
+use Rattle.arrayvec.specs.ArrayVec.{array_vec_len}
+use Rattle.dc_plain.specs.KeysShown.{label_shown}
+use Rattle.dc_table.specs.Passes.{share}
+use Rattle.dc_table.specs.Shares.{Share}
+use Rattle.dc_walk.specs.Causes.{Looked}
+use Rattle.dc_walk.specs.Findings.{now_in}
+use Rattle.dc_walk.specs.Finds.{told_in}
+use Rattle.dc_walk.specs.Sights.{Fails}
+use Rattle.dc_walk.specs.declared.TheConstants.{BUCKET_ROWS, MOST_USED}
+use Rattle.dc_walk.proofs.Seats.{row_still}
+use Rattle.dc_walk.proofs.Sighted.{same_again, same_still, on_again, on_still, still_needed}
+use Rattle.dc_walk.proofs.Lookings.{looked_none, looked_other, looked_odd}
+use Rattle.dc_walk.proofs.bucket.ask_rows.Goals.{in-Odd, in-Other}
+use Rattle.dc_walk.proofs.bucket.ask_rows.Goals as goal
+
+pub loop-k-init : goal.loop-k-init
+loop-k-init c = record {
+  same = same_still c.args.rows.now;
+  why = refl;
+  used = refl;
+  on = on_still;
+  finding = c.requires.finding;
+  looked = looked_none (now_in c.args.rows.now) c.args.first c.args.key.number (label_shown c.args.key.label);
+}
+
+pub look_at-requires-clause-row : goal.look_at-requires-clause-row
+look_at-requires-clause-row c =
+    let inside : c.args.first + c.loop-k.k < (share c.args.rows.now.pass.now).rows = omega (arith, c.requires.within, c.loop-k-test.true) in
+    row_still inside c.loop-k.invariant.same.same_pass
+
+pub look_at-requires-clause-room : goal.look_at-requires-clause-room
+look_at-requires-clause-room c = subst (λ used. array_vec_len used < MOST_USED) (sym c.loop-k.invariant.used) c.requires.room
+
+pub look_at-requires-clause-needed : goal.look_at-requires-clause-needed
+look_at-requires-clause-needed c = still_needed c.loop-k.invariant.same c.loop-k.invariant.used c.requires.needed
+
+pub look_at-requires-clause-untold : goal.look_at-requires-clause-untold
+look_at-requires-clause-untold c = ap (λ used. (told_in used.items).entry c.args.key.number (label_shown c.args.key.label)) c.loop-k.invariant.used ∙ c.requires.untold
+
+pub loop-k-preserved : goal.loop-k-preserved
+loop-k-preserved c =
+    let i = c.loop-k.invariant in let e = c.look_at.ensures in
+    let n = c.args.key.number in let label = label_shown c.args.key.label in
+    let now = now_in c.look_at.new.rows in
+    let more : Fails c.loop-k.rows n label c.look_at.new.rows c.loop-k.k × Looked now c.args.first n label c.match-look_at.odd (c.loop-k.k + 1)
+    = elim c.match-look_at.branch [
+      | in-Odd w ↦ let saw = w.in-Odd.ensures.saw in (saw.0, subst (λ o. Looked now c.args.first n label o (c.loop-k.k + 1)) (sym (w.odd-is ∙ w.or-odd.ensures)) (looked_odd c.loop-k.odd (c.args.first + c.loop-k.k) c.loop-k.k i.looked e.on saw.1))
+      | in-Other w ↦ let saw = w.in-Other.ensures.saw in (saw.0, subst (λ o. Looked now c.args.first n label o (c.loop-k.k + 1)) (sym w.odd-is) (looked_other c.loop-k.odd c.loop-k.k i.looked e.on saw.1))
+    ] in
+    record {
+      same = same_again i.same e.same;
+      why = e.why ∙ i.why;
+      used = more.0.used ∙ i.used;
+      on = on_again i.on e.on;
+      finding = more.0.finding;
+      looked = more.1;
+    }

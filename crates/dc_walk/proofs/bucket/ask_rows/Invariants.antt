@@ -1,0 +1,16 @@
+use Rattle.std.proofs.Common.{◌≡◌}
+use Rattle.dc_plain.specs.KeysShown.{label_shown}
+use Rattle.dc_walk.specs.Asking.{GoesOn}
+use Rattle.dc_walk.specs.Causes.{Looked}
+use Rattle.dc_walk.specs.Findings.{SameRows, IsFinding, now_in}
+use Rattle.dc_walk.proofs.bucket.ask_rows.Given as goal
+
+abbrev pub invariant-loop-k : goal.invariant-loop-k
+invariant-loop-k l = record {
+  same : SameRows l.fn.rows l.rows;
+  why : l.rows.why ≡ l.fn.rows.why;
+  used : l.rows.used.now ≡ l.fn.rows.used.now;
+  on : GoesOn (now_in l.fn.rows) (now_in l.rows);
+  finding : IsFinding l.rows l.k;
+  looked : Looked (now_in l.rows) l.fn.first l.fn.key.number (label_shown l.fn.key.label) l.odd l.k;
+}

@@ -1,0 +1,72 @@
+-- The state of a walk, and the keys that it asks for.
+use Rattle.std.specs.Prelude.{◌≡◌, ◌≢◌, ℕ, ◌+◌, ◌*◌, ◌<◌, ◌≤◌, List, ◌++◌, true, false, Option, Some, length}
+use Rattle.std.specs.List.{Contains}
+use Rattle.dc_plain.specs.Facts.{Fact, Key, Label, Target, Teller, told_by}
+use Rattle.dc_plain.specs.Facts.Label.{Text}
+use Rattle.dc_plain.specs.Facts.Fact.{Leads}
+use Rattle.dc_plain.specs.Resolution.{Outcome}
+use Rattle.dc_row.specs.Spelling.{Spells}
+use Rattle.dc_row.specs.declared.TheConstants.{ROW_WORDS}
+use Rattle.dc_resolve.specs.Needs.{IsNeeded, IsUntold}
+use Rattle.dc_index.specs.Slots.{bucket_of}
+use Rattle.dc_events.specs.Views.{View, Walk, Note, Book, Fault}
+use Rattle.dc_events.specs.Rows.{note_words, IsWhole}
+use Rattle.dc_walk.specs.Uses.{Use, Marked, NeedsEach, DiffersEach, facts_of}
+use Rattle.dc_walk.specs.declared.TheConstants.{BUCKET_ROWS}
+
+-- a walk that has looked at k rows for its present question: each question cost four rows at most, each row eight loads
+pub record IsWalk (outcome : Teller → Option Outcome) (v : View) (uses : List Use) (k : ℕ) : Type 0 where
+  pub busy : v.walk.busy ≡ true
+  pub early : v.walk.pivoted ≡ false
+  pub marked : Marked 0 0 v.walk.notes uses
+  pub few : length v.walk.notes ≤ BUCKET_ROWS * length uses + k
+  pub loads : v.loads ≤ v.first_load + ROW_WORDS * (BUCKET_ROWS * length uses + k)
+  pub needed : NeedsEach outcome (facts_of uses)
+  pub distinct : DiffersEach (facts_of uses)
+
+-- what no step of a walk changes once it is begun
+pub record SameWalk (v w : View) : Type 0 where
+  pub call : w.walk.call ≡ v.walk.call
+  pub book : w.book ≡ v.book
+  pub first_load : w.first_load ≡ v.first_load
+
+-- the walk goes on in this view
+pub record GoesOn (v w : View) : Type 0 where
+  pub notes : List Note
+  pub noted : w.walk.notes ≡ v.walk.notes ++ notes
+  pub more : List Fault
+  pub faults : w.faults ≡ v.faults ++ more
+  pub same : SameWalk v w
+
+-- a whole note of the row doesn't spell an entry of the key
+pub record IsOther (v : View) (row n : ℕ) (label : Label) : Type 0 where
+  pub note : Note
+  pub noted : Contains v.walk.notes note
+  pub is_of : note.row ≡ row
+  pub whole : IsWhole note
+  pub other : (target : Option Target) → Spells (note_words note) (Some (Leads n label target)) → ⊥
+
+-- the first row of a key's bucket, of so many
+abbrev pub first_row : ℕ → ℕ → Label → ℕ
+first_row buckets n label = BUCKET_ROWS * bucket_of (record { number = n; label = label }) buckets
+
+-- facts of some whole notes, by which the walk asks for this key
+pub record Asks (outcome : Teller → Option Outcome) (v : View) (n : ℕ) (label : Label) : Type 0 where
+  pub facts : List Fact
+  pub noted : (fact : Fact) → Contains facts fact → (note : Note) × Contains v.walk.notes note × Spells (note_words note) (Some fact)
+  pub untold : IsUntold (told_by facts) n label
+  pub needed : IsNeeded outcome (told_by facts) n label
+
+-- no row of its bucket has an entry that is asked for
+pub record IsMissing (outcome : Teller → Option Outcome) (buckets : ℕ) (v : View) : Type 0 where
+  pub number : ℕ
+  pub label : Label
+  pub entry : label ≢ Text
+  pub asks : Asks outcome v number label
+  pub rows : (k : ℕ) → k < BUCKET_ROWS → IsOther v (first_row buckets number label + k) number label
+
+-- a link's text is asked for
+pub record IsLinked (outcome : Teller → Option Outcome) (v : View) : Type 0 where
+  pub some_note : 0 < length v.walk.notes
+  pub number : ℕ
+  pub asks : Asks outcome v number Text

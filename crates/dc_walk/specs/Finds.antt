@@ -1,0 +1,39 @@
+-- What the rows that a walk has used tell.
+use Rattle.std.specs.Prelude.{◌≡◌, ℕ, ◌<◌, List, [], Option, Some, None, map, get_or, length}
+use Rattle.std.specs.List.{AllByRecursion}
+use Rattle.dc_plain.specs.Facts.{Fact, Teller, told_by}
+use Rattle.dc_plain.specs.Facts.Fact.{Leads, Reads}
+use Rattle.dc_row.specs.Decoding.{fact_in}
+use Rattle.dc_row.specs.Spelling.{Spells}
+use Rattle.dc_walk.specs.Uses.{Use, facts_of}
+use Rattle.dc_walk.specs.declared.used.Used.{Used}
+
+-- a fact that was read, or a fact of nobody
+abbrev pub fact_or_none : Option (Option Fact) → Fact
+fact_or_none None = Reads 0 []
+fact_or_none (Some None) = Reads 0 []
+fact_or_none (Some (Some fact)) = fact
+
+abbrev pub fact_shown : Used → Fact
+fact_shown u = fact_or_none (fact_in u.words)
+
+abbrev pub use_shown : Used → Use
+use_shown u = record { row = u.row; count = get_or u.words 0 0; place = u.place; fact = fact_shown u }
+
+abbrev pub IsEntry : Fact → Type 0
+IsEntry (Leads n label target) = Unit {0}
+IsEntry (Reads n text) = ⊥
+
+-- the words of a row spell its fact, which is of an entry
+abbrev pub IsSpelled : Used → Type 0
+IsSpelled u = Spells u.words (Some (fact_shown u)) × IsEntry (fact_shown u)
+
+abbrev pub AllSpelled : List Used → Type 0
+AllSpelled used = AllByRecursion IsSpelled used
+
+-- the rows are some of so many
+abbrev pub AllInside : ℕ → List Used → Type 0
+AllInside rows used = AllByRecursion (λ u. u.row < rows) used
+
+abbrev pub told_in : List Used → Teller
+told_in used = told_by (facts_of (map use_shown used))

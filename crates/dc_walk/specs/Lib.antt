@@ -1,0 +1,11 @@
+-- What a walk does to the view of its pass, and what it finds.
+pub mod Probes
+pub mod Uses
+pub mod Long
+pub mod Asking
+pub mod Finds
+pub mod Causes
+pub mod Findings
+pub mod Sights
+pub mod Becomings
+pub mod Fasts

@@ -1,0 +1,23 @@
+//! Who answers the questions of a walk.
+
+use crate::MOST_USED;
+use crate::used::Used;
+use crate::why::Why;
+use arrayvec::ArrayVec;
+use dc_names::PathText;
+use dc_plain::Follow;
+use dc_table::{Pass, Shared};
+
+/// Answers the questions of a look-up from the rows of the table: whether a step of its walk was made,
+/// how many rows were noted, and why it gave up.
+pub(crate) struct Rows<'a> {
+    pub shared: &'a Shared,
+    pub pass: &'a mut Pass,
+    pub used: &'a mut ArrayVec<Used, MOST_USED>,
+    pub base: u64,
+    pub path: PathText<'a>,
+    pub follow: Follow,
+    pub begun: bool,
+    pub made: u64,
+    pub why: Option<Why>,
+}

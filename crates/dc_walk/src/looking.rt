@@ -1,0 +1,63 @@
+//! A look at one row for where the entry of a key leads.
+
+ghost use Rattle.std.specs.Prelude.{◌≡◌, ◌≢◌, ◌<◌, None};
+ghost use Rattle.arrayvec.specs.ArrayVec.{array_vec_len};
+ghost use Rattle.dc_plain.specs.Facts.Label.{Text};
+ghost use Rattle.dc_plain.specs.KeysShown.{key_shown};
+ghost use Rattle.dc_table.specs.Passes.{share};
+ghost use Rattle.dc_walk.specs.Asking.{GoesOn};
+ghost use Rattle.dc_walk.specs.Findings.{SameRows, IsFinding, now_in, outcome_in, said_in};
+ghost use Rattle.dc_walk.specs.Sights.{Saw};
+ghost use Rattle.dc_walk.specs.declared.TheConstants.{BUCKET_ROWS, MOST_USED};
+
+use crate::finder::Rows;
+use crate::probing::probe;
+use crate::used::Used;
+use dc_names::Kind;
+use dc_plain::{Call, Key};
+use dc_row::{entry_in, words_have_the_fact_they_spell};
+
+/// What a row answers.
+pub(crate) enum Seen {
+    /// It is being changed.
+    Odd,
+    /// It tells of another key, or of none.
+    Other,
+    /// Where the key leads.
+    Tells(Option<(u64, Kind)>),
+}
+
+/// Looks at a row for where the entry of a key leads. So many rows were looked at before.
+pub(crate) fn look_at(rows: &mut Rows<'_>, row: u64, key: Key<'_>, before: u64) -> Seen
+    requires finding { IsFinding rows.old before }
+    requires row { row < (share rows.old.pass.now).rows }
+    requires few { before < BUCKET_ROWS }
+    requires room { array_vec_len rows.old.used.now < MOST_USED }
+    requires needed { outcome_in rows.old (said_in rows.old) ≡ None }
+    requires untold { (said_in rows.old).entry (key_shown key).number (key_shown key).label ≡ None }
+    ensures same { SameRows rows.old rows.new }
+    ensures why { rows.new.why ≡ rows.old.why }
+    ensures on { GoesOn (now_in rows.old) (now_in rows.new) }
+    ensures saw { let key = key_shown key.entry in
+        Saw rows.old key.number key.label rows.new row before result }
+{
+    words_have_the_fact_they_spell();
+    let path = rows.path;
+    let call = Call::Look {
+        base: rows.base,
+        path: path.bytes(),
+        follow: rows.follow,
+    };
+    let first = !rows.begun;
+    rows.begun = true;
+    let Ok(words) = probe(rows.shared, rows.pass, &call, row, first) else {
+        return Seen::Odd;
+    };
+    let place = rows.made;
+    rows.made += 1;
+    let Some(target) = entry_in(&words, key) else {
+        return Seen::Other;
+    };
+    rows.used.push(Used { row, place, words });
+    Seen::Tells(target)
+}

@@ -1,0 +1,75 @@
+ghost use Rattle.dc_table.specs.Passes.{IsSamePass};
+ghost use Rattle.dc_walk.specs.Findings.{CanWalk};
+
+use crate::{Quick, Used, Why, fast};
+use arrayvec::ArrayVec;
+use dc_names::{Kind, parse};
+use dc_plain::{Call, Follow, Reply};
+use dc_table::{Pass, Shared};
+use std::test::Fail;
+
+/// What the fast walk of a path from the root comes to, or `None` where the text is no path.
+fn look(shared: &Shared, pass: &mut Pass, text: &[u8]) -> Option<Quick>
+    requires { CanWalk shared.now pass.old }
+    ensures { CanWalk shared.now pass.new }
+{
+    let path = parse(text).ok()?;
+    let mut used: ArrayVec<Used, 256> = ArrayVec::new();
+    Some(fast(shared, pass, &mut used, 1, path, Follow::Yes))
+}
+
+/// Whether a path led to the root after so many changes.
+fn is_root_at(found: &Option<Quick>, at: u64) -> bool {
+    match found {
+        Some(Quick::Done(stamped)) => {
+            stamped.at == at && stamped.reply == Reply::Found(1, Kind::Dir)
+        }
+        _ => false,
+    }
+}
+
+#[test]
+fn empty_rows_answer_no_question(rt: HostRuntime) -> Result<(), Fail> {
+    let (shared, mut p) = Shared::new(rt.alloc(), 1, 16).expect(&rt, "memory");
+    for text in [b"/z".as_slice(), b"/a/z", b"//./z/", b"z", b"..//../z"] {
+        let found = look(&shared, &mut p, text);
+        assert!(rt; matches!(found, Some(Quick::Again(Why::Miss(0)))));
+    }
+    Ok(())
+}
+
+#[test]
+fn the_root_asks_no_question(rt: HostRuntime) -> Result<(), Fail> {
+    let (shared, mut p) = Shared::new(rt.alloc(), 1024, 16).expect(&rt, "memory");
+    for text in [b"/".as_slice(), b".", b"..", b"/../.", b"///"] {
+        assert!(rt; is_root_at(&look(&shared, &mut p, text), 0));
+    }
+    Ok(())
+}
+
+#[test]
+fn the_point_is_the_clock(rt: HostRuntime) -> Result<(), Fail> {
+    let (shared, mut p) = Shared::new(rt.alloc(), 1, 16).expect(&rt, "memory");
+    let call = Call::Mkdir {
+        base: 1,
+        path: b"/a",
+    };
+    let made = shared.change(&rt, rt.alloc(), &mut p, &call);
+    assert!(rt; matches!(made, Ok((Reply::Done(2), 0))));
+    assert!(rt; is_root_at(&look(&shared, &mut p, b"/"), 1));
+    let found = look(&shared, &mut p, b"/a");
+    assert!(rt; matches!(found, Some(Quick::Again(Why::Miss(0)))));
+    Ok(())
+}
+
+#[test]
+fn a_name_without_room_is_long(rt: HostRuntime) -> Result<(), Fail> {
+    let (shared, mut p) = Shared::new(rt.alloc(), 1, 16).expect(&rt, "memory");
+    let mut text = [b'n'; 34];
+    text[0] = b'/';
+    let found = look(&shared, &mut p, &text);
+    assert!(rt; matches!(found, Some(Quick::Again(Why::Long))));
+    let found = look(&shared, &mut p, &text[..33]);
+    assert!(rt; matches!(found, Some(Quick::Again(Why::Miss(0)))));
+    Ok(())
+}

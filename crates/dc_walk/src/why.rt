@@ -1,0 +1,16 @@
+//! Why a walk ends without an answer.
+
+/// Why a walk ends without an answer.
+#[derive(Clone, Copy, Debug, PartialEq, Eq)]
+pub enum Why {
+    /// No row has the key of a question. So many were answered before.
+    Miss(u64),
+    /// The row is being changed.
+    Busy(u64),
+    /// The row had the noted count, and has the found one now.
+    Changed(u64, u64, u64),
+    /// A name is longer than a row has room for, or one row more would be used than can be noted.
+    Long,
+    /// A link must be followed.
+    Link,
+}
