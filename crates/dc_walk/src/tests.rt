@@ -3,8 +3,8 @@ ghost use Rattle.dc_walk.specs.Findings.{CanWalk};
 
 use crate::{Quick, Used, Why, fast};
 use arrayvec::ArrayVec;
-use dc_names::{Kind, parse};
-use dc_plain::{Call, Follow, Reply};
+use dc_names::{Kind, Name, parse};
+use dc_plain::{Call, Follow, Key, Label, Reply};
 use dc_table::{Pass, Shared};
 use std::test::Fail;
 
@@ -71,5 +71,59 @@ fn a_name_without_room_is_long(rt: HostRuntime) -> Result<(), Fail> {
     assert!(rt; matches!(found, Some(Quick::Again(Why::Long))));
     let found = look(&shared, &mut p, &text[..33]);
     assert!(rt; matches!(found, Some(Quick::Again(Why::Miss(0)))));
+    Ok(())
+}
+
+/// Whether a path was answered so after so many changes.
+fn is_answered(found: &Option<Quick>, reply: &Reply, at: u64) -> bool {
+    match found {
+        Some(Quick::Done(stamped)) => stamped.at == at && stamped.reply == *reply,
+        _ => false,
+    }
+}
+
+/// The key of a name in the root.
+fn in_root(name: &[u8]) -> Option<Key<'_>> {
+    Some(Key {
+        number: 1,
+        label: Label::Name(Name::new(name)?),
+    })
+}
+
+/// Rows that were filled answer, what is there and what is not, and a change turns them.
+#[test]
+fn filled_rows_answer(rt: HostRuntime) -> Result<(), Fail> {
+    let (shared, mut p) = Shared::new(rt.alloc(), 1, 16).expect(&rt, "memory");
+    let mkdir = Call::Mkdir {
+        base: 1,
+        path: b"/a",
+    };
+    let made = shared.change(&rt, rt.alloc(), &mut p, &mkdir);
+    assert!(rt; matches!(made, Ok((Reply::Done(2), 0))));
+    let a = in_root(b"a").expect(&rt, "a name");
+    let b = in_root(b"b").expect(&rt, "a name");
+    assert!(rt; matches!(shared.hold(&rt, rt.alloc(), &mut p, &a), Ok(Some(0))));
+    assert!(rt; matches!(shared.hold(&rt, rt.alloc(), &mut p, &b), Ok(Some(1))));
+    shared.release(&rt, &mut p, 0);
+    shared.release(&rt, &mut p, 1);
+    let found = look(&shared, &mut p, b"/a");
+    assert!(rt; is_answered(&found, &Reply::Found(2, Kind::Dir), 1));
+    let found = look(&shared, &mut p, b"/b");
+    assert!(rt; is_answered(&found, &Reply::Refused(2), 1));
+    let rename = Call::Rename {
+        base: 1,
+        old: b"/a",
+        new: b"/b",
+    };
+    let moved = shared.change(&rt, rt.alloc(), &mut p, &rename);
+    assert!(rt; matches!(moved, Ok((Reply::Unit, 1))));
+    let found = look(&shared, &mut p, b"/a");
+    assert!(rt; is_answered(&found, &Reply::Refused(2), 2));
+    let found = look(&shared, &mut p, b"/b");
+    assert!(rt; is_answered(&found, &Reply::Found(2, Kind::Dir), 2));
+    assert!(rt; shared.shrink(&rt, &mut p, 4) == 2);
+    let found = look(&shared, &mut p, b"/a");
+    assert!(rt; matches!(found, Some(Quick::Again(Why::Miss(0)))));
+    assert!(rt; shared.learn(&mut p) == 2);
     Ok(())
 }
