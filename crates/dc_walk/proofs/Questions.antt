@@ -161,10 +161,13 @@ both : (a b : Bool) → (a && b) ≡ true → (a ≡ true) × (b ≡ true)
 both true b e = (refl, e)
 both false b e = absurd cc
 
+never : {P : Type 0} → false ≡ true → P
+never e = absurd cc
+
 parent_kind : (d n : ℕ) (kind : Kind) → has_spelling (Some (Leads d Parent (Some (n, kind)))) ≡ true → is_directory (n, kind) ≡ true
 parent_kind d n Dir e = refl
-parent_kind d n File e = let no : false ≡ true = (both _ _ e).1 in absurd cc
-parent_kind d n Link e = let no : false ≡ true = (both _ _ e).1 in absurd cc
+parent_kind d n File e = never (both _ _ e).1
+parent_kind d n Link e = never (both _ _ e).1
 
 first_or : (b : Bool) (target : Option Target) (rest : Option (Option Target)) (place : Target) → ((b ≡ true) → target ≡ Some place → is_directory place ≡ true) → (rest ≡ Some (Some place) → is_directory place ≡ true) → cond b (Some target) rest ≡ Some (Some place) → is_directory place ≡ true
 first_or true target rest place here later e = here refl cc
