@@ -1,7 +1,6 @@
 -- The pivot of a walk, and the checks of the notes that it used.
-use Rattle.std.proofs.Common.{◌≡◌, ℕ, zero, suc, ◌+◌, ◌*◌, ◌-◌, ◌<◌, ◌≤◌, ◌⊎◌, inl, inr, List, [], ◌∷◌, ◌++◌, Bool, true, false, if◌then◌else◌, Option, Some, None, option_map, map, length, get_or, set, take, refl, ap, ap₂, sym, ◌∙◌, subst, arith}
+use Rattle.std.proofs.Common.{◌≡◌, ℕ, zero, suc, ◌+◌, ◌*◌, ◌-◌, ◌<◌, ◌≤◌, ◌⊎◌, inl, inr, List, [], ◌∷◌, Bool, true, false, if◌then◌else◌, Option, Some, None, option_map, map, length, get_or, set, take, refl, ap, ap₂, sym, ◌∙◌, subst, arith}
 use Rattle.std.proofs.Math.Seq.{take-length}
-use Rattle.std.specs.List.{Contains}
 use Rattle.std.proofs.lemmas.List.Elements.{Contains-append_right}
 use mathlib.Core.Option.{some}
 use lib.ListN.{get_elem?}
@@ -14,15 +13,14 @@ use Rattle.dc_plain.specs.Requests.{Request, Answer}
 use Rattle.dc_plain.specs.Requests.Request.{Look}
 use Rattle.dc_row.specs.Decoding.{SpelledIsRead}
 use Rattle.dc_row.specs.declared.TheConstants.{ROW_WORDS}
-use Rattle.dc_events.specs.Views.{View, Note, Record, Book, Fault}
+use Rattle.dc_events.specs.Views.{View, Note, Book}
 use Rattle.dc_events.specs.Views.Fault.{Changed}
 use Rattle.dc_events.specs.Walks.{no_note}
 use Rattle.dc_events.specs.Noted.{facts_in}
-use Rattle.dc_events.specs.Effects.{begins, begun, with_seen, with_record, concluded, settled, turned, pivoted, marked, checked, faulted, note_at}
+use Rattle.dc_events.specs.Effects.{begins, with_seen, with_record, concluded, settled, turned, pivoted, marked, checked, faulted}
 use Rattle.dc_table.specs.Walking.{CanCheck}
-use Rattle.dc_walk.specs.Uses.{Use, IsUse, Marked, NeedsEach, facts_of}
-use Rattle.dc_walk.specs.Asking.{IsWalk, SameWalk}
-use Rattle.dc_walk.specs.Fasts.{IsChecking, IsOpen, Recorded, GaveUp, Went, outcome_by, noted_in}
+use Rattle.dc_walk.specs.Uses.{Use, IsUse, Marked, facts_of}
+use Rattle.dc_walk.specs.Fasts.{IsChecking, IsOpen, GaveUp, Went, outcome_by}
 use Rattle.dc_walk.specs.declared.TheConstants.{BUCKET_ROWS, MOST_USED}
 use Rattle.dc_walk.specs.declared.why.Why.TheVariants as whys
 use Rattle.dc_walk.proofs.Marks.{facts_are, marks_next, next_there, IsNext, ticked}
@@ -149,13 +147,14 @@ ready {us = us} {c = c} {v = v} d u is less here = let now = is.more less in
     subst (λ (x : Use). CanCheck v x.place x.row x.count) here (can_check v (get_or us c d) now.late (next_there 0 c v.walk.notes us d now.marked less))
 
 pub failed_check : {outcome : Teller → Option Outcome} {call : Request} {answer : Answer} {us : List Use} {at c : ℕ} (before v w : View) (buckets row noted found : ℕ) → IsChecking call answer us before.book before.loads at c v → c < length us → w ≡ faulted v (Changed row noted found) → noted < found
-    → before.book.seen ≤ at → length us ≤ MOST_USED → GaveUp outcome buckets before w (whys.Changed row noted found)
-failed_check {outcome = outcome} {at = at} before v w buckets row noted found is less e higher later few =
+    → before.book.seen ≤ at → length us ≤ MOST_USED → outcome (told_by []) ≡ None → GaveUp outcome buckets before w (whys.Changed row noted found)
+failed_check {outcome = outcome} {at = at} before v w buckets row noted found is less e higher later few asks =
     let loads = is.loads in let book = (is.more less).book_is in
     let seen : v.book.seen ≡ at = ap (λ (b : Book). b.seen) book in
     let x = Changed row noted found in
     subst (λ z. GaveUp outcome buckets before z (whys.Changed row noted found)) (sym e) (record {
       cause = (Contains-append_right v.faults (x ∷ []) x (0, omega arith, refl), higher);
+      asks = asks;
       nothing = record { own = ap (λ (b : Book). b.own) book; joined = ap (λ (b : Book). b.joined) book; later = omega arith };
       first_load = is.first_load;
       loads = omega arith;
@@ -168,3 +167,7 @@ begins_book false v call = refl
 -- what a walk has seen is what was seen before
 pub same_seen : {outcome : Teller → Option Outcome} {call : Request} {us : List Use} {answer : Answer} (before : View) (b : Bool) (v : View) → Went outcome call before (begins b v call) us answer → v.book.seen ≡ before.book.seen
 same_seen {call = call} before b v went = ap (λ (b : Book). b.seen) (sym (begins_book b v call) ∙ went.same.book)
+
+-- a walk that used a row asked for it
+pub asked : {outcome : Teller → Option Outcome} {call : Request} {before now : View} {us : List Use} {answer : Answer} (c : ℕ) → Went outcome call before now us answer → c < length us → outcome (told_by []) ≡ None
+asked {us = us} c went less = let size = many_facts us in went.walk.needed 0 (omega arith)

@@ -1,12 +1,12 @@
 -- How a walk by rows begins and ends.
-use Rattle.std.proofs.Common.{◌≡◌, ℕ, ◌+◌, ◌*◌, ◌/◌, ◌<◌, ◌≤◌, List, [], ◌∷◌, Bool, true, false, not, Option, Some, None, is_some, IfSome, if◌then◌else◌, length, map, refl, ap, sym, ◌∙◌, subst, arith}
+use Rattle.std.proofs.Common.{◌≡◌, ℕ, ◌/◌, ◌≤◌, List, [], Bool, true, false, not, Option, Some, None, is_some, IfSome, if◌then◌else◌, length, map, refl, ap, sym, ◌∙◌, subst, arith}
 use Rattle.std.specs.List.{Contains}
 use Rattle.dc_plain.specs.Facts.{Teller, told_by}
 use Rattle.dc_plain.specs.Resolution.{Outcome}
 use Rattle.dc_plain.specs.Requests.{Request, Answer}
 use Rattle.dc_plain.specs.Tellers.{Extends}
 use Rattle.dc_plain.specs.FactLaws.{outcome_answer}
-use Rattle.dc_events.specs.Views.{View, Book, Fault}
+use Rattle.dc_events.specs.Views.{View, Book}
 use Rattle.dc_events.specs.Views.Fault.{Busy, Changed}
 use Rattle.dc_events.specs.Effects.{begins, begun}
 use Rattle.dc_table.specs.Passes.{Pass, view, share, IsSamePass, IsIdle}
@@ -17,7 +17,7 @@ use Rattle.dc_walk.specs.Causes.{HasCause}
 use Rattle.dc_walk.specs.Becomings.{Becomes, IsGood}
 use Rattle.dc_walk.specs.Fasts.{GaveUp, Went}
 use Rattle.dc_walk.specs.Finds.{use_shown, AllSpelled, AllInside}
-use Rattle.dc_walk.specs.Findings.{SameRows, IsFinding, CanWalk, now_in, uses_in, outcome_in, request_in, said_in, buckets_of}
+use Rattle.dc_walk.specs.Findings.{IsFinding, CanWalk, now_in, outcome_in, request_in, said_in, buckets_of}
 use Rattle.dc_walk.specs.declared.finder.Rows.{Rows}
 use Rattle.dc_walk.specs.declared.why.Why as rust_why
 use Rattle.dc_walk.specs.declared.why.Why.TheVariants as whys
@@ -58,6 +58,7 @@ module _ (f : Rows) where
       inside = subst (AllInside (share f.pass.now).rows) (sym none) tt;
     });
     cause = subst (λ o. IfSome o (HasCause (outcome_in f) (buckets_of f.pass.now) (now_in f))) (sym fresh) tt;
+    asks = subst (λ o. IfSome o (λ why. outcome_in f (told_by []) ≡ None)) (sym fresh) tt;
   }
 
   module _ {g : Rows} (v : View) (begins_so : now_in f ≡ begun v (request_in f)) (b : Becomes f g) (good : IsGood f) (p : Pass) (same : p ≡ g.pass.now) (us : List Used) (same_used : us ≡ g.used.now.items) where
@@ -101,6 +102,7 @@ module _ (f : Rows) where
         let loads = walk.loads in let first = kept.first_load in
         let seen = ap (λ (b : Book). b.seen) kept.book in record {
           cause = subst (λ z. HasCause (outcome_in f) (buckets_of f.pass.now) z why) now cause_now;
+          asks = sym (λ i. outcome_same b.same i (told_by [])) ∙ subst (λ o. IfSome o (λ why. outcome_in g (told_by []) ≡ None)) is good_now.asks;
           nothing = record { own = ap (λ (b : Book). b.own) kept.book; joined = ap (λ (b : Book). b.joined) kept.book; later = omega arith };
           first_load = first;
           loads = omega arith;

@@ -9,3 +9,4 @@ pub mod Standing
 pub mod Questions
 pub mod Ended
 pub mod Checks
+pub mod Unasked

@@ -1,5 +1,5 @@
 -- What the rows of a bucket told so far.
-use Rattle.std.proofs.Common.{◌≡◌, ℕ, ◌+◌, ◌<◌, Option, Some, None, IfSome, IfNone, refl, arith, below_more, subst, sym}
+use Rattle.std.proofs.Common.{ℕ, ◌+◌, Option, Some, None, arith, below_more}
 use Rattle.std.specs.List.{Contains}
 use Rattle.std.specs.Option.{option_or}
 use Rattle.dc_plain.specs.Facts.{Label}

@@ -1,7 +1,6 @@
 -- Which notes are used, and what the checked ones say.
-use Rattle.std.proofs.Common.{◌≡◌, ℕ, zero, suc, ◌+◌, ◌-◌, ◌<◌, ◌≤◌, inl, inr, List, [], ◌∷◌, ◌++◌, Bool, true, false, cond, Option, Some, None, length, get_or, set, take, map, refl, ap, sym, ◌∙◌, subst, arith}
+use Rattle.std.proofs.Common.{◌≡◌, ℕ, zero, suc, ◌+◌, ◌-◌, ◌<◌, ◌≤◌, inl, inr, List, [], ◌∷◌, ◌++◌, true, false, Some, length, get_or, set, take, refl, ap, sym, ◌∙◌, subst, arith}
 use Rattle.dc_plain.specs.Facts.{Fact}
-use Rattle.dc_row.specs.Spelling.{Spells}
 use Rattle.dc_row.specs.Decoding.{fact_in, SpelledIsRead}
 use Rattle.dc_events.specs.Views.{Note}
 use Rattle.dc_events.specs.Rows.{note_words}

@@ -6,8 +6,8 @@ use mathlib.Core.Option.{some}
 use lib.ListN.{get_elem?}
 use Rattle.dc_row.specs.declared.TheConstants.{ROW_WORDS}
 use Rattle.dc_events.specs.Views.{View, Note}
-use Rattle.dc_events.specs.Effects.{noted, read, note_at}
-use Rattle.dc_events.specs.Walks.{last_of, no_note, extended}
+use Rattle.dc_events.specs.Effects.{noted, read}
+use Rattle.dc_events.specs.Walks.{no_note, extended}
 use Rattle.dc_table.specs.Walking.{CanRead}
 use Rattle.dc_walk.specs.Probes.{probed, fresh_note}
 

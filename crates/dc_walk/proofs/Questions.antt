@@ -1,6 +1,6 @@
 -- What a finder over rows becomes by a question.
-use Rattle.std.proofs.Common.{◌≡◌, ◌≢◌, Result, Ok, Err, IfOk, ℕ, zero, suc, ◌+◌, ◌*◌, ◌-◌, ◌/◌, ◌<◌, inl, inr, List, [], ◌∷◌, ◌++◌, ◌==◌, ◌&&◌, Bool, true, false, cond, IsTrue, Option, Some, None, IfSome, is_some, if◌then◌else◌, length, get_or, map, refl, ap, sym, ◌∙◌, subst, arith}
-use Rattle.std.proofs.lemmas.List.{map-append}
+use Rattle.std.proofs.Common.{◌≡◌, ◌≢◌, Result, Ok, Err, IfOk, ℕ, zero, suc, ◌+◌, ◌/◌, ◌<◌, inl, inr, List, [], ◌∷◌, ◌++◌, ◌==◌, ◌&&◌, Bool, true, false, cond, IsTrue, Option, Some, None, IfSome, is_some, if◌then◌else◌, length, get_or, map, refl, ap, sym, ◌∙◌, subst, arith}
+use Rattle.std.proofs.lemmas.List.{map-append, length-map}
 use Rattle.std.specs.List.{AllByRecursion, Contains}
 use Rattle.dc_names.specs.Paths.{Part}
 use Rattle.dc_names.specs.declared.kind.Kind.{Kind}
@@ -17,15 +17,13 @@ use Rattle.dc_resolve.specs.Needs.{IsNeeded, IsUntold}
 use Rattle.dc_table.specs.Shares.{Share}
 use Rattle.dc_events.specs.Views.{View, Note}
 use Rattle.dc_events.specs.Rows.{note_words}
-use Rattle.dc_index.specs.Slots.{bucket_of}
-use Rattle.dc_walk.specs.Uses.{Use, IsUse, Marked, facts_of}
-use Rattle.dc_walk.specs.Asking.{SameWalk, GoesOn, IsOther, Asks, IsMissing, IsLinked, first_row}
+use Rattle.dc_walk.specs.Uses.{Use, Marked, NeedsEach, facts_of}
+use Rattle.dc_walk.specs.Asking.{GoesOn, IsOther, Asks, first_row}
 use Rattle.dc_walk.specs.Causes.{HasCause, Looked}
-use Rattle.dc_walk.specs.Becomings.{Becomes, IsGood, looked_at, MayAskRows}
+use Rattle.dc_walk.specs.Becomings.{Becomes, IsGood, MayAskRows}
 use Rattle.dc_walk.specs.Findings.{SameRows, IsFinding, now_in, uses_in, outcome_in, said_in, buckets_of}
 use Rattle.dc_walk.specs.Sights.{Answers, Fails}
 use Rattle.dc_walk.specs.declared.finder.Rows.{Rows}
-use Rattle.dc_walk.specs.declared.why.Why as rust_why
 use Rattle.dc_walk.specs.declared.TheConstants.{BUCKET_ROWS, MOST_USED}
 use Rattle.dc_walk.specs.declared.why.Why.TheVariants as whys
 use Rattle.dc_walk.specs.Finds.{use_shown, fact_shown, AllSpelled, IsEntry}
@@ -43,6 +41,11 @@ untold_of teller n Text entry e = absurd (entry refl)
 -- before a question there is no outcome
 pub needed_now : (outcome : Teller → Option Outcome) (said : Teller) (n : ℕ) (label : Label) → label ≢ Text → IsNeeded outcome said n label → said.entry n label ≡ None → outcome said ≡ None
 needed_now outcome said n label entry need e = need said (told_itself said) (untold_of said n label entry e)
+
+-- where what was said tells no outcome, nothing tells none
+first_none : (outcome : Teller → Option Outcome) (us : List Use) → NeedsEach outcome (facts_of us) → outcome (told_by (facts_of us)) ≡ None → outcome (told_by []) ≡ None
+first_none outcome [] needs now = now
+first_none outcome (u ∷ us) needs now = needs 0 (omega arith)
 
 -- each fact that is used is spelled by a whole note
 record IsNoted (notes : List Note) (fact : Fact) : Type 0 where
@@ -88,8 +91,13 @@ module _ {f g : Rows} (s : SameRows f g) where
     good = λ is. record {
       finding = subst (λ o. IsFinding g (if is_some o then BUCKET_ROWS else 0)) (sym why) a.finding;
       cause = subst (λ o. IfSome o (HasCause (outcome_in g) (buckets_of g.pass.now) (now_in g))) (sym why) tt;
+      asks = subst (λ o. IfSome o (λ why. outcome_in g (told_by []) ≡ None)) (sym why) tt;
     };
   }
+
+  asks_first : IsGood f → (d : ℕ) (label : Label) → label ≢ Text → IsNeeded (outcome_in f) (said_in f) d label → (said_in f).entry d label ≡ None → outcome_in g (told_by []) ≡ None
+  asks_first good d label entry need none =
+      (λ i. outcome_same s i (told_by [])) ∙ first_none (outcome_in f) (uses_in f) good.finding.walk.needed (needed_now (outcome_in f) (said_in f) d label entry need none)
 
   pub missed_becomes : (d : ℕ) (label : Label) (first n : ℕ) → label ≢ Text → GoesOn (now_in f) (now_in g) → Fails f d label g 3 → Looked (now_in g) first d label None BUCKET_ROWS
       → first ≡ first_row (buckets_of f.pass.now) d label → IsNeeded (outcome_in f) (said_in f) d label → (said_in f).entry d label ≡ None → Becomes f (record g { why = Some (whys.Miss n) })
@@ -108,8 +116,34 @@ module _ {f g : Rows} (s : SameRows f g) where
                 (λ teller more untold. (λ i. outcome_same s i teller) ∙ need teller more untold);
             rows = λ k l. subst (λ (m : ℕ). IsOther (now_in g) (m + k) d label) here (looked.others k l);
           };
+          asks = asks_first good d label entry need none;
         };
       }
+
+  pub busy_becomes : (d : ℕ) (label : Label) (first row : ℕ) → label ≢ Text → GoesOn (now_in f) (now_in g) → Fails f d label g 3 → Looked (now_in g) first d label (Some row) BUCKET_ROWS
+      → IsNeeded (outcome_in f) (said_in f) d label → (said_in f).entry d label ≡ None → Becomes f (record g { why = Some (whys.Busy row) })
+  busy_becomes d label first row entry on fails looked need none = record {
+    same = record { shared = s.shared; pass = s.pass; used = s.used; base = s.base; path = s.path; follow = s.follow; same_pass = s.same_pass };
+    told = subst (λ used. Extends (said_in f) (told_by (facts_of (map use_shown used.items)))) (sym fails.used) (told_itself (said_in f));
+    walk = on.same;
+    good = λ good. record {
+      finding = record { can = fails.finding.can; walk = fails.finding.walk; made = fails.finding.made; call = fails.finding.call; spelled = fails.finding.spelled; inside = fails.finding.inside };
+      cause = looked.odd_row;
+      asks = asks_first good d label entry need none;
+    };
+  }
+
+pub full_becomes : (f : Rows) (d : ℕ) (label : Label) → f.why ≡ None → length f.used.now.items ≡ MOST_USED → label ≢ Text → IsNeeded (outcome_in f) (said_in f) d label → (said_in f).entry d label ≡ None → Becomes f (record f { why = Some whys.Long })
+full_becomes f d label fresh full entry need none = record {
+  same = let same = same_still f in record { shared = refl; pass = refl; used = refl; base = refl; path = refl; follow = refl; same_pass = same.same_pass };
+  told = told_itself (said_in f);
+  walk = record { call = refl; book = refl; first_load = refl };
+  good = λ good. let finding = subst (λ o. IsFinding f (if is_some o then BUCKET_ROWS else 0)) fresh good.finding in record {
+    finding = record { walk = rested BUCKET_ROWS (omega arith) finding.walk; made = finding.made; call = finding.call; can = finding.can; spelled = finding.spelled; inside = finding.inside };
+    cause = record { uses = uses_in f; marked = finding.walk.marked; many = length-map f.used.now.items use_shown ∙ full; distinct = finding.walk.distinct };
+    asks = first_none (outcome_in f) (uses_in f) finding.walk.needed (needed_now (outcome_in f) (said_in f) d label entry need none);
+  };
+}
 
 pub told_answer : {f g : Rows} (d : ℕ) (label : Label) (target : Option Target) → Answers f d label g target → (said_in f).entry d label ≡ None → (said_in g).entry d label ≡ Some target
 told_answer {f = f} d label target a none =
@@ -127,10 +161,13 @@ both : (a b : Bool) → (a && b) ≡ true → (a ≡ true) × (b ≡ true)
 both true b e = (refl, e)
 both false b e = absurd cc
 
+never : {P : Type 0} → false ≡ true → P
+never e = absurd cc
+
 parent_kind : (d n : ℕ) (kind : Kind) → has_spelling (Some (Leads d Parent (Some (n, kind)))) ≡ true → is_directory (n, kind) ≡ true
 parent_kind d n Dir e = refl
-parent_kind d n File e = let no : false ≡ true = (both _ _ e).1 in absurd cc
-parent_kind d n Link e = let no : false ≡ true = (both _ _ e).1 in absurd cc
+parent_kind d n File e = never (both _ _ e).1
+parent_kind d n Link e = never (both _ _ e).1
 
 first_or : (b : Bool) (target : Option Target) (rest : Option (Option Target)) (place : Target) → ((b ≡ true) → target ≡ Some place → is_directory place ≡ true) → (rest ≡ Some (Some place) → is_directory place ≡ true) → cond b (Some target) rest ≡ Some (Some place) → is_directory place ≡ true
 first_or true target rest place here later e = here refl cc
@@ -176,6 +213,7 @@ linked_becomes f n fresh may link =
       good = λ good. record {
         finding = record { walk = rested BUCKET_ROWS (omega arith) finding.walk; made = finding.made; call = finding.call; can = finding.can; spelled = finding.spelled; inside = finding.inside };
         cause = record { some_note = some_notes (now_in f).walk.notes (uses_in f) finding.walk.marked (some_uses (uses_in f) link.0 link.1 (n, Link) link.2); number = n; asks = asks_so (uses_in f) n Text finding.walk.marked (no_texts f.used.now.items n finding.spelled) may.needed };
+        asks = first_none (outcome_in f) (uses_in f) finding.walk.needed (may.needed (said_in f) (told_itself (said_in f)) (no_texts f.used.now.items n finding.spelled));
       };
     }
 

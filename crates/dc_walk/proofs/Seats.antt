@@ -1,5 +1,5 @@
 -- A pass after steps that leave it the same pass.
-use Rattle.std.proofs.Common.{◌≡◌, ℕ, ◌<◌, refl, ap, sym, ◌∙◌, subst}
+use Rattle.std.proofs.Common.{ℕ, ◌<◌, refl, ap, sym, ◌∙◌, subst}
 use Rattle.dc_table.specs.Passes.{Pass, share, Fits, IsSamePass}
 use Rattle.dc_table.specs.declared.shared.Shared.{Shared}
 

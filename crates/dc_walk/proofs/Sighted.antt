@@ -1,24 +1,22 @@
 -- What a finder over rows knows after a look at a row.
-use Rattle.std.proofs.Common.{◌≡◌, ℕ, ◌+◌, ◌<◌, ◌≤◌, ◌/◌, List, [], ◌∷◌, ◌++◌, false, Option, Some, None, length, map, refl, ap, ap₂, sym, ◌∙◌, subst, arith, length-append}
-use Rattle.std.proofs.lemmas.List.{append-nil, append_assoc, map-append}
+use Rattle.std.proofs.Common.{◌≡◌, ℕ, ◌+◌, ◌<◌, ◌/◌, List, [], ◌∷◌, ◌++◌, Option, Some, None, length, map, refl, ap, sym, ◌∙◌, subst, arith, length-append}
+use Rattle.std.proofs.lemmas.List.{append-nil, append_assoc}
 use Rattle.std.specs.List.{Contains}
 use Rattle.std.proofs.lemmas.List.Elements.{Contains-append_left}
 use Rattle.dc_names.specs.Paths.{path_in}
-use Rattle.dc_plain.specs.Facts.{Fact, Label, Target, Teller, told_by}
+use Rattle.dc_plain.specs.Facts.{Fact, Label, Target, Teller}
 use Rattle.dc_plain.specs.Facts.Fact.{Leads}
 use Rattle.dc_plain.specs.Places.{walk}
 use Rattle.dc_plain.specs.Resolution.{Outcome}
-use Rattle.dc_plain.specs.Requests.{Request}
 use Rattle.dc_plain.specs.Requests.Request.{Look}
 use Rattle.dc_row.specs.Spelling.{Spells}
-use Rattle.dc_events.specs.Views.{View, Note, Fault}
+use Rattle.dc_events.specs.Views.{View, Fault}
 use Rattle.dc_events.specs.Views.Fault.{Busy}
-use Rattle.dc_events.specs.Rows.{note_words, IsWhole}
 use Rattle.dc_events.specs.Effects.{faulted}
 use Rattle.dc_row.specs.declared.TheConstants.{ROW_WORDS}
 use Rattle.dc_walk.specs.declared.TheConstants.{BUCKET_ROWS}
 use Rattle.dc_walk.specs.Probes.{probed, fresh_note}
-use Rattle.dc_walk.specs.Uses.{Use, facts_of}
+use Rattle.dc_walk.specs.Uses.{Use}
 use Rattle.dc_walk.specs.Asking.{IsWalk, IsOther, GoesOn, SameWalk}
 use Rattle.dc_walk.specs.Finds.{use_shown, told_in, AllSpelled, AllInside}
 use Rattle.dc_walk.specs.Findings.{SameRows, IsFinding, CanWalk, now_in, uses_in, outcome_in, request_in, said_in}

@@ -1,5 +1,5 @@
 -- What the rows that were used tell of a key.
-use Rattle.std.proofs.Common.{◌≡◌, ℕ, zero, suc, ◌+◌, ◌<◌, ◌==◌, ◌&&◌, List, [], ◌∷◌, ◌++◌, length, get_or, drop, Bool, true, false, cond, Option, Some, None, map, refl, ap, sym, ◌∙◌, subst, arith}
+use Rattle.std.proofs.Common.{◌≡◌, ℕ, zero, suc, ◌+◌, ◌<◌, ◌==◌, ◌&&◌, List, [], ◌∷◌, ◌++◌, length, get_or, drop, Bool, true, false, cond, Option, Some, map, refl, ap, ◌∙◌, subst, arith}
 use Rattle.std.proofs.lemmas.Bool.Decides.{nat_tests}
 use Rattle.std.proofs.lemmas.Slice.Eq.{bytes_eq-Decides}
 use Rattle.dc_plain.specs.Facts.{Fact, Label, Target, same_label, entry_told}
@@ -23,7 +23,7 @@ label-same Text (Entry b) e = absurd cc
 label-same Text Parent e = absurd cc
 label-same Text Text e = refl
 
-number-same : (m n : ℕ) → (m == n) ≡ true → m ≡ n
+pub number-same : (m n : ℕ) → (m == n) ≡ true → m ≡ n
 number-same m n e = grind (arith, nat_tests)
 
 both : (a b : Bool) → (a && b) ≡ true → (a ≡ true) × (b ≡ true)

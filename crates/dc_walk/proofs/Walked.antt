@@ -1,20 +1,19 @@
 -- The state of a walk, step by step.
-use Rattle.std.proofs.Common.{◌≡◌, ℕ, ◌+◌, ◌*◌, ◌<◌, ◌≤◌, List, [], ◌∷◌, ◌++◌, Bool, true, false, Option, Some, None, length, map, refl, ap, sym, ◌∙◌, subst, arith, length-append}
+use Rattle.std.proofs.Common.{◌≡◌, ℕ, ◌+◌, ◌<◌, ◌≤◌, List, [], ◌∷◌, ◌++◌, Option, Some, None, length, refl, sym, subst, arith, length-append}
 use Rattle.std.specs.List.{Contains}
 use Rattle.std.proofs.lemmas.List.{map-append}
 use Rattle.std.proofs.lemmas.List.Elements.{Contains-append_left, Contains-append_right}
-use Rattle.dc_plain.specs.Facts.{Fact, Label, Target, Teller, told_by}
+use Rattle.dc_plain.specs.Facts.{Label, Teller, told_by}
 use Rattle.dc_plain.specs.Resolution.{Outcome}
 use Rattle.dc_row.specs.Spelling.{Spells}
 use Rattle.dc_events.specs.Views.{View, Note, Fault}
 use Rattle.dc_events.specs.Views.Fault.{Busy}
-use Rattle.dc_events.specs.Rows.{note_words}
 use Rattle.dc_events.specs.Effects.{faulted}
 use Rattle.dc_row.specs.declared.TheConstants.{ROW_WORDS}
 use Rattle.dc_walk.specs.declared.TheConstants.{BUCKET_ROWS}
 use Rattle.dc_walk.specs.Probes.{probed, fresh_note}
-use Rattle.dc_walk.specs.Uses.{Use, IsUse, IsNew, Marked, facts_of, NeedsEach, DiffersEach}
-use Rattle.dc_walk.specs.Asking.{IsWalk, SameWalk, IsOther}
+use Rattle.dc_walk.specs.Uses.{Use, IsNew, facts_of, NeedsEach, DiffersEach}
+use Rattle.dc_walk.specs.Asking.{IsWalk, IsOther}
 use Rattle.dc_walk.proofs.Marks.{more_unused, more_used}
 use Rattle.dc_walk.proofs.Told.{needs_more, differs_more}
 

@@ -1,7 +1,7 @@
 -- The state of a walk, and the keys that it asks for.
 use Rattle.std.specs.Prelude.{◌≡◌, ◌≢◌, ℕ, ◌+◌, ◌*◌, ◌<◌, ◌≤◌, List, ◌++◌, true, false, Option, Some, length}
 use Rattle.std.specs.List.{Contains}
-use Rattle.dc_plain.specs.Facts.{Fact, Key, Label, Target, Teller, told_by}
+use Rattle.dc_plain.specs.Facts.{Fact, Label, Target, Teller, told_by}
 use Rattle.dc_plain.specs.Facts.Label.{Text}
 use Rattle.dc_plain.specs.Facts.Fact.{Leads}
 use Rattle.dc_plain.specs.Resolution.{Outcome}
@@ -9,7 +9,7 @@ use Rattle.dc_row.specs.Spelling.{Spells}
 use Rattle.dc_row.specs.declared.TheConstants.{ROW_WORDS}
 use Rattle.dc_resolve.specs.Needs.{IsNeeded, IsUntold}
 use Rattle.dc_index.specs.Slots.{bucket_of}
-use Rattle.dc_events.specs.Views.{View, Walk, Note, Book, Fault}
+use Rattle.dc_events.specs.Views.{View, Note, Fault}
 use Rattle.dc_events.specs.Rows.{note_words, IsWhole}
 use Rattle.dc_walk.specs.Uses.{Use, Marked, NeedsEach, DiffersEach, facts_of}
 use Rattle.dc_walk.specs.declared.TheConstants.{BUCKET_ROWS}

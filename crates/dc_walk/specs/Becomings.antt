@@ -1,7 +1,7 @@
 -- What questions make of a finder over rows.
-use Rattle.std.specs.Prelude.{◌≡◌, ℕ, IfSome, is_some, if◌then◌else◌}
+use Rattle.std.specs.Prelude.{◌≡◌, ℕ, [], None, IfSome, is_some, if◌then◌else◌}
 use Rattle.std.proofs.Common.{refl, ◌∙◌}
-use Rattle.dc_plain.specs.Facts.{Label}
+use Rattle.dc_plain.specs.Facts.{Label, told_by}
 use Rattle.dc_plain.specs.Tellers.{Extends}
 use Rattle.dc_resolve.specs.Needs.{IsNeeded}
 use Rattle.dc_walk.specs.Asking.{SameWalk}
@@ -17,6 +17,7 @@ looked_at f = if is_some f.why then BUCKET_ROWS else 0
 pub record IsGood (f : Rows) : Type 0 where
   pub finding : IsFinding f (looked_at f)
   pub cause : IfSome f.why (HasCause (outcome_in f) (buckets_of f.pass.now) (now_in f))
+  pub asks : IfSome f.why (λ why. outcome_in f (told_by []) ≡ None)
 
 pub record Becomes (f g : Rows) : Type 0 where
   pub same : SameRows f g

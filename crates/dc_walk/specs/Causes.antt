@@ -1,5 +1,5 @@
 -- Why a finder over rows gave up.
-use Rattle.std.specs.Prelude.{◌≡◌, ℕ, ◌+◌, ◌<◌, List, Option, Some, None, IfSome, IfNone, length}
+use Rattle.std.specs.Prelude.{◌≡◌, ℕ, ◌+◌, ◌<◌, List, Option, IfSome, IfNone, length}
 use Rattle.std.specs.List.{Contains}
 use Rattle.dc_plain.specs.Facts.{Label, Teller}
 use Rattle.dc_plain.specs.Resolution.{Outcome}

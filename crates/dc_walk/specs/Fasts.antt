@@ -1,8 +1,6 @@
 -- What a look-up without the lock promises.
-use Rattle.std.specs.Prelude.{◌≡◌, ℕ, ◌+◌, ◌*◌, ◌<◌, ◌≤◌, ◌⊎◌, List, ◌∷◌, true, false, nat_lt, Option, Some, length}
-use Rattle.std.specs.List.{list_any}
-use Rattle.dc_names.specs.Paths.{Part, path_in, parts_of}
-use Rattle.dc_names.specs.Paths.Part.{Name, Dot, DotDot}
+use Rattle.std.specs.Prelude.{◌≡◌, ℕ, ◌+◌, ◌*◌, ◌<◌, ◌≤◌, ◌⊎◌, List, [], true, false, Option, Some, None, length}
+use Rattle.dc_names.specs.Paths.{path_in}
 use Rattle.dc_plain.specs.FactLaws.{outcome_answer}
 use Rattle.dc_plain.specs.declared.call.Follow.{Follow}
 use Rattle.dc_plain.specs.Facts.{Teller, told_by}
@@ -11,8 +9,8 @@ use Rattle.dc_plain.specs.Resolution.{Outcome}
 use Rattle.dc_plain.specs.Requests.Request.{Look}
 use Rattle.dc_plain.specs.Requests.{Request, Answer, answer_of as reply_shown}
 use Rattle.dc_row.specs.declared.TheConstants.{ROW_WORDS}
-use Rattle.dc_events.specs.Views.{View, Record, Book}
-use Rattle.dc_events.specs.Effects.{begun, begins, with_seen, with_record}
+use Rattle.dc_events.specs.Views.{View, Book}
+use Rattle.dc_events.specs.Effects.{begun, with_seen, with_record}
 use Rattle.dc_walk.specs.Uses.{Use, Marked, facts_of}
 use Rattle.dc_walk.specs.Asking.{IsWalk, SameWalk}
 use Rattle.dc_walk.specs.Long.{has_long_name}
@@ -48,6 +46,7 @@ pub record NothingNew (before now : View) : Type 0 where
 -- it gave up, for a cause of a walk that was begun in this call
 pub record GaveUp (outcome : Teller → Option Outcome) (buckets : ℕ) (before now : View) (why : rust_why.Why) : Type 0 where
   pub cause : HasCause outcome buckets now why
+  pub asks : outcome (told_by []) ≡ None
   pub nothing : NothingNew before now
   pub first_load : now.first_load ≡ before.loads
   pub loads : now.loads ≤ before.loads + MOST_LOADS
@@ -88,3 +87,8 @@ Keeps base text how buckets before now (fasts.Again why) = GaveUp (outcome_by ba
 abbrev pub IsLongAgain : rust_fast.Quick → Type 0
 IsLongAgain (fasts.Done stamped) = ⊥
 IsLongAgain (fasts.Again why) = why ≡ whys.Long
+
+-- only a walk that asks something gives up
+abbrev pub IfAgain : rust_fast.Quick → Type 0 → Type 0
+IfAgain (fasts.Done stamped) So = Unit {0}
+IfAgain (fasts.Again why) So = So

@@ -1,5 +1,5 @@
 -- What the rows that a walk has used tell.
-use Rattle.std.specs.Prelude.{◌≡◌, ℕ, ◌<◌, List, [], Option, Some, None, map, get_or, length}
+use Rattle.std.specs.Prelude.{ℕ, ◌<◌, List, [], Option, Some, None, map, get_or}
 use Rattle.std.specs.List.{AllByRecursion}
 use Rattle.dc_plain.specs.Facts.{Fact, Teller, told_by}
 use Rattle.dc_plain.specs.Facts.Fact.{Leads, Reads}

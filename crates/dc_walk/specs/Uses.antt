@@ -1,6 +1,6 @@
 -- The notes that a walk uses.
 use Rattle.std.specs.Prelude.{◌≡◌, ℕ, zero, suc, ◌<◌, ◌⊎◌, List, [], ◌∷◌, Bool, true, false, Some, None, length, map, take, get_or, Option}
-use Rattle.dc_plain.specs.Facts.{Fact, Label, told_by, Teller}
+use Rattle.dc_plain.specs.Facts.{Fact, told_by, Teller}
 use Rattle.dc_plain.specs.Facts.Fact.{Leads, Reads}
 use Rattle.dc_row.specs.Spelling.{Spells}
 use Rattle.dc_events.specs.Views.{Note}

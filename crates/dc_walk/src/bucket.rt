@@ -16,8 +16,8 @@ use crate::looking::{Seen, look_at};
 use dc_names::Kind;
 use dc_plain::Key;
 
-/// Looks at the rows of a bucket from its first on for where the entry of a key leads, up to the first
-/// that tells. Else it answers the first of them that is odd.
+/// Looks at the rows of a bucket for where the entry of a key leads, up to the first that tells. Else
+/// it answers the first of them that is odd.
 pub(crate) fn ask_rows(
     rows: &mut Rows<'_>,
     first: u64,

@@ -8,7 +8,7 @@ use dc_names::PathText;
 use dc_plain::Follow;
 use dc_table::{Pass, Shared};
 
-/// Answers the questions of a look-up from the rows of the table: whether a step of its walk was made,
+/// Answers the questions of a look-up from the rows of the table. It knows whether a step was made,
 /// how many rows were noted, and why it gave up.
 pub(crate) struct Rows<'a> {
     pub shared: &'a Shared,

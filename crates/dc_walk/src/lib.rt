@@ -13,6 +13,7 @@ mod used;
 mod walking;
 mod why;
 
+use dc_row::ROW_WORDS;
 pub use used::Used;
 pub use walking::{Quick, fast};
 pub use why::Why;
@@ -23,6 +24,6 @@ pub const BUCKET_ROWS: u64 = 4;
 /// The most rows whose answers a walk rests on.
 pub const MOST_USED: usize = 256;
 
-/// The most loads of `fast`: of all words of four rows for each question, of the clock, and of the
-/// counts of the rows that answered.
-pub const MOST_LOADS: u64 = 8_449;
+/// The most loads of `fast`, 8,449: for each question of all words of the rows of a bucket and once
+/// more of one's count, and of the clock.
+pub const MOST_LOADS: u64 = MOST_USED as u64 * (BUCKET_ROWS * ROW_WORDS as u64 + 1) + 1;

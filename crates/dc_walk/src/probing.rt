@@ -12,8 +12,8 @@ use dc_plain::Call;
 use dc_row::ROW_WORDS;
 use dc_table::{Pass, Shared};
 
-/// Notes a row and reads it whole: its count first. `first` begins the walk of the call. An odd count
-/// is an `Err`: then nothing more is read.
+/// Notes a row and reads it whole, its count first. `first` begins the walk of the call. An odd
+/// count is an `Err`: then nothing more is read.
 pub fn probe(
     shared: &Shared,
     pass: &mut Pass,

@@ -9,8 +9,8 @@ use dc_names::Kind;
 use dc_plain::Key;
 use dc_row::{EMPTY_ROW, ROW_WORDS, entry_in, words_have_the_fact_they_spell};
 
-/// A row that answered a question: the place of its note among all notes of the walk, and its words,
-/// the count first.
+/// A row that answered a question: the place of its note among those of the walk, and its words, the
+/// count first.
 #[derive(Clone, Copy, Drop)]
 pub struct Used {
     pub row: u64,

@@ -1,11 +1,12 @@
 //! A look-up without the lock.
 
-ghost use Rattle.std.specs.Prelude.{◌≡◌, ◌≤◌, ◌+◌, true, not, map, IfOk, IfErr};
+ghost use Rattle.std.specs.Prelude.{◌≡◌, ◌≤◌, ◌+◌, [], true, not, map, None, IfOk, IfErr};
+ghost use Rattle.dc_plain.specs.Facts.{told_by};
 ghost use Rattle.dc_plain.specs.Requests.{answer_of};
 ghost use Rattle.dc_plain.specs.Requests.Request.{Look};
 ghost use Rattle.dc_events.specs.Effects.{begins};
 ghost use Rattle.dc_table.specs.Passes.{view, share, IsSamePass, IsIdle};
-ghost use Rattle.dc_walk.specs.Fasts.{GaveUp, Keeps, Went, IsLongAgain, outcome_by};
+ghost use Rattle.dc_walk.specs.Fasts.{GaveUp, Keeps, Went, IfAgain, IsLongAgain, outcome_by};
 ghost use Rattle.dc_walk.specs.Findings.{CanWalk, buckets_of};
 ghost use Rattle.dc_walk.specs.Finds.{use_shown, AllInside};
 ghost use Rattle.dc_walk.specs.Long.{has_long_name};
@@ -101,6 +102,7 @@ pub fn fast(
     ensures same { IsSamePass pass.old pass.new × IsIdle pass.new }
     ensures keeps { Keeps base path.entry.bytes.now follow (buckets_of pass.old)
         (view pass.old) (view pass.new) result }
+    ensures asks { IfAgain result (outcome_by base path.entry.bytes.now follow (told_by []) ≡ None) }
     ensures long { has_long_name path.entry.bytes.now ≡ true → IsLongAgain result }
     ensures loads { (view pass.new).loads ≤ (view pass.old).loads + MOST_LOADS }
 {

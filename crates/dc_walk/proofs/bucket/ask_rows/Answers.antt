@@ -1,13 +1,12 @@
-use Rattle.std.proofs.Common.{arith, ◌≡◌, ◌+◌, ◌<◌, refl, ap, sym, ◌∙◌, subst}
+use Rattle.std.proofs.Common.{arith, ◌+◌, ◌<◌, refl, ap, sym, ◌∙◌, subst}
 use Rattle.arrayvec.specs.ArrayVec.{array_vec_len}
 use Rattle.dc_plain.specs.KeysShown.{label_shown}
 use Rattle.dc_table.specs.Passes.{share}
-use Rattle.dc_table.specs.Shares.{Share}
 use Rattle.dc_walk.specs.Causes.{Looked}
 use Rattle.dc_walk.specs.Findings.{now_in}
 use Rattle.dc_walk.specs.Finds.{told_in}
 use Rattle.dc_walk.specs.Sights.{Fails}
-use Rattle.dc_walk.specs.declared.TheConstants.{BUCKET_ROWS, MOST_USED}
+use Rattle.dc_walk.specs.declared.TheConstants.{MOST_USED}
 use Rattle.dc_walk.proofs.Seats.{row_still}
 use Rattle.dc_walk.proofs.Sighted.{same_again, same_still, on_again, on_still, still_needed}
 use Rattle.dc_walk.proofs.Lookings.{looked_none, looked_other, looked_odd}

@@ -1,4 +1,4 @@
-use Rattle.std.proofs.Common.{arith, ◌≡◌, ◌+◌, ◌∷◌, ◌++◌, [], ℕ, List, Some, not, length, get_or, drop, map, refl, ap, ap₂, sym, ◌∙◌, subst}
+use Rattle.std.proofs.Common.{Some, not, get_or, drop, map, refl, ap, sym, ◌∙◌, subst}
 use Rattle.std.proofs.lemmas.List.{map-append}
 use Rattle.dc_plain.specs.Facts.Fact.{Leads}
 use Rattle.dc_plain.specs.KeysShown.{label_shown}
@@ -10,7 +10,7 @@ use Rattle.dc_table.specs.Passes.{view, share}
 use Rattle.dc_walk.specs.Finds.{use_shown, AllSpelled, AllInside, IsEntry}
 use Rattle.dc_walk.specs.Probes.{probed}
 use Rattle.dc_walk.specs.Uses.{Use}
-use Rattle.dc_walk.proofs.Sighted.{on_odd, on_probed, failed_odd, failed_other, answers_so, can_still}
+use Rattle.dc_walk.proofs.Sighted.{on_odd, failed_odd, failed_other, answers_so, can_still}
 use Rattle.dc_walk.proofs.Standing.{shown_so, spelled_more, inside_more}
 use Rattle.dc_walk.proofs.Probed.{rest_size, count_first}
 use Rattle.dc_walk.proofs.looking.look_at.Goals as goal

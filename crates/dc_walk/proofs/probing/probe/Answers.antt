@@ -1,7 +1,6 @@
-use Rattle.std.proofs.Common.{arith, sym, ◌≡◌, ◌∙◌, ◌<◌, ap, get_or, length-set}
+use Rattle.std.proofs.Common.{arith, ◌∙◌, ap, get_or, length-set}
 use Rattle.dc_events.specs.Effects.{begins}
 use Rattle.dc_plain.specs.Requests.{request_of}
-use Rattle.dc_row.specs.declared.TheConstants.{ROW_WORDS}
 use Rattle.dc_table.specs.Passes.{view}
 use Rattle.dc_walk.specs.Probes.{probed}
 use Rattle.dc_walk.proofs.Probed.{can_read, next_read, read_whole}

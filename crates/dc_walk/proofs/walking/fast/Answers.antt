@@ -11,7 +11,8 @@ use Rattle.dc_walk.specs.Finds.{use_shown}
 use Rattle.dc_walk.specs.Uses.{Use}
 use Rattle.dc_walk.specs.declared.TheConstants.{MOST_USED}
 use Rattle.dc_walk.specs.declared.used.Used.{Used}
-use Rattle.dc_walk.proofs.Checks.{first_check, next_check, failed_check, ready, use_there, same_seen}
+use Rattle.dc_walk.proofs.Checks.{first_check, next_check, failed_check, ready, use_there, same_seen, asked}
+use Rattle.dc_walk.proofs.Unasked.{long_asks}
 use Rattle.dc_walk.proofs.Seats.{same_passes, fits_still}
 use Rattle.dc_walk.proofs.walking.fast.Goals as goal
 
@@ -49,7 +50,7 @@ returns-in-Err-check-clause-keeps c =
     let higher : c.in-Err-check.noted < c.in-Err-check.found = omega arith in
     let few : length (map use_shown items) ≤ MOST_USED = omega (arith, length-map items use_shown, c.len-c-end.ensures.value, c.len-c-end.ensures.fits) in
     inl (failed_check {outcome = outcome_by c.args.base c.args.path.bytes.now c.args.follow} (view c.args.pass.now) (view c.loop-c.pass) (view c.check.new.pass) (buckets_of c.args.pass.now) row c.in-Err-check.noted c.in-Err-check.found
-    c.loop-c.invariant.checking less (changed.2 ∙ ap (λ (n : ℕ). faulted (view c.loop-c.pass) (Changed row n c.in-Err-check.found)) (sym noted)) higher c.loop-c.invariant.later few)
+    c.loop-c.invariant.checking less (changed.2 ∙ ap (λ (n : ℕ). faulted (view c.loop-c.pass) (Changed row n c.in-Err-check.found)) (sym noted)) higher c.loop-c.invariant.later few (asked c.loop-c.c c.in-Ok.ensures.went less))
 
 pub loop-c-preserved : goal.loop-c-preserved
 loop-c-preserved c =
@@ -67,3 +68,12 @@ loop-c-preserved c =
       checking = subst (λ (n : ℕ). IsChecking (Look c.args.base c.args.path.bytes.now c.args.follow) (answer_of c.in-Ok.went.0) (map use_shown items) (view c.args.pass.now).book (view c.args.pass.now).loads c.pivot-at.result n (view c.check.new.pass)) next
           (next_check c.words_have_the_fact_they_spell.ensures c.args.base c.args.path.bytes.now c.args.follow c.args.path.valid _ _ (map use_shown items) _ c.pivot-at.result c.loop-c.c (use_shown blank) _ _ c.in-Ok.ensures.went less i.checking (e.checked ∙ ap (λ (u : Use). checked (view c.loop-c.pass) u.place) (sym here)));
     }
+
+pub returns-in-Err-check-clause-asks : goal.returns-in-Err-check-clause-asks
+returns-in-Err-check-clause-asks c =
+    let items = c.go.new.used.items in
+    let less : c.loop-c.c < length (map use_shown items) = omega (arith, length-map items use_shown, c.len-c-end.ensures.value, c.loop-c-test.true) in
+    asked c.loop-c.c c.in-Ok.ensures.went less
+
+pub returns-then-has_long_name-clause-asks : goal.returns-then-has_long_name-clause-asks
+returns-then-has_long_name-clause-asks c = long_asks c.args.base c.args.path.bytes.now c.args.follow (sym c.has_long_name.ensures ∙ c.if-has_long_name.true)

@@ -1,9 +1,9 @@
 use Rattle.std.proofs.Common.{◌≡◌, ◌≤◌, map}
 use Rattle.dc_plain.specs.Requests.{answer_of}
 use Rattle.dc_plain.specs.Requests.Request.{Look}
-use Rattle.dc_table.specs.Passes.{view, share, Fits, IsSamePass, IsIdle}
+use Rattle.dc_table.specs.Passes.{view, Fits, IsSamePass, IsIdle}
 use Rattle.dc_walk.specs.Fasts.{IsChecking}
-use Rattle.dc_walk.specs.Finds.{use_shown, AllInside}
+use Rattle.dc_walk.specs.Finds.{use_shown}
 use Rattle.dc_walk.proofs.walking.fast.Given as goal
 
 abbrev pub invariant-loop-c : goal.invariant-loop-c

@@ -1,4 +1,4 @@
-use Rattle.std.proofs.Common.{arith, refl, sym, ap, ◌∙◌}
+use Rattle.std.proofs.Common.{arith, refl, sym, ap}
 use Rattle.std.proofs.lemmas.List.{length-map}
 use Rattle.dc_plain.specs.Requests.Answer.{Refused as refuses}
 use Rattle.dc_plain.specs.Resolution.Outcome.{Found, Refused}

@@ -1,6 +1,5 @@
-use Rattle.std.proofs.Common.{◌≡◌, Option, Some, IfOk, Result, Ok, Err, is_some, IsTrue, ap, sym, ◌∙◌, subst}
+use Rattle.std.proofs.Common.{◌≡◌, Some, IfOk, ap, sym, ◌∙◌, subst}
 use Rattle.dc_names.specs.Names.{part_shown}
-use Rattle.dc_resolve.specs.Asked.{label_of, may_be_found}
 use Rattle.dc_plain.specs.Facts.{Key}
 use Rattle.dc_plain.specs.KeysShown.{key_shown}
 use Rattle.dc_walk.specs.Finds.{told_in}
