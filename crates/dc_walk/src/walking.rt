@@ -89,7 +89,8 @@ fn go(
     }
 }
 
-/// Where a path leads, by the rows of a table alone. It takes no lock and no memory.
+/// Where a path leads, by the rows of a table alone. It takes no lock and no memory: `used` is room
+/// for the rows that it rests on.
 pub fn fast(
     shared: &Shared,
     pass: &mut Pass,
@@ -119,6 +120,7 @@ pub fn fast(
         path: path.bytes(),
         follow,
     };
+    // After all reads and before all checks: a row whose count still stands was as read at this point.
     let at = shared.pivot(pass, &call, !begun);
     for c in 0..used.len() {
         let one = &used.as_slice()[c];
