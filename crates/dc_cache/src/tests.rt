@@ -1,15 +1,25 @@
+ghost use Rattle.std.specs.Thread.{IsSync};
 ghost use Rattle.dc_cache.specs.Passes.{Fits};
 ghost use Rattle.dc_ops.specs.Asked.{IsChange};
 
 use crate::{Call, Dcache, Fast, Follow, MakeFault, NotYet, Pass, Reply, Stamped, Why};
 use dc_names::{Kind, parse};
 use dc_store::Store;
+use std::alloc::Global;
+use std::sync::Wait;
 use std::test::Fail;
+use std::thread::{Threads, join};
 
 fn mkdir(path: &[u8]) -> Call<'_>
     ensures { IsChange result }
 {
     Call::Mkdir { base: 1, path }
+}
+
+fn create(path: &[u8]) -> Call<'_>
+    ensures { IsChange result }
+{
+    Call::Create { base: 1, path }
 }
 
 /// What the fast walk of a path from the root comes to, or `None` where the text is no path.
@@ -20,6 +30,11 @@ fn look_fast(cache: &Dcache, pass: &mut Pass, text: &[u8]) -> Option<Fast>
     Some(cache.look_fast(pass, 1, parse(text).ok()?, Follow::Yes))
 }
 
+/// Whether an answer is this one.
+fn is(stamped: &Stamped, reply: &Reply, at: u64) -> bool {
+    stamped.at == at && stamped.reply == *reply
+}
+
 /// Whether a walk was answered so.
 fn is_done(found: &Option<Fast>, reply: &Reply, at: u64) -> bool {
     match found {
@@ -28,9 +43,9 @@ fn is_done(found: &Option<Fast>, reply: &Reply, at: u64) -> bool {
     }
 }
 
-/// Whether an answer is this one.
-fn is(stamped: &Stamped, reply: &Reply, at: u64) -> bool {
-    stamped.at == at && stamped.reply == *reply
+/// Whether the rows didn't answer the first question of a walk.
+fn is_missed(found: &Option<Fast>) -> bool {
+    matches!(found, Some(Fast::Again(Why::Miss(0))))
 }
 
 #[test]
@@ -55,11 +70,118 @@ fn a_pass_learns_how_far_another_came(rt: HostRuntime) -> Result<(), Fail> {
     assert!(rt; cache.learn(&mut q, 1) == Ok(()));
     let found = look_fast(&cache, &mut q, b"/");
     assert!(rt; is_done(&found, &Reply::Found(1, Kind::Dir), 1));
-    let found = look_fast(&cache, &mut q, b"/a");
-    assert!(rt; matches!(found, Some(Fast::Again(Why::Miss(0)))));
-    assert!(rt; cache.shrink(&rt, &mut q, 2) == 0);
+    assert!(rt; is_missed(&look_fast(&cache, &mut q, b"/a")));
+    let found = cache.look(&rt, rt.alloc(), &mut q, 1, b"/a", Follow::Yes);
+    assert!(rt; is(&found, &Reply::Found(2, Kind::Dir), 1));
     cache.join(&mut p, q);
     let ended = cache.close(p).expect(&rt, "the lock is free");
     assert!(rt; ended.clock == 1 && ended.store.live() == 2);
+    Ok(())
+}
+
+/// The fifth name of a bucket of four rows takes a row of another, and nobody sees it.
+#[test]
+fn rows_serve_one_name_after_another(rt: HostRuntime) -> Result<(), Fail> {
+    let (cache, mut p) = Dcache::new(rt.alloc(), 1, 16).expect(&rt, "memory");
+    for (i, path) in [b"/a", b"/b", b"/c", b"/d", b"/e"].iter().enumerate() {
+        let at = i as u64;
+        let made = cache.change(&rt, rt.alloc(), &mut p, &create(*path));
+        assert!(rt; is(&made.expect(&rt, "memory"), &Reply::Done(2 + at), at));
+        let found = cache.look(&rt, rt.alloc(), &mut p, 1, *path, Follow::Yes);
+        assert!(rt; is(&found, &Reply::Found(2 + at, Kind::File), 1 + at));
+    }
+    let found = cache.look(&rt, rt.alloc(), &mut p, 1, b"/a", Follow::Yes);
+    assert!(rt; is(&found, &Reply::Found(2, Kind::File), 5));
+    Ok(())
+}
+
+#[test]
+fn reads_are_answered(rt: HostRuntime) -> Result<(), Fail> {
+    let (cache, mut p) = Dcache::new(rt.alloc(), 256, 65536).expect(&rt, "memory");
+    let link = Call::Symlink {
+        base: 1,
+        text: b"./d",
+        path: b"/s",
+    };
+    for (at, call) in [(0, mkdir(b"/d")), (1, create(b"/d/f")), (2, link)] {
+        let made = cache.change(&rt, rt.alloc(), &mut p, &call);
+        assert!(rt; is(&made.expect(&rt, "memory"), &Reply::Done(2 + at), at));
+    }
+    for (path, follow, reply) in [
+        (b"/s/f".as_slice(), Follow::Yes, Reply::Found(3, Kind::File)),
+        (b"/s", Follow::No, Reply::Found(4, Kind::Link)),
+        (b"/s/", Follow::No, Reply::Found(2, Kind::Dir)),
+        (b"/s/../d", Follow::Yes, Reply::Found(2, Kind::Dir)),
+        (b"", Follow::Yes, Reply::Refused(2)),
+        (&[b'n'; 256], Follow::Yes, Reply::Refused(36)),
+        (b"/\0", Follow::Yes, Reply::Refused(22)),
+    ] {
+        let found = cache.look(&rt, rt.alloc(), &mut p, 1, path, follow);
+        assert!(rt; is(&found, &reply, 3));
+    }
+    let text = cache
+        .readlink(&rt, rt.alloc(), &mut p, 1, b"/s")
+        .expect(&rt, "memory");
+    let told = Vec::from_slice(rt.alloc(), b"./d").expect(&rt, "memory");
+    assert!(rt; is(&text, &Reply::Text(told), 3));
+    let names = cache
+        .list(&rt, rt.alloc(), &mut p, 1, b"/")
+        .expect(&rt, "memory");
+    let d = Vec::from_slice(rt.alloc(), b"d").expect(&rt, "memory");
+    let s = Vec::from_slice(rt.alloc(), b"s").expect(&rt, "memory");
+    let both = Vec::from_array(rt.alloc(), [d, s]).expect(&rt, "memory");
+    assert!(rt; is(&names, &Reply::Names(both), 3));
+    let counted = cache.stat(&rt, &mut p, 1, b"/d/f");
+    assert!(rt; is(&counted, &Reply::Stat(3, Kind::File, 1), 3));
+    assert!(rt; is(&cache.stat(&rt, &mut p, 1, b""), &Reply::Refused(2), 3));
+    Ok(())
+}
+
+/// Creates fifty files whose names begin with this letter, looks each up, and returns the pass.
+fn fill<R: Wait>(rt: &R, alloc: Global, cache: &Dcache, mut pass: Pass, letter: u8) -> Pass
+    requires { Fits cache.now pass }
+    ensures { Fits cache.now result }
+{
+    for i in 0..50 {
+        let path = [b'/', letter, b'0' + i / 10, b'0' + i % 10];
+        let _made = cache.change(rt, alloc, &mut pass, &create(&path));
+        let _found = cache.look(rt, alloc, &mut pass, 1, &path, Follow::Yes);
+    }
+    pass
+}
+
+/// Two passes fill the cache in two threads.
+fn fill_both<R: Threads + Wait + Sync>(
+    rt: &R,
+    alloc: Global,
+    cache: &Dcache,
+    p: Pass,
+    q: Pass,
+) -> (Pass, Pass)
+    requires sync { IsSync R.row }
+    requires passes { Fits cache.now p × Fits cache.now q }
+    ensures { Fits cache.now result.0 × Fits cache.now result.1 }
+{
+    join(
+        rt,
+        move || -> Pass
+            requires { Fits cache.now p }
+            ensures { Fits cache.entry.now result }
+        { fill(rt, alloc, cache, p, b'a') },
+        move || -> Pass
+            requires { Fits cache.now q }
+            ensures { Fits cache.entry.now result }
+        { fill(rt, alloc, cache, q, b'b') },
+    )
+}
+
+#[test]
+fn threads_share_a_cache(rt: HostRuntime) -> Result<(), Fail> {
+    let (cache, mut p) = Dcache::new(rt.alloc(), 16, 1024).expect(&rt, "memory");
+    let q = cache.split(&mut p);
+    let (mut p, q) = fill_both(&rt, rt.alloc(), &cache, p, q);
+    cache.join(&mut p, q);
+    let ended = cache.close(p).expect(&rt, "the lock is free");
+    assert!(rt; ended.clock == 100 && ended.store.live() == 101);
     Ok(())
 }
