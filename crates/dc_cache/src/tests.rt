@@ -2,7 +2,9 @@ ghost use Rattle.std.specs.Thread.{IsSync};
 ghost use Rattle.dc_cache.specs.Passes.{Fits};
 ghost use Rattle.dc_ops.specs.Asked.{IsChange};
 
-use crate::{Call, Dcache, Fast, Follow, MakeFault, NotYet, Pass, Reply, Stamped, Why};
+use crate::{
+    Call, ChangeFault, Dcache, Fast, Follow, MakeFault, NotYet, Pass, Reply, Stamped, Why,
+};
 use dc_names::{Kind, parse};
 use dc_store::Store;
 use std::alloc::Global;
@@ -22,6 +24,16 @@ fn create(path: &[u8]) -> Call<'_>
     Call::Create { base: 1, path }
 }
 
+fn symlink<'a>(text: &'a [u8], path: &'a [u8]) -> Call<'a>
+    ensures { IsChange result }
+{
+    Call::Symlink {
+        base: 1,
+        text,
+        path,
+    }
+}
+
 /// What the fast walk of a path from the root comes to, or `None` where the text is no path.
 fn look_fast(cache: &Dcache, pass: &mut Pass, text: &[u8]) -> Option<Fast>
     requires { Fits cache.now pass.old }
@@ -33,6 +45,14 @@ fn look_fast(cache: &Dcache, pass: &mut Pass, text: &[u8]) -> Option<Fast>
 /// Whether an answer is this one.
 fn is(stamped: &Stamped, reply: &Reply, at: u64) -> bool {
     stamped.at == at && stamped.reply == *reply
+}
+
+/// Whether a change was answered so.
+fn is_made(made: &Result<Stamped, ChangeFault>, reply: &Reply, at: u64) -> bool {
+    match made {
+        Ok(stamped) => is(stamped, reply, at),
+        Err(_) => false,
+    }
 }
 
 /// Whether a walk was answered so.
@@ -65,7 +85,7 @@ fn a_pass_learns_how_far_another_came(rt: HostRuntime) -> Result<(), Fail> {
     let (cache, mut p) = Dcache::new(rt.alloc(), 1, 16).expect(&rt, "memory");
     let mut q = cache.split(&mut p);
     let made = cache.change(&rt, rt.alloc(), &mut p, &mkdir(b"/a"));
-    assert!(rt; is(&made.expect(&rt, "memory"), &Reply::Done(2), 0));
+    assert!(rt; is_made(&made, &Reply::Done(2), 0));
     assert!(rt; cache.learn(&mut q, 2) == Err(NotYet(1)));
     assert!(rt; cache.learn(&mut q, 1) == Ok(()));
     let found = look_fast(&cache, &mut q, b"/");
@@ -86,7 +106,7 @@ fn rows_serve_one_name_after_another(rt: HostRuntime) -> Result<(), Fail> {
     for (i, path) in [b"/a", b"/b", b"/c", b"/d", b"/e"].iter().enumerate() {
         let at = i as u64;
         let made = cache.change(&rt, rt.alloc(), &mut p, &create(*path));
-        assert!(rt; is(&made.expect(&rt, "memory"), &Reply::Done(2 + at), at));
+        assert!(rt; is_made(&made, &Reply::Done(2 + at), at));
         let found = cache.look(&rt, rt.alloc(), &mut p, 1, *path, Follow::Yes);
         assert!(rt; is(&found, &Reply::Found(2 + at, Kind::File), 1 + at));
     }
@@ -98,15 +118,12 @@ fn rows_serve_one_name_after_another(rt: HostRuntime) -> Result<(), Fail> {
 #[test]
 fn reads_are_answered(rt: HostRuntime) -> Result<(), Fail> {
     let (cache, mut p) = Dcache::new(rt.alloc(), 256, 65536).expect(&rt, "memory");
-    let link = Call::Symlink {
-        base: 1,
-        text: b"./d",
-        path: b"/s",
-    };
-    for (at, call) in [(0, mkdir(b"/d")), (1, create(b"/d/f")), (2, link)] {
-        let made = cache.change(&rt, rt.alloc(), &mut p, &call);
-        assert!(rt; is(&made.expect(&rt, "memory"), &Reply::Done(2 + at), at));
-    }
+    let made = cache.change(&rt, rt.alloc(), &mut p, &mkdir(b"/d"));
+    assert!(rt; is_made(&made, &Reply::Done(2), 0));
+    let made = cache.change(&rt, rt.alloc(), &mut p, &create(b"/d/f"));
+    assert!(rt; is_made(&made, &Reply::Done(3), 1));
+    let made = cache.change(&rt, rt.alloc(), &mut p, &symlink(b"./d", b"/s"));
+    assert!(rt; is_made(&made, &Reply::Done(4), 2));
     for (path, follow, reply) in [
         (b"/s/f".as_slice(), Follow::Yes, Reply::Found(3, Kind::File)),
         (b"/s", Follow::No, Reply::Found(4, Kind::Link)),
@@ -119,21 +136,27 @@ fn reads_are_answered(rt: HostRuntime) -> Result<(), Fail> {
         let found = cache.look(&rt, rt.alloc(), &mut p, 1, path, follow);
         assert!(rt; is(&found, &reply, 3));
     }
-    let text = cache
-        .readlink(&rt, rt.alloc(), &mut p, 1, b"/s")
-        .expect(&rt, "memory");
-    let told = Vec::from_slice(rt.alloc(), b"./d").expect(&rt, "memory");
-    assert!(rt; is(&text, &Reply::Text(told), 3));
-    let names = cache
-        .list(&rt, rt.alloc(), &mut p, 1, b"/")
-        .expect(&rt, "memory");
-    let d = Vec::from_slice(rt.alloc(), b"d").expect(&rt, "memory");
-    let s = Vec::from_slice(rt.alloc(), b"s").expect(&rt, "memory");
-    let both = Vec::from_array(rt.alloc(), [d, s]).expect(&rt, "memory");
-    assert!(rt; is(&names, &Reply::Names(both), 3));
     let counted = cache.stat(&rt, &mut p, 1, b"/d/f");
     assert!(rt; is(&counted, &Reply::Stat(3, Kind::File, 1), 3));
     assert!(rt; is(&cache.stat(&rt, &mut p, 1, b""), &Reply::Refused(2), 3));
+    Ok(())
+}
+
+#[test]
+fn reads_that_take_memory_are_answered(rt: HostRuntime) -> Result<(), Fail> {
+    let (cache, mut p) = Dcache::new(rt.alloc(), 1, 16).expect(&rt, "memory");
+    let made = cache.change(&rt, rt.alloc(), &mut p, &mkdir(b"/d"));
+    assert!(rt; is_made(&made, &Reply::Done(2), 0));
+    let made = cache.change(&rt, rt.alloc(), &mut p, &symlink(b"./d", b"/s"));
+    assert!(rt; is_made(&made, &Reply::Done(3), 1));
+    let told = cache.readlink(&rt, rt.alloc(), &mut p, 1, b"/s");
+    let text = Vec::from_slice(rt.alloc(), b"./d").expect(&rt, "memory");
+    assert!(rt; is(&told.expect(&rt, "memory"), &Reply::Text(text), 2));
+    let told = cache.list(&rt, rt.alloc(), &mut p, 1, b"/");
+    let d = Vec::from_slice(rt.alloc(), b"d").expect(&rt, "memory");
+    let s = Vec::from_slice(rt.alloc(), b"s").expect(&rt, "memory");
+    let names = Vec::from_array(rt.alloc(), [d, s]).expect(&rt, "memory");
+    assert!(rt; is(&told.expect(&rt, "memory"), &Reply::Names(names), 2));
     Ok(())
 }
 
