@@ -39,11 +39,11 @@ returns g t c =
     let back = c.match-started.back in
     let gave : GaveBack cache child base (ordered_by session lines) back.0 back.1 = elim c.match-started.branch [
       | in-Ok w ↦
-        let same : GaveBack cache child base (ordered_by session lines) w.join-back.result.0 w.join-back.result.1 = search rules in
-        subst (λ (b : Pass × Result SessionReplies ServeFault). GaveBack cache child base (ordered_by session lines) b.0 b.1) (sym w.back-is) same
+          let same : GaveBack cache child base (ordered_by session lines) w.join-back.result.0 w.join-back.result.1 = search rules in
+          subst (λ (b : Pass × Result SessionReplies ServeFault). GaveBack cache child base (ordered_by session lines) b.0 b.1) (sym w.back-is) same
       | in-Err w ↦
-        let same : GaveBack cache child base (ordered_by session lines) w.spawn_with-back.result.0 w.spawn_with-back.result.1 = search rules in
-        subst (λ (b : Pass × Result SessionReplies ServeFault). GaveBack cache child base (ordered_by session lines) b.0 b.1) (sym w.back-is) same
+          let same : GaveBack cache child base (ordered_by session lines) w.spawn_with-back.result.0 w.spawn_with-back.result.1 = search rules in
+          subst (λ (b : Pass × Result SessionReplies ServeFault). GaveBack cache child base (ordered_by session lines) b.0 b.1) (sym w.back-is) same
     ] in
     let fork : Fork (known c.args.pass) (known c.split-child.new.pass) (known child) (known c.serve_sessions-pass.result.0) (known back.0) (known c.take_in.result.0) =
     record { cut = c.split-child.ensures.kept.1; new = c.split-child.ensures.new.1; joined = c.take_in.ensures.pass.1 } in
