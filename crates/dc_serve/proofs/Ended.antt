@@ -1,18 +1,127 @@
--- How a run ends that stops while it serves.
-use Rattle.std.proofs.Common.{ℕ, List, inr}
-use Rattle.dc_lang.specs.Commands.{Meaning}
-use Rattle.dc_serve.specs.Endings.{EndsBy, ServesFront, Streams, Understood}
+-- How serving ends.
+use Rattle.std.proofs.Common.{ap, arith, ◌≡◌, ◌≢◌, ℕ, zero, suc, List, [], ◌∷◌, ◌++◌, length, take, take_all, le_refl, Option, Some, None, refl, sym, subst, inr, true≢false}
+use Rattle.std.specs.Prelude.{Result, Ok, Err, IfErr, IfSome, IsSome, OnOk}
+use mathlib.Core.Option.{some, some-injective, some-ne-none}
+use lib.ListN.{get_elem?}
+use Rattle.std.specs.Io.KnownBytes.{Appends}
+use Rattle.dc_cache.specs.declared.cache.Ended.{Ended}
+use Rattle.dc_events.specs.Laws.{RecordsAreLegal}
+use Rattle.dc_events.specs.Rule.{once_below}
+use Rattle.dc_events.specs.Standing.{all_hits, hits}
+use Rattle.dc_events.specs.Views.{Record}
+use Rattle.dc_lang.specs.Commands.{Order, Meaning}
+use Rattle.dc_lang.specs.declared.TheConstants.{SESSIONS}
+use Rattle.dc_plain.specs.Trees.{Tree}
+use Rattle.dc_table.specs.Ends.{Ends}
+use Rattle.dc_table.specs.Shares.{IsWhole, Known}
+use Rattle.dc_table.specs.declared.fault.MakeFault.{MakeFault}
+use Rattle.dc_table.specs.declared.fault.MakeFault.TheVariants as makings
+use Rattle.dc_serve.specs.Bytes.{AppendsFront}
+use Rattle.dc_serve.specs.Endings.{Answers, AnswersPlainly, EndsBy, Serves, ServesFront, Streams, Understood}
+use Rattle.dc_serve.specs.Faults.{from_making}
 use Rattle.dc_serve.specs.Phases.{phases}
-use Rattle.dc_serve.specs.Serving.{opening}
+use Rattle.dc_serve.specs.Rounds.{StopsBy, Wrote}
+use Rattle.dc_serve.specs.Turns.{IsRun, strands}
 use Rattle.dc_serve.specs.declared.fault.ServeFault.{ServeFault}
 use Rattle.dc_serve.specs.declared.fault.ServeFault.TheVariants.{BadSize, Read, BadLine, NoMemory, Spent, Write}
 use Rattle.dc_serve.proofs.Clocks.{never_spent}
+use Rattle.dc_serve.proofs.Counts.{history_short}
+use Rattle.dc_serve.proofs.Legals.{found, is_run}
+use Rattle.dc_serve.proofs.Rounds.{none_written}
+use Rattle.dc_serve.proofs.Turnwise.{turnwise_text}
+
+-- nothing was asked and nothing recorded
+abbrev EachNone : List (List Record) → Type 0
+EachNone [] = Unit {0}
+EachNone (s ∷ ss) = (s ≡ []) × EachNone ss
+
+strands_empty : (k : ℕ) → EachNone (strands k [])
+unfolding strands
+strands_empty zero = tt
+strands_empty (suc k) = more (strands k []) (strands_empty k)
+  where
+    more : (ss : List (List Record)) → EachNone ss → EachNone (ss ++ [] ∷ [])
+    more [] a = (refl, tt)
+    more (s ∷ ss) a = (a.0, more ss a.1)
+
+none_at : (ss : List (List Record)) → EachNone ss → (i : ℕ) (s : List Record) → get_elem? ss i ≡ some s → s ≡ []
+none_at [] a i s e = absurd (some-ne-none s (sym e))
+none_at (x ∷ xs) a zero s e = subst (λ l. l ≡ []) (some-injective x s e) a.0
+none_at (x ∷ xs) a (suc i) s e = none_at xs a.1 i s e
+
+no_run : (limit : ℕ) → IsRun limit [] []
+no_run limit = record { orders = refl; asked = tt; legal = record { order = []; merges = none_at (strands SESSIONS []) (strands_empty SESSIONS); runs = tt }; phased = tt }
+
+pub nothing_served : (limit : ℕ) (phases : List (List Order)) (old : Option (List ℕ)) → (count : ℕ) × Serves limit (take count phases) (Appends old old)
+nothing_served limit phases old = (0, record { turns = []; run = no_run limit; plain = λ _. refl; written = none_written old })
+
+served : {tree : Tree} {closed : ℕ} → RecordsAreLegal → (limit : ℕ) (phases : List (List Order)) (Written : List ℕ → Type 0) (k : Known) → Ends k.share.limit k tree closed → Wrote limit phases Written k → Serves limit phases Written
+served legal limit phases Written k ends wrote =
+    let here = found limit phases wrote.turns wrote.clock wrote.more k wrote.holds ends in
+    let run = is_run legal limit phases wrote.turns wrote.clock wrote.more k wrote.holds here in
+    record { turns = wrote.turns; run = run; plain = turnwise_text legal limit wrote.clock phases wrote.turns run wrote.holds.rounds here; written = wrote.written }
+
+front_served : {tree : Tree} {closed : ℕ} → RecordsAreLegal → (limit : ℕ) (phases : List (List Order)) (old new : Option (List ℕ)) (k : Known) (fault : ServeFault) → Ends k.share.limit k tree closed
+    → StopsBy limit phases old new k fault → ServesFront limit phases old new fault
+front_served legal limit phases old new k BadSize ends stops = absurd stops
+front_served legal limit phases old new k Read ends stops = absurd stops
+front_served legal limit phases old new k (BadLine n) ends stops = absurd stops
+front_served legal limit phases old new k NoMemory ends stops = (stops.0, served legal limit (take stops.0 phases) (Appends old new) k ends stops.1)
+front_served legal limit phases old new k Spent ends stops =
+    let b = k.view.book in
+    let once : (p : ℕ) → all_hits p b.joined ≡ once_below p (length ends.history) = λ p. let one = ends.once stops.whole p in let none = ap (hits p) stops.own in omega arith in
+    let short = history_short b.joined (length ends.history) once in
+    let seen = ends.book.seen in
+    let far = stops.seen in
+    let few = stops.few in
+    omega arith
+front_served legal limit phases old new k Write ends stops = (stops.0, served legal limit (take stops.0 phases) (AppendsFront old new) k ends stops.1)
 
 pub serving_ends : (limit : ℕ) (streams : Streams) (said : List Meaning) (fault : ServeFault) → Understood streams said
-    → ServesFront (opening limit) (phases said) streams.old streams.new fault → EndsBy limit streams fault
+    → ServesFront limit (phases said) streams.old streams.new fault → EndsBy limit streams fault
 serving_ends limit streams said BadSize good is = absurd is
 serving_ends limit streams said Read good is = absurd is
 serving_ends limit streams said (BadLine n) good is = absurd is
-serving_ends limit streams said NoMemory good is = inr record { said = said; understood = good; written = is }
-serving_ends limit streams said Spent good is = never_spent limit good.input said good.read.fits good.says is
-serving_ends limit streams said Write good is = record { said = said; understood = good; written = is }
+serving_ends limit streams said NoMemory good is = inr record { said = said; understood = good; count = is.0; served = is.1 }
+serving_ends limit streams said Spent good is = never_spent good.input said good.read.fits good.says is
+serving_ends limit streams said Write good is = record { said = said; understood = good; count = is.0; served = is.1 }
+
+-- where sizes are right, a cache isn't made for want of memory alone
+pub not_made : (P : ServeFault → Type 0) (why : MakeFault) (fault : ServeFault) → why ≢ makings.BadSize → fault ≡ from_making why → P NoMemory → P fault
+not_made P makings.BadSize fault right is none = absurd (right refl)
+not_made P makings.NoMemory fault right is none = subst P (sym is) none
+
+-- a pass with the whole share closes the cache
+abbrev pub Closes : Known → Option Ended → Type 0
+Closes k ended = IfSome ended (λ e. Ends k.share.limit k e.store e.clock) × (IsWhole k.share → IsSome ended)
+
+pub closed_ok : RecordsAreLegal → (limit : ℕ) (phases : List (List Order)) (old new : Option (List ℕ)) (k : Known) (result : Result (Unit {0}) ServeFault) (ended : Option Ended) → Closes k ended
+    → OnOk result (Wrote limit phases (Appends old new) k) → OnOk result (Serves limit phases (Appends old new))
+closed_ok legal limit phases old new k (Err fault) ended closes wrote = tt
+closed_ok legal limit phases old new k (Ok x) (Some e) closes wrote = served legal limit phases (Appends old new) k closes.0 wrote
+closed_ok legal limit phases old new k (Ok x) None closes wrote = absurd (true≢false (sym (closes.1 wrote.holds.whole)))
+
+stops_whole : (limit : ℕ) (phases : List (List Order)) (old new : Option (List ℕ)) (k : Known) (fault : ServeFault) → StopsBy limit phases old new k fault → IsWhole k.share
+stops_whole limit phases old new k BadSize stops = absurd stops
+stops_whole limit phases old new k Read stops = absurd stops
+stops_whole limit phases old new k (BadLine n) stops = absurd stops
+stops_whole limit phases old new k NoMemory stops = stops.1.holds.whole
+stops_whole limit phases old new k Spent stops = stops.whole
+stops_whole limit phases old new k Write stops = stops.1.holds.whole
+
+pub closed_err : RecordsAreLegal → (limit : ℕ) (phases : List (List Order)) (old new : Option (List ℕ)) (k : Known) (result : Result (Unit {0}) ServeFault) (ended : Option Ended) → Closes k ended
+    → IfErr result (StopsBy limit phases old new k) → IfErr result (ServesFront limit phases old new)
+closed_err legal limit phases old new k (Ok x) ended closes stops = tt
+closed_err legal limit phases old new k (Err fault) (Some e) closes stops = front_served legal limit phases old new k fault closes.0 stops
+closed_err legal limit phases old new k (Err fault) None closes stops = absurd (true≢false (sym (closes.1 (stops_whole limit phases old new k fault stops))))
+
+pub take_every : (phases : List (List Order)) → take (length phases) phases ≡ phases
+take_every phases = take_all (length phases) phases (le_refl (length phases))
+
+-- phases in which sessions take turns are answered plainly
+pub plainly : (limit : ℕ) (streams : Streams) → Answers limit streams → AnswersPlainly limit streams
+plainly limit streams a = record {
+  said = a.said;
+  understood = a.understood;
+  plain = λ wise. subst (Appends streams.old streams.new) (a.served.plain wise) a.served.written;
+}

@@ -1,32 +1,33 @@
 -- How a run ends, in the bytes that the reader has left and the writer holds.
-use Rattle.std.specs.Prelude.{ℕ, ◌≤◌, ◌^◌, List, take, Option, ◌⊎◌}
+use Rattle.std.specs.Prelude.{◌≡◌, ℕ, ◌≤◌, List, length, take, Option, ◌⊎◌}
 use Rattle.std.specs.Io.KnownBytes.{Appends, Keeps}
 use Rattle.dc_lang.specs.Commands.{Order, Meaning}
+use Rattle.dc_plain.specs.declared.TheConstants.{MOST_COUNT}
 use Rattle.dc_serve.specs.Bytes.{AppendsFront, ReadWhole}
 use Rattle.dc_serve.specs.Input.{AllSay, IsFirstBad}
 use Rattle.dc_serve.specs.Lines.{lines_of}
 use Rattle.dc_serve.specs.Phases.{in_order, phases}
-use Rattle.dc_serve.specs.Serving.{State, after_all, opening, replies_in}
+use Rattle.dc_serve.specs.Serving.{opening, replies_in}
+use Rattle.dc_serve.specs.Turns.{IsRun, IsTurnwise, Turn, all_of, text_of}
 use Rattle.dc_serve.specs.declared.fault.ServeFault.{ServeFault}
 use Rattle.dc_serve.specs.declared.fault.ServeFault.TheVariants.{BadSize, Read, BadLine, NoMemory, Spent, Write}
-use Rattle.dc_plain.specs.declared.TheConstants.{MOST_COUNT}
 
--- the text of all replies to what is said, with so many inodes allowed
-abbrev pub output_of : ℕ → List Meaning → List ℕ
-output_of limit said = replies_in (opening limit) (in_order (phases said))
+-- the commands of these phases were answered in a run of the plain tree, with so many inodes allowed, and its text was
+-- written so
+pub record Serves (limit : ℕ) (phases : List (List Order)) (Written : List ℕ → Type 0) : Type 0 where
+  pub turns : List (List Turn)
+  pub run : IsRun limit phases turns
+  -- where the sessions take turns, the text is the plain server's
+  pub plain : IsTurnwise phases → text_of (all_of turns) ≡ replies_in (opening limit) (in_order phases)
+  pub written : Written (text_of (all_of turns))
 
--- the replies to the first phases were written, and nothing else
-pub record ServesPhases (state : State) (phases : List (List Order)) (old new : Option (List ℕ)) : Type 0 where
-  pub count : ℕ
-  pub written : Appends old new (replies_in state (in_order (take count phases)))
-
--- serving ends early after whole phases, and where writing fails after a front of the text; `Spent`
--- comes only where the orders bring the clock to its limit
-abbrev pub ServesFront : State → List (List Order) → Option (List ℕ) → Option (List ℕ) → ServeFault → Type 0
-ServesFront state phases old new NoMemory = ServesPhases state phases old new
-ServesFront state phases old new Spent = MOST_COUNT ≤ (after_all state (in_order phases)).clock
-ServesFront state phases old new Write = AppendsFront old new (replies_in state (in_order phases))
-ServesFront state phases old new _ = ⊥
+-- serving ends early after whole phases, and where writing fails after a front of the text of some; `Spent` comes
+-- only where there are as many orders as the clock may count
+abbrev pub ServesFront : ℕ → List (List Order) → Option (List ℕ) → Option (List ℕ) → ServeFault → Type 0
+ServesFront limit phases old new NoMemory = (count : ℕ) × Serves limit (take count phases) (Appends old new)
+ServesFront limit phases old new Spent = MOST_COUNT ≤ length (in_order phases)
+ServesFront limit phases old new Write = (count : ℕ) × Serves limit (take count phases) (AppendsFront old new)
+ServesFront limit phases old new _ = ⊥
 
 -- the bytes that a reader had and has, and those that a writer held and holds, where they tell them
 pub record Streams : Type 0 where
@@ -39,34 +40,62 @@ abbrev pub streams : Option (List ℕ) → Option (List ℕ) → Option (List �
 streams unread rest old new = record { unread = unread; rest = rest; old = old; new = new }
 
 -- an input was read whole, and its lines say this
-pub record Understood (streams : Streams) (said : List Meaning) : Type 0 where
+pub record Reads (unread rest : Option (List ℕ)) (said : List Meaning) : Type 0 where
   pub input : List ℕ
-  pub read : ReadWhole streams.unread streams.rest input
+  pub read : ReadWhole unread rest input
   pub says : AllSay (lines_of input) said
 
--- an input was read whole, and what was written is the replies to its lines
+abbrev pub Understood : Streams → List Meaning → Type 0
+Understood streams said = Reads streams.unread streams.rest said
+
+-- an input was read whole, and this line of it is the first bad one
+pub record HasBadLine (n : ℕ) (unread rest : Option (List ℕ)) : Type 0 where
+  pub input : List ℕ
+  pub read : ReadWhole unread rest input
+  pub bad : IsFirstBad n (lines_of input)
+
+-- what comes before any command is served ends with these faults alone; nothing is read where a size is wrong
+abbrev pub IsInputFault : Option (List ℕ) → Option (List ℕ) → ServeFault → Type 0
+IsInputFault unread rest BadSize = Keeps unread rest
+IsInputFault unread rest Read = Unit {0}
+IsInputFault unread rest (BadLine n) = HasBadLine n unread rest
+IsInputFault unread rest NoMemory = Unit {0}
+IsInputFault unread rest Spent = ⊥
+IsInputFault unread rest Write = ⊥
+
+-- an input was read whole, and what was written is the replies to its commands in a run of the plain tree
 pub record Answers (limit : ℕ) (streams : Streams) : Type 0 where
   pub said : List Meaning
   pub understood : Understood streams said
-  pub written : Appends streams.old streams.new (output_of limit said)
+  pub served : Serves limit (phases said) (Appends streams.old streams.new)
 
--- the same, and of the replies those to the first phases were written
+-- the text of all replies where the commands come one after the other
+abbrev pub output_of : ℕ → List Meaning → List ℕ
+output_of limit said = replies_in (opening limit) (in_order (phases said))
+
+-- an input was read whole, and where its sessions take turns, what was written is the plain server's replies
+pub record AnswersPlainly (limit : ℕ) (streams : Streams) : Type 0 where
+  pub said : List Meaning
+  pub understood : Understood streams said
+  pub plain : IsTurnwise (phases said) → Appends streams.old streams.new (output_of limit said)
+
+-- an input was read whole, and of its phases the first were served and written
 pub record AnswersPhases (limit : ℕ) (streams : Streams) : Type 0 where
   pub said : List Meaning
   pub understood : Understood streams said
-  pub written : ServesPhases (opening limit) (phases said) streams.old streams.new
+  pub count : ℕ
+  pub served : Serves limit (take count (phases said)) (Appends streams.old streams.new)
 
 -- the same, and a front of the replies was written
 pub record AnswersFront (limit : ℕ) (streams : Streams) : Type 0 where
   pub said : List Meaning
   pub understood : Understood streams said
-  pub written : AppendsFront streams.old streams.new (output_of limit said)
+  pub count : ℕ
+  pub served : Serves limit (take count (phases said)) (AppendsFront streams.old streams.new)
 
 -- an input was read whole, this line of it is the first bad one, and nothing was written
 pub record RefusesLine (n : ℕ) (streams : Streams) : Type 0 where
-  pub input : List ℕ
-  pub read : ReadWhole streams.unread streams.rest input
-  pub bad : IsFirstBad n (lines_of input)
+  pub line : HasBadLine n streams.unread streams.rest
   pub kept : Keeps streams.old streams.new
 
 -- nothing was written, or the input was good and the replies to its first phases were
@@ -78,7 +107,7 @@ pub record LeavesAll (streams : Streams) : Type 0 where
   pub unread : Keeps streams.unread streams.rest
   pub kept : Keeps streams.old streams.new
 
--- what each fault leaves; `Spent` never comes, as no input holds so many changes
+-- what each fault leaves; `Spent` never comes, as no input holds so many commands
 abbrev pub EndsBy : ℕ → Streams → ServeFault → Type 0
 EndsBy limit streams BadSize = LeavesAll streams
 EndsBy limit streams Read = Keeps streams.old streams.new

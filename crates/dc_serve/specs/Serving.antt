@@ -1,4 +1,4 @@
--- What the server keeps between commands, and what it answers.
+-- The plain server: it answers commands one after the other, with no cache and no threads.
 use Rattle.std.specs.Prelude.{ℕ, List, [], ◌∷◌, ◌++◌, replicate, slice_index, slice_set}
 use Rattle.dc_plain.specs.Trees.{Tree, empty_tree}
 use Rattle.dc_plain.specs.Requests.{Request, Answer}
@@ -18,8 +18,11 @@ pub record State : Type 0 where
   pub bases : List ℕ
 
 -- an empty tree, and each session starts at the root
+abbrev pub first_bases : List ℕ
+first_bases = replicate SESSIONS 1
+
 abbrev pub opening : ℕ → State
-opening limit = record { limit = limit; tree = empty_tree; clock = 0; bases = replicate SESSIONS 1 }
+opening limit = record { limit = limit; tree = empty_tree; clock = 0; bases = first_bases }
 
 -- the call of an order, from its session's starting directory
 abbrev pub request_in : State → Order → Request
@@ -33,9 +36,13 @@ abbrev pub reply_in : State → Order → List ℕ
 reply_in state order = reply_text order.session (answer_in state order) state.clock
 
 -- a directory that a `cd` finds is where its session starts from then on
+abbrev pub base_after : Verb → Answer → ℕ → ℕ
+base_after Cd (Found number kind) base = number
+base_after verb answer base = base
+
+-- where each session starts then
 abbrev pub bases_after : Verb → ℕ → Answer → List ℕ → List ℕ
-bases_after Cd session (Found number kind) bases = slice_set bases session number
-bases_after verb session answer bases = bases
+bases_after verb session answer bases = slice_set bases session (base_after verb answer (slice_index bases session))
 
 -- what a call leaves
 abbrev pub called : State → Request → State

@@ -1,7 +1,9 @@
 ghost use Rattle.std.specs.Prelude.{◌≡◌};
+ghost use Rattle.dc_serve.specs.Faults.{from_change, from_making};
 ghost use Rattle.dc_serve.specs.declared.fault.ServeFault.TheVariants.{NoMemory as NoMemoryFault};
 
 use crate::ServeFault;
+use dc_cache::{ChangeFault, MakeFault};
 use dc_names::NoMemory;
 use std::alloc::{AllocError, AllocFailed};
 
@@ -26,5 +28,27 @@ impl<T: Drop> From<AllocFailed<T>> for ServeFault {
 
     fn from(_error: AllocFailed<T>) -> ServeFault {
         ServeFault::NoMemory
+    }
+}
+
+impl From<ChangeFault> for ServeFault {
+    ghost from_gives = { λ error fault. fault ≡ from_change error };
+
+    fn from(error: ChangeFault) -> ServeFault {
+        match error {
+            ChangeFault::NoMemory => ServeFault::NoMemory,
+            ChangeFault::Spent => ServeFault::Spent,
+        }
+    }
+}
+
+impl From<MakeFault> for ServeFault {
+    ghost from_gives = { λ error fault. fault ≡ from_making error };
+
+    fn from(error: MakeFault) -> ServeFault {
+        match error {
+            MakeFault::BadSize => ServeFault::BadSize,
+            MakeFault::NoMemory => ServeFault::NoMemory,
+        }
     }
 }

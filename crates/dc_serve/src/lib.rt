@@ -1,26 +1,29 @@
-//! The server: it answers the lines of an input, phase by phase and session by session.
+//! The server: it answers the lines of an input on one cache, phase by phase, with a thread for each
+//! session.
 #![tactic(auto)]
 
 mod bytes;
+mod calls;
 mod command_line;
 mod convert;
 mod fault;
 mod gate;
 mod laws;
 mod lines;
+mod phase;
 mod phases;
 mod read;
 mod running;
 mod serve;
-mod server;
+mod session;
 mod sizes;
 mod status;
 
 pub use command_line::options;
 pub use fault::{OptionsFault, ServeFault};
 pub use gate::{FreeGate, Gate};
-pub use laws::replies_are_those_of_a_run;
-pub use running::run;
+pub use laws::{one_session_is_answered_plainly, replies_are_those_of_a_run};
+pub use running::{run, understand};
 pub use sizes::Options;
 
 /// The most bytes that an input may have.

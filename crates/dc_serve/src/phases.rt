@@ -1,6 +1,6 @@
 ghost use Rattle.std.specs.Prelude.{◌≡◌, IfOk, map};
 ghost use Rattle.dc_lang.specs.Commands.{meaning_of};
-ghost use Rattle.dc_serve.specs.Phases.{is_sync, orders_in, phases};
+ghost use Rattle.dc_serve.specs.Phases.{is_sync, ordered, phases};
 
 use crate::ServeFault;
 use dc_lang::Line;
@@ -15,7 +15,7 @@ fn is_sync(line: &Line) -> bool
 /// The lines between those that say `sync`.
 pub fn phases(alloc: Global, lines: &[Line]) -> Result<Vec<&[Line]>, AllocError>
     ensures { IfOk result (λ parts.
-        map (λ part. orders_in (map meaning_of part.now)) parts.items
+        map (λ part. ordered part.now) parts.items
         ≡ phases (map meaning_of lines.now)) }
 {
     lines.split(|line| is_sync(line)).collect(alloc)

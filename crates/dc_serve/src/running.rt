@@ -1,58 +1,66 @@
-ghost use Rattle.std.specs.Prelude.{◌≡◌, ◌↔◌, false, Err, OnOk, IfErr, IsErrOf};
-ghost use Rattle.dc_serve.specs.Endings.{Answers, EndsBy, streams};
+//! From bytes to bytes.
+
+ghost use Rattle.std.specs.Prelude.{◌≡◌, ◌↔◌, true, false, Err, IsOk, OnOk, IfOk, IfErr, IsErrOf, map};
+ghost use Rattle.dc_lang.specs.Commands.{meaning_of};
+ghost use Rattle.dc_serve.specs.Endings.{Answers, AnswersPlainly, EndsBy, IsInputFault, Reads, streams};
 ghost use Rattle.dc_serve.specs.Sizes.{are_right};
 
 use crate::bytes::read_whole;
 use crate::read::read_lines;
 use crate::serve::serve;
-use crate::server::Server;
 use crate::{Gate, Options, ServeFault};
-use dc_store::SlabStore;
+use dc_lang::Line;
 use std::alloc::Global;
 use std::io::{Read, Write};
+use std::sync::Wait;
 use std::thread::Threads;
 
-/// Reads the input whole, then each of its lines, and then answers them phase by phase.
-fn answer_input<R: Read, W: Write, G: Gate>(
+/// What the lines of the input say. The sizes are tested first; then the input is read whole, and
+/// each of its lines. It has no handle, so it waits for nobody and is proved to return, whatever the
+/// reader does. `BadSize` where a size is wrong, `Read` where a read fails or the input is longer than
+/// 1,048,576 bytes, `BadLine` of the first line that is none of the grammar, `NoMemory` where memory
+/// was refused.
+pub fn understand<R: Read>(
     alloc: Global,
     reader: &mut R,
-    writer: &mut W,
-    inodes: u64,
-    gate: &G,
-) -> Result<(), ServeFault>
-    ensures ok { OnOk result (Answers inodes (streams
-        (R.remaining reader.old) (R.remaining reader.new)
-        (W.contents writer.old) (W.contents writer.new))) }
-    ensures err { IfErr result (EndsBy inodes (streams
-        (R.remaining reader.old) (R.remaining reader.new)
-        (W.contents writer.old) (W.contents writer.new))) }
-    ensures sized { IsErrOf result ServeFault.BadSize → ⊥ }
+    options: Options,
+) -> Result<Vec<Line>, ServeFault>
+    ensures ok { IfOk result (λ lines. Reads (R.remaining reader.old) (R.remaining reader.new)
+        (map meaning_of lines.items)) }
+    ensures err { IfErr result (IsInputFault (R.remaining reader.old) (R.remaining reader.new)) }
+    ensures size { IsErrOf result ServeFault.BadSize
+        ↔ (are_right options.buckets options.inodes ≡ false) }
 {
-    let input = read_whole(alloc, reader)?;
-    let lines = read_lines(alloc, &input)?;
-    let mut server = Server::new(SlabStore::new(alloc)?, inodes);
-    serve(&mut server, alloc, &lines, gate, writer)?;
-    match writer.flush() {
-        Ok(()) => Ok(()),
-        Err(_) => Err(ServeFault::Write),
+    if !options.are_right() {
+        return Err(ServeFault::BadSize);
     }
+    let input = read_whole(alloc, reader)?;
+    read_lines(alloc, &input)
 }
 
 /// Answers the commands of the input. The sizes are tested first; then the whole input is read, at
-/// most 1,048,576 bytes by at most 1,048,578 reads, and every line of it before any is run. Replies
-/// are written phase by phase, with one flush after the last. `Read` where a read fails or the
-/// input is longer, `Write` where a write fails or takes nothing, or the flush fails; `NoMemory`
-/// only where memory was refused; `Spent` never, as no input is long enough.
-pub fn run<T: Threads + Sync, R: Read, W: Write, G: Gate>(
-    _rt: &T,
+/// most 1,048,576 bytes by at most 1,048,578 reads, and every line of it before any is run: that is
+/// `understand`, which returns. From then on threads take a lock and are joined, and what follows is
+/// promised if they get on. In a phase each session that has lines is served in a thread of its own,
+/// which calls the gate round each command. Replies are written phase by phase, by session and line,
+/// with one flush after the last. `Read` where a read fails or the input is longer, `Write` where a
+/// write fails or takes nothing, or the flush fails; `NoMemory` only where memory or a thread was
+/// refused; `Spent` never, as no input is long enough.
+pub fn run<T: Threads + Wait + Sync, R: Read, W: Write, G: Gate>(
+    rt: &T,
     alloc: Global,
     reader: &mut R,
     writer: &mut W,
     options: Options,
     gate: &G,
 ) -> Result<(), ServeFault>
-    // What is written is the replies to the lines that were read, and nothing else.
+    // What is written is the replies of a run of the plain tree to the lines that were read.
     ensures ok { OnOk result (Answers options.inodes (streams
+        (R.remaining reader.old) (R.remaining reader.new)
+        (W.contents writer.old) (W.contents writer.new))) }
+
+    // Where in each phase one session alone has commands, that is what the plain server answers.
+    ensures plain { OnOk result (AnswersPlainly options.inodes (streams
         (R.remaining reader.old) (R.remaining reader.new)
         (W.contents writer.old) (W.contents writer.new))) }
 
@@ -63,8 +71,10 @@ pub fn run<T: Threads + Sync, R: Read, W: Write, G: Gate>(
     ensures size { IsErrOf result ServeFault.BadSize
         ↔ (are_right options.buckets options.inodes ≡ false) }
 {
-    if !options.are_right() {
-        return Err(ServeFault::BadSize);
+    let lines = understand(alloc, reader, options)?;
+    serve(rt, alloc, &lines, options, gate, writer)?;
+    match writer.flush() {
+        Ok(()) => Ok(()),
+        Err(_) => Err(ServeFault::Write),
     }
-    answer_input(alloc, reader, writer, options.inodes, gate)
 }

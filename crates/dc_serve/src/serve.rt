@@ -1,58 +1,99 @@
-ghost use Rattle.std.specs.Prelude.{OnOk, IfErr, map};
+//! How phases are served, one after the other.
+
+ghost use Rattle.std.specs.Prelude.{◌≡◌, true, OnOk, IfErr, map};
 ghost use Rattle.std.specs.Io.KnownBytes.{Appends};
+ghost use Rattle.dc_cache.specs.Passes.{known, share, Fits};
 ghost use Rattle.dc_lang.specs.Commands.{meaning_of};
-ghost use Rattle.dc_serve.specs.Endings.{ServesFront};
-ghost use Rattle.dc_serve.specs.Phases.{in_order, orders_in, phases};
-ghost use Rattle.dc_serve.specs.Serving.{replies_in};
+ghost use Rattle.dc_serve.specs.Endings.{Serves, ServesFront};
+ghost use Rattle.dc_serve.specs.Phases.{ordered, phases};
+ghost use Rattle.dc_serve.specs.Rounds.{StopsBy, Wrote};
+ghost use Rattle.dc_serve.specs.Sizes.{are_right};
+ghost use Rattle.dc_table.specs.Shares.{first_known};
 
 use crate::bytes::write_whole;
+use crate::phase::serve_phase;
 use crate::phases::phases;
-use crate::server::Server;
-use crate::{Gate, ServeFault};
-use dc_lang::Line;
-use dc_store::Store;
+use crate::session::Phase;
+use crate::{Gate, Options, ServeFault};
+use dc_cache::{Dcache, Pass};
+use dc_events::records_are_legal;
+use dc_lang::{Line, SESSIONS};
 use std::alloc::Global;
 use std::io::Write;
+use std::sync::Wait;
+use std::sync::atomic::AtomicU64;
+use std::thread::Threads;
 
-/// Serves phase after phase, and writes the replies to each once it is served.
-fn serve_phases<S: Store + Drop, G: Gate, W: Write>(
-    server: &mut Server<S>,
+/// Serves phase after phase with the first pass of a cache, which it gives back, and writes the
+/// replies to each once it is served.
+fn serve_phases<R: Threads + Wait + Sync, G: Gate, W: Write>(
+    rt: &R,
+    cache: &Dcache,
     alloc: Global,
+    mut pass: Pass,
     phases: &[&[Line]],
     gate: &G,
     writer: &mut W,
-) -> Result<(), ServeFault>
-    ensures ok { OnOk result (Appends (W.contents writer.old) (W.contents writer.new)
-        (replies_in server.old (in_order
-        (map (λ phase. orders_in (map meaning_of phase.now)) phases.now)))) }
-    ensures err { IfErr result (ServesFront server.old
-        (map (λ phase. orders_in (map meaning_of phase.now)) phases.now)
-        (W.contents writer.old) (W.contents writer.new)) }
+) -> (Pass, Result<(), ServeFault>)
+    requires pass { Fits cache.now pass }
+    requires first { known pass ≡ first_known (share pass).limit (share pass).rows }
+    ensures pass { Fits cache.now result.0 }
+    ensures ok { OnOk result.1 (Wrote (share pass).limit
+        (map (λ phase. ordered phase.now) phases.now)
+        (Appends (W.contents writer.old) (W.contents writer.new)) (known result.0)) }
+    ensures err { IfErr result.1 (StopsBy (share pass).limit
+        (map (λ phase. ordered phase.now) phases.now)
+        (W.contents writer.old) (W.contents writer.new) (known result.0)) }
 {
     let mut first = 1u64;
-    for phase in phases {
-        let text = server.serve_phase(alloc, first, phase, gate)?;
-        write_whole(writer, &text)?;
+    let mut bases = [1; 16];
+    for lines in phases {
+        let phase = Phase {
+            cache,
+            alloc,
+            first,
+            lines,
+            gate,
+            refused: &AtomicU64::new(SESSIONS),
+        };
+        let (next, replies) = serve_phase(rt, &phase, pass, bases);
+        pass = next;
+        let replies = match replies {
+            Ok(replies) => replies,
+            Err(fault) => return (pass, Err(fault)),
+        };
+        bases = replies.bases;
+        if let Err(fault) = write_whole(writer, &replies.text) {
+            return (pass, Err(fault));
+        }
         // A line's number would be wrong past 2^64. An input has at most 1,048,576 bytes, and so
         // fewer lines than that.
-        first = first.saturating_add(phase.len() as u64 + 1);
+        first = first.saturating_add(lines.len() as u64 + 1);
     }
-    Ok(())
+    (pass, Ok(()))
 }
 
 /// Serves what lines say, phase by phase, and writes the replies.
-pub fn serve<S: Store + Drop, G: Gate, W: Write>(
-    server: &mut Server<S>,
+pub fn serve<R: Threads + Wait + Sync, G: Gate, W: Write>(
+    rt: &R,
     alloc: Global,
     lines: &[Line],
+    options: Options,
     gate: &G,
     writer: &mut W,
 ) -> Result<(), ServeFault>
-    ensures ok { OnOk result (Appends (W.contents writer.old) (W.contents writer.new)
-        (replies_in server.old (in_order (phases (map meaning_of lines.now))))) }
-    ensures err { IfErr result (ServesFront server.old (phases (map meaning_of lines.now))
+    requires { are_right options.buckets options.inodes ≡ true }
+    ensures ok { OnOk result (Serves options.inodes (phases (map meaning_of lines.now))
+        (Appends (W.contents writer.old) (W.contents writer.new))) }
+    ensures err { IfErr result (ServesFront options.inodes (phases (map meaning_of lines.now))
         (W.contents writer.old) (W.contents writer.new)) }
 {
+    records_are_legal();
     let phases = phases(alloc, lines)?;
-    serve_phases(server, alloc, &phases, gate, writer)
+    let (cache, pass) = Dcache::new(alloc, options.buckets, options.inodes)?;
+    let (pass, result) = serve_phases(rt, &cache, alloc, pass, &phases, gate, writer);
+    // What was answered, after a fault too, is known to be a run once the cache is closed with the
+    // pass that took all others in.
+    let _ended = cache.close(pass);
+    result
 }

@@ -1,7 +1,9 @@
 use crate::{
-    FreeGate, Options, OptionsFault, ServeFault, options, replies_are_those_of_a_run, run,
+    FreeGate, Options, OptionsFault, ServeFault, one_session_is_answered_plainly, options,
+    replies_are_those_of_a_run, run, understand,
 };
 use std::alloc::{AllocError, Global};
+use std::sync::Wait;
 use std::test::Fail;
 use std::thread::Threads;
 
@@ -12,7 +14,7 @@ pub const USUAL: Options = Options {
 };
 
 /// What a run with these sizes answers and writes.
-pub fn served<T: Threads + Sync>(
+pub fn served<T: Threads + Wait + Sync>(
     rt: &T,
     alloc: Global,
     sizes: Options,
@@ -49,14 +51,14 @@ fn worked_runs(rt: HostRuntime) {
             "0 ok 2 @0\n0 ok 3 @1\n0 is 3 dir @2\n0 is 3 dir @2\n0 is 2 dir @2\n0 is 1 dir @2\n\
              0 ok 4 @2\n0 is 3 dir @3\n0 no 17 @3\n",
         ),
-        // A phase is served by session; a starting directory is its session's own, and outlives
+        // A phase is written by session; a starting directory is its session's own, and outlives
         // the phase.
         (
             16,
-            "1 mkdir /b\n0 mkdir /a\n1 cd /b\n0 cd /a\nsync\nsync\n15 look .\n1 look .\n0 cd /none\n\
-             0 look .\n",
-            "0 ok 2 @0\n0 is 2 dir @1\n1 ok 3 @1\n1 is 3 dir @2\n0 no 2 @2\n0 is 2 dir @2\n\
-             1 is 3 dir @2\n15 is 1 dir @2\n",
+            "1 mkdir /b\nsync\n0 mkdir /a\nsync\n1 cd /b\n0 cd /a\nsync\nsync\n15 look .\n1 look .\n\
+             0 cd /none\n0 look .\n",
+            "1 ok 2 @0\n0 ok 3 @1\n0 is 3 dir @2\n1 is 2 dir @2\n0 no 2 @2\n0 is 3 dir @2\n\
+             1 is 2 dir @2\n15 is 1 dir @2\n",
         ),
     ] {
         let sizes = Options { inodes, ..USUAL };
@@ -141,20 +143,51 @@ fn names_of_any_bytes(rt: HostRuntime) {
     assert!(rt; output.as_slice() == want.as_slice(), "{output:?}");
 }
 
+/// All sessions at once: each starts where it went itself, and the replies come by session.
 #[test]
 fn sixteen_sessions_in_a_phase(rt: HostRuntime) -> Result<(), Fail> {
-    let mut input = Vec::new(rt.alloc());
-    let mut want = Vec::new(rt.alloc());
+    let mut makes = Vec::new(rt.alloc());
+    let mut goes = Vec::from_slice(rt.alloc(), b"sync\n")?;
+    let mut looks = Vec::from_slice(rt.alloc(), b"sync\n")?;
+    let mut made = Vec::new(rt.alloc());
+    let mut found = Vec::new(rt.alloc());
     for session in 0..16u64 {
-        let line = format!(in rt.alloc(); "{} mkdir /{session}\n", 15 - session)?;
-        input.extend_from_slice(line.as_bytes())?;
-        let reply = format!(in rt.alloc(); "{session} ok {} @{session}\n", session + 2)?;
-        want.extend_from_slice(reply.as_bytes())?;
+        let line = format!(in rt.alloc(); "7 mkdir /{session}\n")?;
+        makes.extend_from_slice(line.as_bytes())?;
+        let reply = format!(in rt.alloc(); "7 ok {} @{session}\n", session + 2)?;
+        made.extend_from_slice(reply.as_bytes())?;
+        let last = 15 - session;
+        let line = format!(in rt.alloc(); "{last} cd /{last}\n")?;
+        goes.extend_from_slice(line.as_bytes())?;
+        let line = format!(in rt.alloc(); "{last} look .\n")?;
+        looks.extend_from_slice(line.as_bytes())?;
+        let reply = format!(in rt.alloc(); "{session} is {} dir @16\n", session + 2)?;
+        found.extend_from_slice(reply.as_bytes())?;
     }
-    let (result, output) = served(&rt, rt.alloc(), USUAL, &input);
+    makes.extend_from_slice(&goes)?;
+    makes.extend_from_slice(&looks)?;
+    made.extend_from_slice(&found)?;
+    made.extend_from_slice(&found)?;
+    let (result, output) = served(&rt, rt.alloc(), USUAL, &makes);
     assert_eq!(rt; result, Ok(()));
-    assert!(rt; output == want, "{output:?}");
+    assert!(rt; output == made, "{output:?}");
     Ok(())
+}
+
+/// On one bucket the fifth name empties the row of the first, and nobody sees it.
+#[test]
+fn one_bucket(rt: HostRuntime) {
+    let sizes = Options {
+        buckets: 1,
+        inodes: 16,
+    };
+    let input = b"0 create /a\n0 look /a\n0 create /b\n0 look /b\n0 create /c\n0 look /c\n\
+        0 create /d\n0 look /d\n0 create /e\n0 look /e\n0 look /a\n";
+    let want = b"0 ok 2 @0\n0 is 2 file @1\n0 ok 3 @1\n0 is 3 file @2\n0 ok 4 @2\n0 is 4 file @3\n\
+        0 ok 5 @3\n0 is 5 file @4\n0 ok 6 @4\n0 is 6 file @5\n0 is 2 file @5\n";
+    let (result, output) = served(&rt, rt.alloc(), sizes, input.as_slice());
+    assert_eq!(rt; result, Ok(()));
+    assert!(rt; output.as_slice() == want.as_slice(), "{output:?}");
 }
 
 /// Whichever allocation is refused, the replies of whole phases alone are written, and all of them
@@ -315,7 +348,17 @@ fn help_names_the_options(rt: HostRuntime) -> Result<(), Fail> {
     Ok(())
 }
 
+/// What is read is told by line, before anything runs.
+#[test]
+fn lines_that_are_understood(rt: HostRuntime) {
+    let mut rest = b"3 look /\nsync\n3 look /".as_slice();
+    let lines = understand(rt.alloc(), &mut rest, USUAL);
+    assert!(rt; lines.is_ok_and(|lines| lines.len() == 3));
+    assert!(rt; rest.is_empty());
+}
+
 #[test]
 fn laws_can_be_called() {
     replies_are_those_of_a_run();
+    one_session_is_answered_plainly();
 }

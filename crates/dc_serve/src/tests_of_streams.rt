@@ -2,10 +2,11 @@
 
 use crate::tests::USUAL;
 use crate::{FreeGate, Gate, ServeFault, run};
-use std::io;
 use std::io::{Read, Write};
-use std::sync::atomic::{AtomicU64, Ordering};
+use std::sync::atomic::{AtomicBool, AtomicU64, Ordering};
 use std::test::Fail;
+use std::time::Duration;
+use std::{io, thread};
 
 /// What a stream does once it has given or taken so many bytes.
 #[derive(Clone, Copy, Debug, PartialEq, Eq, Drop)]
@@ -155,11 +156,11 @@ fn outputs_that_end_badly(rt: HostRuntime) {
     }
 }
 
-/// Writes down each call as three digits: the session, the line, and whether it came before or
-/// after.
+/// Writes down the calls of the first two sessions as three digits: the session, the line, and
+/// whether it came before or after.
 #[derive(Drop)]
 struct Recorder {
-    calls: AtomicU64,
+    calls: [AtomicU64; 2],
 }
 
 impl Recorder {
@@ -168,11 +169,19 @@ impl Recorder {
             .wrapping_mul(100)
             .wrapping_add(line.wrapping_mul(10))
             .wrapping_add(when);
-        let before = self.calls.load(Ordering::SeqCst);
-        self.calls.store(
-            before.wrapping_mul(1000).wrapping_add(call),
-            Ordering::SeqCst,
-        );
+        // A session's thread alone writes down its calls.
+        if let Some(calls) = self.calls.get(session as usize) {
+            let before = calls.load(Ordering::SeqCst);
+            calls.store(
+                before.wrapping_mul(1000).wrapping_add(call),
+                Ordering::SeqCst,
+            );
+        }
+    }
+
+    fn calls(&self) -> [u64; 2] {
+        let [first, second] = &self.calls;
+        [first.load(Ordering::SeqCst), second.load(Ordering::SeqCst)]
     }
 }
 
@@ -189,24 +198,83 @@ impl Gate for Recorder {
 #[test]
 fn gates_are_called_round_each_command(rt: HostRuntime) {
     let gate = Recorder {
-        calls: AtomicU64::new(0),
+        calls: [AtomicU64::new(0), AtomicU64::new(0)],
     };
-    let mut rest = b"1 look /\n0 look /x\nsync\n0 look /".as_slice();
+    let mut rest = b"1 look /\n0 look /x\nsync\n0 look /\n1 look /a\n1 look /b".as_slice();
     let mut output = Vec::new(rt.alloc());
     let result = run(&rt, rt.alloc(), &mut rest, &mut output, USUAL, &gate);
     assert_eq!(rt; result, Ok(()));
-    assert_eq!(rt; gate.calls.load(Ordering::SeqCst), 21_022_111_112_041_042);
+    assert_eq!(rt; gate.calls(), [21_022_041_042, 111_112_151_152_161_162]);
 }
 
 /// No command is answered where a later line is bad.
 #[test]
 fn no_gate_is_called_before_a_bad_line(rt: HostRuntime) {
     let gate = Recorder {
-        calls: AtomicU64::new(0),
+        calls: [AtomicU64::new(0), AtomicU64::new(0)],
     };
     let mut rest = b"0 mkdir /a\nsync\n0 look\n".as_slice();
     let mut output = Vec::new(rt.alloc());
     let result = run(&rt, rt.alloc(), &mut rest, &mut output, USUAL, &gate);
     assert_eq!(rt; result, Err(ServeFault::BadLine(3)));
-    assert_eq!(rt; gate.calls.load(Ordering::SeqCst), 0);
+    assert_eq!(rt; gate.calls(), [0, 0]);
+}
+
+/// How many turns a gate waits, each a millisecond.
+const MOST_TURNS: u32 = 10_000;
+
+/// Session 0 is in its command from before session 1 begins its own until that is answered. A session
+/// that waits in vain is late.
+#[derive(Drop)]
+struct Meeting<'a> {
+    clock: &'a HostRuntime,
+    begun: AtomicBool,
+    answered: AtomicBool,
+    late: AtomicBool,
+}
+
+impl Meeting<'_> {
+    fn wait_for(&self, flag: &AtomicBool) {
+        for _ in 0..MOST_TURNS {
+            if flag.load(Ordering::SeqCst) {
+                return;
+            }
+            thread::sleep(self.clock, Duration::from_millis(1));
+        }
+        self.late.store(true, Ordering::SeqCst);
+    }
+}
+
+impl Gate for Meeting<'_> {
+    fn before(&self, session: u64, _line: u64) {
+        if session == 0 {
+            self.begun.store(true, Ordering::SeqCst);
+            self.wait_for(&self.answered);
+        } else {
+            self.wait_for(&self.begun);
+        }
+    }
+
+    fn after(&self, session: u64, _line: u64) {
+        if session == 1 {
+            self.answered.store(true, Ordering::SeqCst);
+        }
+    }
+}
+
+/// Sessions run at the same time: served one after the other, each would wait for the other in vain.
+#[test]
+fn sessions_meet(rt: HostRuntime) {
+    let gate = Meeting {
+        clock: &rt,
+        begun: AtomicBool::new(false),
+        answered: AtomicBool::new(false),
+        late: AtomicBool::new(false),
+    };
+    let mut rest = b"0 look /\n1 look /\n".as_slice();
+    let mut output = Vec::new(rt.alloc());
+    let result = run(&rt, rt.alloc(), &mut rest, &mut output, USUAL, &gate);
+    assert_eq!(rt; result, Ok(()));
+    assert!(rt; !gate.late.load(Ordering::SeqCst));
+    assert!(rt; output.as_slice() == b"0 is 1 dir @0\n1 is 1 dir @0\n".as_slice());
 }

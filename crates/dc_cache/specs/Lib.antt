@@ -1,0 +1,3 @@
+-- What a caller knows of its pass, and what a call leaves in it.
+pub mod Passes
+pub mod Answers

@@ -1,0 +1,25 @@
+-- What a caller knows of its pass.
+use Rattle.std.specs.Prelude.{ℕ}
+use Rattle.dc_events.specs.Views.{View}
+use Rattle.dc_table.specs.Passes as seats
+use Rattle.dc_table.specs.Shares.{Known, Share}
+use Rattle.dc_walk.specs.Findings as walks
+use Rattle.dc_cache.specs.declared.cache.Dcache.{Dcache}
+use Rattle.dc_cache.specs.declared.cache.Pass.{Pass}
+
+-- what the pass has done and seen, and its share
+abbrev pub known : Pass → Known
+known p = seats.known p.seat
+
+abbrev pub view : Pass → View
+view p = (known p).view
+
+abbrev pub share : Pass → Share
+share p = (known p).share
+
+abbrev pub buckets_of : Pass → ℕ
+buckets_of p = walks.buckets_of p.seat
+
+-- the pass is one of the cache, which has a bucket, and has not the lock
+abbrev pub Fits : Dcache → Pass → Type 0
+Fits cache p = walks.CanWalk cache.shared p.seat

@@ -1,0 +1,47 @@
+//! Changes of the tree, and rows that are emptied.
+
+ghost use Rattle.std.specs.Prelude.{◌≡◌, ◌≤◌, IfOk, IfErr};
+ghost use Rattle.dc_cache.specs.Answers.{Answered};
+ghost use Rattle.dc_cache.specs.Passes.{view, share, Fits};
+ghost use Rattle.dc_ops.specs.Asked.{IsChange};
+ghost use Rattle.dc_plain.specs.Requests.{request_of};
+ghost use Rattle.dc_table.specs.Changes.{Failed, NothingNew};
+
+use crate::cache::{Dcache, Pass};
+use dc_plain::{Call, Stamped};
+use dc_table::ChangeFault;
+use std::alloc::Global;
+use std::sync::Wait;
+
+impl Dcache {
+    /// Makes a change. It waits for the lock. `Spent` where it would alter the tree for more than the
+    /// 2^62nd time, `NoMemory` where memory was refused: then nothing has changed. A change that is
+    /// refused, an `Unlink` and a `Rmdir` take no memory.
+    pub fn change<R: Wait>(
+        &self,
+        rt: &R,
+        alloc: Global,
+        pass: &mut Pass,
+        call: &Call<'_>,
+    ) -> Result<Stamped, ChangeFault>
+        requires pass { Fits self.now pass.old }
+        requires change { IsChange call.now }
+        ensures same { Fits self.now pass.new × (share pass.new ≡ share pass.old) }
+        ensures done { IfOk result (Answered pass.old pass.new (request_of call.now)) }
+        ensures fault { IfErr result (Failed (view pass.old) (view pass.new)) }
+    {
+        let (reply, at) = self.shared.change(rt, alloc, &mut pass.seat, call)?;
+        Ok(Stamped { reply, at })
+    }
+
+    /// Empties up to so many rows, the least recently used first, and answers how many. It waits for
+    /// the lock, and takes no memory.
+    pub fn shrink<R: Wait>(&self, rt: &R, pass: &mut Pass, most: u64) -> u64
+        requires pass { Fits self.now pass.old }
+        ensures same { Fits self.now pass.new × (share pass.new ≡ share pass.old) }
+        ensures nothing { NothingNew (view pass.old) (view pass.new) }
+        ensures few { result ≤ most }
+    {
+        self.shared.shrink(rt, &mut pass.seat, most)
+    }
+}

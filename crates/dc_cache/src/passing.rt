@@ -1,0 +1,86 @@
+//! How a cache begins and ends, how passes are cut and put together, and what one learns of another.
+
+ghost use Rattle.std.specs.Prelude.{◌≡◌, ◌*◌, ◌≤◌, ◌↔◌, false, Err, IsOk, IfOk, IfErr, IfSome, IsSome};
+ghost use Rattle.dc_cache.specs.Passes.{known, view, share, Fits};
+ghost use Rattle.dc_table.specs.Changes.{NothingNew};
+ghost use Rattle.dc_table.specs.Ends.{Ends};
+ghost use Rattle.dc_table.specs.Shares.{IsWhole, first_known, kept_half, new_half, both};
+ghost use Rattle.dc_table.specs.Sizes.{are_right};
+ghost use Rattle.dc_table.specs.declared.fault.MakeFault.TheVariants.{BadSize};
+
+use crate::cache::{Dcache, Ended, NotYet, Pass};
+use arrayvec::ArrayVec;
+use dc_table::{MakeFault, Shared};
+use std::alloc::Global;
+
+impl Dcache {
+    /// A cache with four rows in each bucket, over the root directory alone, and its first pass, which
+    /// has done and seen nothing. `BadSize` where buckets are no power of two from 1 to 1,024, or the
+    /// limit of live inodes, the root among them, isn't from 1 to 1,048,576.
+    pub fn new(alloc: Global, buckets: u64, max_inodes: u64) -> Result<(Dcache, Pass), MakeFault>
+        ensures made { IfOk result (λ r. Fits r.0 r.1
+            × (known r.1 ≡ first_known max_inodes (4 * buckets))) }
+        ensures size { (result ≡ Err BadSize) ↔ (are_right buckets max_inodes ≡ false) }
+    {
+        let (shared, seat) = Shared::new(alloc, buckets, max_inodes)?;
+        let used = ArrayVec::new();
+        Ok((Dcache { shared }, Pass { seat, used }))
+    }
+
+    /// A pass for another thread, which has seen what this one has. It gets half of the share.
+    pub fn split(&self, pass: &mut Pass) -> Pass
+        requires pass { Fits self.now pass.old }
+        ensures kept { Fits self.now pass.new × (known pass.new ≡ kept_half (known pass.old)) }
+        ensures new { Fits self.now result × (known result ≡ new_half (known pass.old)) }
+    {
+        Pass {
+            seat: self.shared.split(&mut pass.seat),
+            used: ArrayVec::new(),
+        }
+    }
+
+    /// Takes in what another pass did and saw, and its share.
+    pub fn join(&self, pass: &mut Pass, other: Pass)
+        requires pass { Fits self.now pass.old }
+        requires other { Fits self.now other }
+        ensures pass { Fits self.now pass.new }
+        ensures both { known pass.new ≡ both (known pass.old) (known other) }
+    {
+        let Pass { seat, used: _ } = other;
+        self.shared.join(&mut pass.seat, seat);
+    }
+
+    /// Sees how many calls have altered the tree, and whether these are so many at least. What a pass
+    /// has seen is past for it: none of its later calls takes effect before that.
+    pub fn learn(&self, pass: &mut Pass, at: u64) -> Result<(), NotYet>
+        requires pass { Fits self.now pass.old }
+        ensures same { Fits self.now pass.new × (share pass.new ≡ share pass.old) }
+        ensures nothing { NothingNew (view pass.old) (view pass.new) }
+        ensures come { IsOk result ↔ (at ≤ (view pass.new).book.seen) }
+        ensures not_yet { IfErr result (λ e. e.0 ≡ (view pass.new).book.seen) }
+    {
+        let clock = self.shared.learn(&mut pass.seat);
+        if clock < at {
+            return Err(NotYet(clock));
+        }
+        Ok(())
+    }
+
+    /// Ends the cache: the tree, and how many calls altered it, are those of a history in which the
+    /// records of the pass stand. `None` where another pass has the lock and so the tree, which is then
+    /// lost; never where this one has the whole share.
+    pub fn close(self, pass: Pass) -> Option<Ended>
+        requires pass { Fits self pass }
+        ensures tree { IfSome result (λ ended.
+            Ends (share pass).limit (known pass) ended.store ended.clock) }
+        ensures whole { IsWhole (share pass) → IsSome result }
+    {
+        let Dcache { shared } = self;
+        let Pass { seat, used: _ } = pass;
+        let value = shared.close(seat)?;
+        Some(Ended {
+            store: value.store,
+            clock: value.clock,
+        })
+    }
+}

@@ -1,0 +1,15 @@
+-- What a fault of the cache is to the server.
+use Rattle.dc_table.specs.declared.fault.ChangeFault.{ChangeFault}
+use Rattle.dc_table.specs.declared.fault.ChangeFault.TheVariants as changes
+use Rattle.dc_table.specs.declared.fault.MakeFault.{MakeFault}
+use Rattle.dc_table.specs.declared.fault.MakeFault.TheVariants as makings
+use Rattle.dc_serve.specs.declared.fault.ServeFault.{ServeFault}
+use Rattle.dc_serve.specs.declared.fault.ServeFault.TheVariants.{BadSize, NoMemory, Spent}
+
+abbrev pub from_change : ChangeFault → ServeFault
+from_change changes.NoMemory = NoMemory
+from_change changes.Spent = Spent
+
+abbrev pub from_making : MakeFault → ServeFault
+from_making makings.BadSize = BadSize
+from_making makings.NoMemory = NoMemory

@@ -1,0 +1,235 @@
+//! How a phase is served: each session that has lines in a thread of its own, with a pass of its own.
+
+ghost use Rattle.std.specs.Prelude.{◌≡◌, ◌≤◌, ◌<◌, ◌⊎◌, true, false, [], length, IfOk, IfErr, IsOkAnd, IsErrOf};
+ghost use Rattle.std.specs.Thread.{IsSync};
+ghost use Rattle.dc_cache.specs.Passes.{known, share, Fits};
+ghost use Rattle.dc_lang.specs.Commands.{meaning_of};
+ghost use Rattle.dc_serve.specs.Bytes.{IsServiceFault};
+ghost use Rattle.dc_serve.specs.Phases.{by_session, of_sessions, ordered, ordered_by};
+ghost use Rattle.dc_serve.specs.Sessions.{ObeyedBelow, SameShare, TookInSome, outcome};
+ghost use Rattle.dc_serve.specs.Threads.{Adds, GaveBack, book, is_order_of};
+ghost use Rattle.dc_table.specs.Shares.{both};
+ghost use Rattle.dc_serve.specs.declared.fault.ServeFault.TheVariants.{NoMemory};
+
+use crate::session::{Phase, SessionReplies};
+use crate::{Gate, ServeFault};
+use dc_cache::{Dcache, Pass};
+use dc_lang::{Line, SESSIONS};
+use std::alloc::Global;
+use std::snapshot::Snapshot;
+use std::sync::Wait;
+use std::sync::atomic::{AtomicU64, Ordering};
+use std::thread;
+use std::thread::{Promise, Scope, Threads};
+
+/// What a phase is answered, and where each session starts from then on.
+#[derive(Drop)]
+pub struct PhaseReplies {
+    pub text: Vec<u8>,
+    pub bases: [u64; 16],
+}
+
+/// What a session's thread was handed, and so what it gives back.
+#[derive(Drop)]
+pub struct Handed<'a> {
+    cache: &'a Dcache,
+    pass: Snapshot<Pass>,
+    session: u64,
+    base: u64,
+    lines: &'a [Line],
+}
+
+impl<'a> Promise<(Pass, Result<SessionReplies, ServeFault>)> for Handed<'a> {
+    ghost kept_by = { λ p r. GaveBack p.cache.now p.pass.value p.base
+        (ordered_by p.session p.lines.now) r.0 r.1 };
+}
+
+fn is_of(session: u64, line: &Line) -> bool
+    ensures { result ≡ is_order_of session (meaning_of line.now) }
+{
+    match line {
+        Line::Command(command) => command.session == session,
+        Line::Sync => false,
+    }
+}
+
+/// Whether a session has a line.
+fn has_lines(session: u64, lines: &[Line]) -> bool
+    ensures none { result ≡ false → ordered_by session lines.now ≡ [] }
+    ensures some { result ≡ true → 0 < length (ordered_by session lines.now) }
+{
+    for line in lines {
+        if is_of(session, line) {
+            return true;
+        }
+    }
+    false
+}
+
+/// The replies of some sessions, and of one more.
+fn with_session(
+    others: Result<PhaseReplies, ServeFault>,
+    session: u64,
+    told: Result<SessionReplies, ServeFault>,
+) -> Result<PhaseReplies, ServeFault>
+    requires { session < SESSIONS }
+    ensures ok { IfOk result (λ all. IsOkAnd others (λ front.
+        IsOkAnd told (λ last. Adds front session last all))) }
+    ensures err { IfErr result (λ fault.
+        (fault ≡ NoMemory) ⊎ (IsErrOf others fault ⊎ IsErrOf told fault)) }
+{
+    let mut replies = others?;
+    let told = told?;
+    replies.text.extend_from_slice(&told.text)?;
+    replies.bases[session as usize] = told.base;
+    Ok(replies)
+}
+
+/// Takes in what a session's thread gave back, behind the sessions below it.
+fn take_in(
+    cache: &Dcache,
+    mut pass: Pass,
+    others: Result<PhaseReplies, ServeFault>,
+    session: u64,
+    back: (Pass, Result<SessionReplies, ServeFault>),
+) -> (Pass, Result<PhaseReplies, ServeFault>)
+    requires pass { Fits cache.now pass × Fits cache.now back.0 }
+    requires session { session < SESSIONS }
+    ensures pass { Fits cache.now result.0
+        × (known result.0 ≡ both (known pass) (known back.0)) }
+    ensures ok { IfOk result.1 (λ all. IsOkAnd others (λ front.
+        IsOkAnd back.1 (λ last. Adds front session last all))) }
+    ensures err { IfErr result.1 (λ fault.
+        (fault ≡ NoMemory) ⊎ (IsErrOf others fault ⊎ IsErrOf back.1 fault)) }
+{
+    let (child, told) = back;
+    cache.join(&mut pass, child);
+    (pass, with_session(others, session, told))
+}
+
+/// Serves the sessions below `count` that have lines, each in a thread of its own with a pass of its
+/// own, and takes these passes in. A session stops at its first fault; the others run to their ends.
+fn serve_sessions<'s, E, R: Threads + Wait + Sync, G: Gate>(
+    rt: &'s R,
+    scope: &'s Scope<'s, E>,
+    phase: &Phase<'s, G>,
+    mut pass: Pass,
+    count: u64,
+    bases: [u64; 16],
+) -> (Pass, Result<PhaseReplies, ServeFault>)
+    requires pass { Fits phase.now.cache.now pass }
+    requires count { count ≤ SESSIONS }
+    ensures pass { Fits phase.now.cache.now result.0 × SameShare (share pass) (share result.0) }
+    ensures took_in { TookInSome (length (of_sessions count (ordered phase.now.lines.now)))
+        (book pass) (book result.0) }
+    ensures ok { IfOk result.1 (λ replies. ObeyedBelow (book pass) bases count
+        (ordered phase.now.lines.now) (outcome replies.text.items replies.bases)
+        (book result.0)) }
+    ensures err { IfErr result.1 (IsServiceFault (book result.0).seen) }
+{
+    let Phase {
+        cache,
+        alloc,
+        first,
+        lines,
+        gate,
+        refused,
+    } = *phase;
+    if count == 0 {
+        let text = Vec::new(alloc);
+        return (pass, Ok(PhaseReplies { text, bases }));
+    }
+    let session = count - 1;
+    if !has_lines(session, lines) {
+        return serve_sessions(rt, scope, phase, pass, session, bases);
+    }
+    let child = cache.split(&mut pass);
+    let base = bases[session as usize];
+    let handed = Handed {
+        cache,
+        pass: Snapshot::of(&child),
+        session,
+        base,
+        lines,
+    };
+    let started = scope.spawn_with(
+        handed,
+        move || -> (Pass, Result<SessionReplies, ServeFault>)
+            requires { IsSync R.row × IsSync G.row × Fits cache.now child }
+            ensures { GaveBack cache.entry.now child base (ordered_by session lines.entry.now)
+                result.0 result.1 }
+        {
+            let phase = Phase {
+                cache,
+                alloc,
+                first,
+                lines,
+                gate,
+                refused,
+            };
+            phase.serve_session(rt, child, session, base)
+        },
+    );
+    let (pass, others) = serve_sessions(rt, scope, phase, pass, session, bases);
+    let back = match started {
+        Ok(handle) => handle.join(rt),
+        Err(left) => {
+            // The pass of a thread that couldn't be started lies in its closure, and a dropped pass
+            // would take its part of the whole with it. So the closure is called, which sees that
+            // its session is refused and gives the pass back.
+            refused.store(session, Ordering::SeqCst);
+            (left.value)()
+        }
+    };
+    take_in(cache, pass, others, session, back)
+}
+
+/// Serves a phase: each session that has lines in a thread of its own.
+pub fn serve_phase<R: Threads + Wait + Sync, G: Gate>(
+    rt: &R,
+    phase: &Phase<'_, G>,
+    pass: Pass,
+    bases: [u64; 16],
+) -> (Pass, Result<PhaseReplies, ServeFault>)
+    requires { Fits phase.now.cache.now pass }
+    ensures pass { Fits phase.now.cache.now result.0 × SameShare (share pass) (share result.0) }
+    ensures took_in { TookInSome (length (by_session (ordered phase.now.lines.now)))
+        (book pass) (book result.0) }
+    ensures ok { IfOk result.1 (λ replies. ObeyedBelow (book pass) bases SESSIONS
+        (ordered phase.now.lines.now) (outcome replies.text.items replies.bases)
+        (book result.0)) }
+    ensures err { IfErr result.1 (IsServiceFault (book result.0).seen) }
+{
+    let Phase {
+        cache,
+        alloc,
+        first,
+        lines,
+        gate,
+        refused,
+    } = *phase;
+    thread::scope(
+        thread::scope_env(),
+        rt,
+        move |scope| -> (Pass, Result<PhaseReplies, ServeFault>)
+            requires { IsSync R.row × IsSync G.row × Fits cache.now pass }
+            ensures pass { Fits cache.entry.now result.0 × SameShare (share pass) (share result.0) }
+            ensures took_in { TookInSome (length (by_session (ordered lines.entry.now)))
+                (book pass) (book result.0) }
+            ensures ok { IfOk result.1 (λ replies. ObeyedBelow (book pass) bases SESSIONS
+                (ordered lines.entry.now) (outcome replies.text.items replies.bases)
+                (book result.0)) }
+            ensures err { IfErr result.1 (IsServiceFault (book result.0).seen) }
+        {
+            let phase = Phase {
+                cache,
+                alloc,
+                first,
+                lines,
+                gate,
+                refused,
+            };
+            serve_sessions(rt, scope, &phase, pass, SESSIONS, bases)
+        },
+    )
+}

@@ -1,0 +1,157 @@
+//! How the commands of one session are answered.
+
+ghost use Rattle.std.specs.Prelude.{◌≡◌, ◌∷◌, [], OnOk, IfOk, IfErr, length};
+ghost use Rattle.dc_cache.specs.Passes.{share, Fits};
+ghost use Rattle.dc_lang.specs.Commands.{order_of};
+ghost use Rattle.dc_plain.specs.Requests.{answer_of};
+ghost use Rattle.dc_serve.specs.Bytes.{IsServiceFault};
+ghost use Rattle.dc_serve.specs.Phases.{ordered_by};
+ghost use Rattle.dc_serve.specs.Serving.{base_after};
+ghost use Rattle.dc_serve.specs.Sessions.{Obeyed, RecordedSome, progress};
+ghost use Rattle.dc_serve.specs.Threads.{GaveBack, book};
+
+use crate::calls::answer;
+use crate::{Gate, ServeFault};
+use dc_cache::{Dcache, Pass};
+use dc_lang::{Command, Line, Verb, call, write_reply};
+use dc_plain::Reply;
+use std::alloc::Global;
+use std::sync::Wait;
+use std::sync::atomic::{AtomicU64, Ordering};
+
+/// What a session is answered in a phase, and where it starts from then on.
+#[derive(Drop)]
+pub struct SessionReplies {
+    pub text: Vec<u8>,
+    pub base: u64,
+}
+
+/// The lines of a phase, and what serves its sessions.
+#[derive(Drop)]
+pub struct Phase<'a, G: Gate> {
+    pub cache: &'a Dcache,
+    pub alloc: Global,
+    /// The number of its first line.
+    pub first: u64,
+    pub lines: &'a [Line],
+    pub gate: &'a G,
+    /// The last session for which no thread could be started, or `SESSIONS`.
+    pub refused: &'a AtomicU64,
+}
+
+/// Where a session starts once a command is answered.
+fn base_after(command: &Command, reply: &Reply, base: u64) -> u64
+    ensures { result ≡ base_after command.now.verb (answer_of reply.now) base }
+{
+    match (command.verb, reply) {
+        (Verb::Cd, Reply::Found(number, _)) => *number,
+        _ => base,
+    }
+}
+
+/// Answers a command, after the text.
+fn obey<R: Wait>(
+    rt: &R,
+    cache: &Dcache,
+    alloc: Global,
+    pass: &mut Pass,
+    command: &Command,
+    replies: &mut SessionReplies,
+) -> Result<(), ServeFault>
+    requires { Fits cache.now pass.old }
+    ensures same { Fits cache.now pass.new × (share pass.new ≡ share pass.old) }
+    ensures recorded { RecordedSome 1 (book pass.old) (book pass.new) }
+    ensures ok { OnOk result (Obeyed (book pass.old)
+        (progress replies.old.text.items replies.old.base) (order_of command.now ∷ [])
+        (progress replies.new.text.items replies.new.base) (book pass.new)) }
+    ensures err { IfErr result (IsServiceFault (book pass.new).seen) }
+{
+    let stamped = answer(rt, cache, alloc, pass, &call(command, replies.base))?;
+    let line = write_reply(alloc, command.session, &stamped)?;
+    replies.text.extend_from_slice(&line)?;
+    replies.base = base_after(command, &stamped.reply, replies.base);
+    Ok(())
+}
+
+impl<'a, G: Gate> Phase<'a, G> {
+    /// Answers a line if it is a command of the session, after the text.
+    fn serve_line<R: Wait>(
+        &self,
+        rt: &R,
+        pass: &mut Pass,
+        session: u64,
+        number: u64,
+        line: &Line,
+        replies: &mut SessionReplies,
+    ) -> Result<(), ServeFault>
+        requires { Fits self.now.cache.now pass.old }
+        ensures same { Fits self.now.cache.now pass.new × (share pass.new ≡ share pass.old) }
+        ensures recorded { RecordedSome (length (ordered_by session (line.now ∷ [])))
+            (book pass.old) (book pass.new) }
+        ensures ok { OnOk result (Obeyed (book pass.old)
+            (progress replies.old.text.items replies.old.base)
+            (ordered_by session (line.now ∷ []))
+            (progress replies.new.text.items replies.new.base) (book pass.new)) }
+        ensures err { IfErr result (IsServiceFault (book pass.new).seen) }
+    {
+        let Line::Command(command) = line else {
+            return Ok(());
+        };
+        if command.session != session {
+            return Ok(());
+        }
+        self.gate.before(session, number);
+        obey(rt, self.cache, self.alloc, pass, command, replies)?;
+        self.gate.after(session, number);
+        Ok(())
+    }
+
+    /// Answers the commands of a session, which starts at `base`.
+    fn serve_lines<R: Wait>(
+        &self,
+        rt: &R,
+        pass: &mut Pass,
+        session: u64,
+        base: u64,
+    ) -> Result<SessionReplies, ServeFault>
+        requires { Fits self.now.cache.now pass.old }
+        ensures same { Fits self.now.cache.now pass.new × (share pass.new ≡ share pass.old) }
+        ensures recorded { RecordedSome (length (ordered_by session self.now.lines.now))
+            (book pass.old) (book pass.new) }
+        ensures ok { IfOk result (λ replies. Obeyed (book pass.old) (progress [] base)
+            (ordered_by session self.now.lines.now)
+            (progress replies.text.items replies.base) (book pass.new)) }
+        ensures err { IfErr result (IsServiceFault (book pass.new).seen) }
+    {
+        let mut replies = SessionReplies {
+            text: Vec::new(self.alloc),
+            base,
+        };
+        for (at, line) in self.lines.iter().enumerate() {
+            // The sum would be wrong past 2^64, which no number of a line of the input comes near.
+            let number = self.first.saturating_add(at as u64);
+            self.serve_line(rt, pass, session, number, line, &mut replies)?;
+        }
+        Ok(replies)
+    }
+
+    /// Answers the commands of a session with a pass that it gives back, unless no thread could be
+    /// started for it: then it is the only way to its pass, and answers nothing.
+    pub fn serve_session<R: Wait>(
+        &self,
+        rt: &R,
+        mut pass: Pass,
+        session: u64,
+        base: u64,
+    ) -> (Pass, Result<SessionReplies, ServeFault>)
+        requires { Fits self.now.cache.now pass }
+        ensures { GaveBack self.now.cache.now pass base
+            (ordered_by session self.now.lines.now) result.0 result.1 }
+    {
+        if self.refused.load(Ordering::SeqCst) == session {
+            return (pass, Err(ServeFault::NoMemory));
+        }
+        let replies = self.serve_lines(rt, &mut pass, session, base);
+        (pass, replies)
+    }
+}
