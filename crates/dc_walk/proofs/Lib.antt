@@ -10,3 +10,4 @@ pub mod Questions
 pub mod Ended
 pub mod Checks
 pub mod Unasked
+pub mod Runs
