@@ -1,4 +1,4 @@
-ghost use Rattle.std.specs.Prelude.{◌≡◌, ◌<◌, ◌≤◌, ◌*◌, ◌/◌, ◌≢◌, ℕ, OnOk, OnErr, IfOk, IfSome, length, replicate, slice_set, map};
+ghost use Rattle.std.specs.Prelude.{◌≡◌, ◌<◌, ◌≤◌, ◌*◌, ◌/◌, ◌%◌, ◌≢◌, ℕ, OnOk, OnErr, IfOk, IfSome, length, replicate, slice_set, map};
 ghost use Rattle.dc_plain.specs.KeysShown.{key_shown, label_shown};
 ghost use Rattle.dc_index.specs.Slots.{slot_of, cleared, bucket_of, bucket_in, label_bytes, IsIndex, IsRowOf};
 ghost use Rattle.dc_index.specs.Slots.Slot.{Free as IsFree, Retired as IsRetired, Holds};
@@ -48,7 +48,20 @@ pub fn bucket_of(key: &Key<'_>, buckets: u64) -> u64
     ensures bucket { result ≡ bucket_of (key_shown key.now) buckets }
     ensures within { result < buckets }
 {
-    hash(key.number, label_bytes(&key.label)) % buckets
+    remainder(hash(key.number, label_bytes(&key.label)), buckets)
+}
+
+/// The remainder of a hash. The number of buckets is mostly a power of two, and then nothing is divided.
+fn remainder(hash: u64, buckets: u64) -> u64
+    requires { 0 < buckets }
+    ensures { result ≡ hash % buckets }
+{
+    let power = buckets.trailing_zeros();
+    if buckets == 1u64.wrapping_shl(power) {
+        hash & (buckets - 1)
+    } else {
+        hash % buckets
+    }
 }
 
 impl Index {

@@ -2,3 +2,4 @@ pub mod Parts
 pub mod Valid
 pub mod Named
 pub mod Packed
+pub mod Short

@@ -1,18 +1,38 @@
 //! The hash of keys: FNV-1a.
 
 ghost use Rattle.std.specs.Prelude.{◌≡◌};
+ghost use Rattle.std.specs.Int.{w64, to_le_bytes};
 ghost use Rattle.dc_names.specs.Hash.{hash_of, hash_from};
 
 const BASIS: u64 = 14695981039346656037;
 
 const PRIME: u64 = 1099511628211;
 
+/// Powers of the prime, in 64 bits.
+const PRIME_4: u64 = 11527715348014283921;
+const PRIME_7: u64 = 14218562807570617051;
+
 /// The hash of a number and the bytes beside it, by FNV-1a with 64 bits.
 #[must_use]
 pub fn hash(number: u64, bytes: &[u8]) -> u64
     ensures { result ≡ hash_of number bytes.now }
 {
-    hash_from(hash_from(BASIS, &number.to_le_bytes()), bytes)
+    hash_from(hash_number(number), bytes)
+}
+
+/// The hash of the eight bytes of a number. A zero byte does no more than multiply, so those above a
+/// small number are one multiplication by a power.
+fn hash_number(number: u64) -> u64
+    ensures { result ≡ hash_from BASIS (to_le_bytes w64 number) }
+{
+    if number < 1 << 16 {
+        let low = (BASIS ^ (number % 256)).wrapping_mul(PRIME);
+        return (low ^ (number / 256)).wrapping_mul(PRIME_7);
+    }
+    match u32::try_from(number) {
+        Ok(low) => hash_from(BASIS, &low.to_le_bytes()).wrapping_mul(PRIME_4),
+        Err(_) => hash_from(BASIS, &number.to_le_bytes()),
+    }
 }
 
 fn hash_from(start: u64, bytes: &[u8]) -> u64

@@ -26,7 +26,7 @@ pub fn parse(bytes: &[u8]) -> Result<PathText<'_>, TextFault>
         Err(TextFault::Empty)
     } else if bytes.len() > PATH_MAX || has_long_piece(bytes) {
         Err(TextFault::Long)
-    } else if bytes.contains(&0) {
+    } else if has_zero(bytes) {
         Err(TextFault::Zero)
     } else {
         Ok(PathText { bytes })
@@ -37,9 +37,18 @@ pub fn parse(bytes: &[u8]) -> Result<PathText<'_>, TextFault>
 fn has_long_piece(bytes: &[u8]) -> bool
     ensures { result ≡ list_any (λ piece. nat_lt NAME_MAX (length piece)) (pieces bytes.now) }
 {
-    bytes
-        .split(|b| *b == b'/')
-        .any(|piece| piece.len() > NAME_MAX)
+    // No piece is longer than the text, and most texts are short.
+    bytes.len() > NAME_MAX
+        && bytes
+            .split(|b| *b == b'/')
+            .any(|piece| piece.len() > NAME_MAX)
+}
+
+/// Whether a zero byte stands there. It looks at all bytes, so that many are looked at at a time.
+fn has_zero(bytes: &[u8]) -> bool
+    ensures { result ≡ list_any (λ b. b == 0) bytes.now }
+{
+    bytes.iter().fold(false, |zero, b| zero | (*b == 0))
 }
 
 impl<'a> PathText<'a> {

@@ -51,13 +51,3 @@ any_count m n words fact s = record {
   bytes = s.bytes;
   spelled = λ i pos lt. later_same m n words i pos ∙ s.spelled i pos lt;
 }
-
--- words with the fields of an entry spell it
-pub entry_spelled : {words text : List ℕ} {kind number value : ℕ} {label : Label} {target : Option Target} → length words ≡ ROW_WORDS → IsTrue (has_spelling (Some (Leads number label target))) → AreBytes text
-    → kind ≡ kind_code target → value ≡ target_number target → text ≡ label_bytes label → IsSpelled words (fields 1 kind number value text) → Spells words (Some (Leads number label target))
-entry_spelled {number = number} size allowed bytes kind value text spelled = record {
-  size = size;
-  allowed = allowed;
-  bytes = subst AreBytes text bytes;
-  spelled = λ i pos lt. spelled i pos lt ∙ (λ j. word_at (fields 1 (kind j) number (value j) (text j)) i);
-}

@@ -1,49 +1,73 @@
 //! An entry that is sought in the words of rows, which are compared and not decoded.
 
-ghost use Rattle.std.specs.Prelude.{◌≡◌, Option, Some, IfSome, IfNone};
+ghost use Rattle.std.specs.Prelude.{◌≡◌, ◌≤◌, ◌↔◌, length, Option, Some, IfSome, IfNone, IsTrue};
+ghost use Rattle.dc_names.specs.Words.{AreBytes};
 ghost use Rattle.dc_plain.specs.Facts.{Target};
 ghost use Rattle.dc_plain.specs.Facts.Fact.{Leads};
 ghost use Rattle.dc_plain.specs.KeysShown.{key_shown};
-ghost use Rattle.dc_row.specs.Spelling.{Spells, has_spelling};
+ghost use Rattle.dc_row.specs.Spelling.{Spells, has_spelling, fields, IsSpelled};
+ghost use Rattle.dc_row.specs.declared.TheConstants.{ROW_WORDS, ROW_TEXT};
 
 use crate::reading::target_in;
-use crate::writing::{is_numbered, kind_code, spell, target_number};
-use crate::{ROW_TEXT, ROW_WORDS, length, number};
+use crate::writing::{is_numbered, kind_code, target_number, text_word};
+use crate::{ROW_TEXT, ROW_WORDS, number};
 use dc_names::Kind;
 use dc_plain::{Key, Label};
 
 /// Where the words say that the entry of a key leads, or `None` where they spell no entry of that
 /// key. The sequence count isn't looked at, and no row spells an entry of the label `Text`.
+#[inline]
 pub fn entry_in(words: &[u64], key: Key<'_>) -> Option<Option<(u64, Kind)>>
     ensures spelled { IfSome result (λ target. let key = key_shown key.entry in
         Spells words.now (Some (Leads key.number key.label target))) }
     ensures none { IfNone result ((target : Option Target) → let key = key_shown key.entry in
         Spells words.now (Some (Leads key.number key.label target)) → ⊥) }
 {
-    let text = key.label.bytes();
-    // Most rows of a bucket are of another directory: one word tells, and no text is packed.
-    if words.len() != ROW_WORDS
-        || number(words) != key.number
-        || length(words) != text.len() as u64
-    {
+    // Most rows of a bucket are of another directory: one word tells, and no text is looked at.
+    if words.len() != ROW_WORDS || number(words) != key.number {
         return None;
     }
+    compared(words, key)
+}
+
+/// The same of a row of the key's directory.
+fn compared(words: &[u64], key: Key<'_>) -> Option<Option<(u64, Kind)>>
+    requires size { length words.now ≡ ROW_WORDS }
+    ensures spelled { IfSome result (λ target. let key = key_shown key.entry in
+        Spells words.now (Some (Leads key.number key.label target))) }
+    ensures none { IfNone result ((target : Option Target) → let key = key_shown key.entry in
+        Spells words.now (Some (Leads key.number key.label target)) → ⊥) }
+{
     let target = target_in(words);
     if !has_spelling(key, &target) {
         return None;
     }
-    let spelled = spell(
-        1,
-        kind_code(&target),
-        key.number,
-        target_number(&target),
-        text,
-    );
-    if spelled[1..] == words[1..] {
+    let (kind, value) = (kind_code(&target), target_number(&target));
+    if is_entry(words, kind, key.number, value, key.label.bytes()) {
         Some(target)
     } else {
         None
     }
+}
+
+/// Whether the words after the sequence count are those of an entry with these fields.
+fn is_entry(words: &[u64], kind: u64, number: u64, value: u64, text: &[u8]) -> bool
+    requires size { length words.now ≡ ROW_WORDS }
+    requires kind { kind ≤ 3 }
+    requires room { length text.now ≤ ROW_TEXT }
+    ensures bytes { AreBytes text.now }
+    ensures is { IsTrue result ↔ IsSpelled words.now (fields 1 kind number value text.now) }
+{
+    let head = 1 + 256 * text.len() as u64 + 16777216 * kind;
+    if words[1] != head || words[2] != number || words[3] != value {
+        return false;
+    }
+    'text: for i in 4..ROW_WORDS {
+        if words[i] != text_word(text, i - 4) {
+            return false;
+        }
+    }
+    true
 }
 
 /// Whether an entry can stand in a row.

@@ -103,11 +103,13 @@ pub(crate) fn spell(tag: u64, kind: u64, number: u64, value: u64, text: &[u8]) -
 }
 
 /// Eight bytes of a text in one word, with zeros past its end.
-fn text_word(text: &[u8], at: usize) -> u64
+pub(crate) fn text_word(text: &[u8], at: usize) -> u64
     requires { at < ROW_WORDS }
     ensures { result ≡ text_word text.now at }
 {
-    let start = text.len().min(8 * at);
-    let end = text.len().min(8 * at + 8);
-    pack(&text[start..end])
+    if text.len() <= 8 * at {
+        return 0;
+    }
+    let rest = &text[8 * at..];
+    pack(&rest[..rest.len().min(8)])
 }

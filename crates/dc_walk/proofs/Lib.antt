@@ -13,3 +13,4 @@ pub mod Fasted
 pub mod Pinnings
 pub mod ByHand
 pub mod Unasked
+pub mod Runs

@@ -1,32 +1,32 @@
 //! Names that no row has room for.
 
-ghost use Rattle.std.specs.Prelude.{◌≡◌};
-ghost use Rattle.std.specs.List.{list_any};
-ghost use Rattle.dc_names.specs.Names.{part_shown};
-ghost use Rattle.dc_names.specs.Paths.{parts_of};
-ghost use Rattle.dc_walk.specs.Long.{is_long, has_long_name};
+ghost use Rattle.std.specs.Prelude.{◌≡◌, ◌≢◌, ◌<◌, ℕ, length, slice_index, IfSome, IfNone};
+ghost use Rattle.dc_walk.specs.Long.{has_long_name};
 
-use dc_names::{Part, PathText};
+use dc_names::PathText;
 use dc_row::ROW_TEXT;
-
-/// Whether a part is a name of more bytes than a row has room for.
-fn is_long(part: Part<'_>) -> bool
-    ensures { result ≡ is_long (part_shown part.entry) }
-{
-    match part {
-        Part::Normal(name) => name.bytes().len() > ROW_TEXT,
-        Part::Dot | Part::DotDot => false,
-    }
-}
 
 /// Whether a path has a name of more bytes than a row has room for.
 pub(crate) fn has_long_name(path: PathText<'_>) -> bool
     ensures { result ≡ has_long_name path.entry.bytes.now }
 {
-    for part in path.components() {
-        if is_long(part) {
-            return true;
+    let mut rest = path.bytes();
+    'names: while rest.len() > ROW_TEXT {
+        // A name that begins here has no room where no slash ends it in time. All names that end before
+        // the last slash that does are as short, so none of them is looked at.
+        match last_slash(&rest[..ROW_TEXT + 1]) {
+            Some(at) => rest = &rest[at + 1..],
+            None => return true,
         }
     }
     false
+}
+
+/// Where the last slash stands.
+fn last_slash(bytes: &[u8]) -> Option<usize>
+    ensures at { IfSome result (λ at. at < length bytes.now) }
+    ensures some { IfSome result (λ at. slice_index bytes.now at ≡ 47) }
+    ensures none { IfNone result ((i : ℕ) → i < length bytes.now → slice_index bytes.now i ≢ 47) }
+{
+    bytes.iter().rposition(|b| *b == b'/')
 }

@@ -4,4 +4,4 @@ use Rattle.dc_names.proofs.fnv.hash.Goals as goal
 
 pub returns : goal.returns
 unfolding hash_of
-returns c = rw (c.hash_from-2.ensures, c.hash_from.ensures, c.to_le_bytes.ensures) refl
+returns c = rw (c.hash_from.ensures, c.hash_number.ensures) refl

@@ -1,0 +1,185 @@
+//! Look-ups of the files of a tree in a random order, and how long they take.
+
+ghost use Rattle.dc_walk.specs.Findings.{CanWalk};
+
+use crate::tree::{Notes, make, number_of};
+use dc_names::{PathText, parse};
+use dc_table::{Pass, Shared};
+use std::alloc::Global;
+use std::rt::Clock;
+use std::sync::Wait;
+use std::time::{Duration, Instant};
+
+/// How many turns of how many look-ups.
+#[derive(Clone, Copy)]
+pub struct Sizes {
+    pub turns: u64,
+    pub looks: u64,
+}
+
+/// How many look-ups of the last turn found something, and the least nanoseconds of a turn, without
+/// the test of the paths' texts and with it.
+#[derive(Clone, Copy)]
+pub struct Looked {
+    pub found: u64,
+    pub fast: u64,
+    pub parsed: u64,
+}
+
+/// The next number of a fixed sequence.
+fn next(seed: u64) -> u64 {
+    seed.wrapping_mul(6364136223846793005)
+        .wrapping_add(1442695040888963407)
+}
+
+/// So many of some paths in a random order.
+fn shuffled<'a>(alloc: Global, files: &[PathText<'a>], looks: u64) -> Option<Vec<PathText<'a>>> {
+    let mut order = Vec::new(alloc);
+    let mut seed = 1;
+    if files.is_empty() {
+        return None;
+    }
+    for _ in 0..looks {
+        seed = next(seed);
+        let at = (seed >> 33) as usize % files.len();
+        order.push(files[at]).ok()?;
+    }
+    Some(order)
+}
+
+/// How many of the paths lead somewhere.
+fn found(shared: &Shared, pass: &mut Pass, notes: &mut Notes, paths: &[PathText<'_>]) -> u64
+    requires { CanWalk shared.now pass.old }
+    ensures { CanWalk shared.now pass.new }
+{
+    let mut found: u64 = 0;
+    for path in paths {
+        let number = number_of(shared, pass, notes, *path);
+        found = found.wrapping_add(u64::from(number.is_some()));
+    }
+    found
+}
+
+/// The same, with the texts of the paths tested anew.
+fn parsed(shared: &Shared, pass: &mut Pass, notes: &mut Notes, paths: &[PathText<'_>]) -> u64
+    requires { CanWalk shared.now pass.old }
+    ensures { CanWalk shared.now pass.new }
+{
+    let mut found: u64 = 0;
+    for path in paths {
+        if let Ok(path) = parse(path.bytes()) {
+            let number = number_of(shared, pass, notes, path);
+            found = found.wrapping_add(u64::from(number.is_some()));
+        }
+    }
+    found
+}
+
+fn nanoseconds(time: Duration) -> u64 {
+    time.as_secs()
+        .wrapping_mul(1_000_000_000)
+        .wrapping_add(u64::from(time.subsec_nanos()))
+}
+
+/// One turn without the test of texts and one with it.
+fn turn<R: Clock>(
+    rt: &R,
+    shared: &Shared,
+    pass: &mut Pass,
+    notes: &mut Notes,
+    paths: &[PathText<'_>],
+) -> Option<Looked>
+    requires { CanWalk shared.now pass.old }
+    ensures { CanWalk shared.now pass.new }
+{
+    let start = Instant::now(rt).ok()?;
+    let found = found(shared, pass, notes, paths);
+    let middle = Instant::now(rt).ok()?;
+    let again = parsed(shared, pass, notes, paths);
+    let end = Instant::now(rt).ok()?;
+    if again != found {
+        return None;
+    }
+    Some(Looked {
+        found,
+        fast: nanoseconds(middle.duration_since(start)),
+        parsed: nanoseconds(end.duration_since(middle)),
+    })
+}
+
+/// The best of so many turns, one at least.
+fn best_turn<R: Clock>(
+    rt: &R,
+    shared: &Shared,
+    pass: &mut Pass,
+    notes: &mut Notes,
+    paths: &[PathText<'_>],
+    turns: u64,
+) -> Option<Looked>
+    requires { CanWalk shared.now pass.old }
+{
+    let mut best = turn(rt, shared, pass, notes, paths)?;
+    'turns: for _ in 1..turns {
+        let now = turn(rt, shared, pass, notes, paths)?;
+        best.fast = best.fast.min(now.fast);
+        best.parsed = best.parsed.min(now.parsed);
+    }
+    Some(best)
+}
+
+/// The lines of some bytes that are not empty.
+fn lines_in(alloc: Global, bytes: &[u8]) -> Option<Vec<&[u8]>> {
+    let mut lines = Vec::new(alloc);
+    for line in bytes.split(|b| *b == b'\n') {
+        if !line.is_empty() {
+            lines.push(line).ok()?;
+        }
+    }
+    Some(lines)
+}
+
+/// Makes the tree of some lines, fills a row for each of its names, and answers the paths of its
+/// files.
+fn plant<'a, R: Wait>(
+    rt: &R,
+    alloc: Global,
+    shared: &Shared,
+    pass: &mut Pass,
+    notes: &mut Notes,
+    lines: &[&'a [u8]],
+) -> Option<Vec<PathText<'a>>>
+    requires { CanWalk shared.now pass.old }
+    ensures { CanWalk shared.now pass.new }
+{
+    let mut files = Vec::new(alloc);
+    'lines: for line in lines {
+        make(rt, alloc, shared, pass, notes, line)?;
+        if let [b'f', b' ', path @ ..] = line {
+            files.push(parse(path).ok()?).ok()?;
+        }
+    }
+    Some(files)
+}
+
+/// Makes the tree of some lines on a table of 1,024 buckets, with a row for each name, and looks files
+/// up. `None` where memory or the clock is refused, or a line is none of a tree.
+pub fn look_all<R: Wait + Clock>(
+    rt: &R,
+    alloc: Global,
+    lines: &[u8],
+    sizes: Sizes,
+) -> Option<Looked> {
+    let (shared, mut pass) = Shared::new(alloc, 1024, 65_536).ok()?;
+    let mut notes = Notes::new();
+    let lines = lines_in(alloc, lines)?;
+    let files = plant(rt, alloc, &shared, &mut pass, &mut notes, lines.as_slice())?;
+    let paths = shuffled(alloc, files.as_slice(), sizes.looks)?;
+    best_turn(
+        rt,
+        &shared,
+        &mut pass,
+        &mut notes,
+        paths.as_slice(),
+        sizes.turns,
+    )
+}
