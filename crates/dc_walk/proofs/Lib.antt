@@ -11,4 +11,5 @@ pub mod Ended
 pub mod Checks
 pub mod Fasted
 pub mod Pinnings
+pub mod ByHand
 pub mod Unasked
