@@ -8,12 +8,13 @@ ghost use Rattle.dc_plain.specs.Facts.{told_by};
 ghost use Rattle.dc_plain.specs.Requests.Request.{Look};
 ghost use Rattle.dc_walk.specs.Fasts.{Keeps, IfAgain, IsLongAgain, outcome_by};
 ghost use Rattle.dc_walk.specs.Long.{has_long_name};
+ghost use Rattle.dc_walk.specs.Pinned.{Tried};
 ghost use Rattle.dc_walk.specs.declared.TheConstants.{MOST_LOADS};
 
 use crate::cache::{Dcache, Pass};
 use dc_names::{PathText, TextFault, parse};
 use dc_plain::{Call, Follow, Reply, Stamped};
-use dc_walk::{Quick as Fast, fast};
+use dc_walk::{Quick as Fast, counted, fast, locked};
 use std::alloc::Global;
 use std::sync::Wait;
 
@@ -33,12 +34,33 @@ impl Dcache {
         fast(&self.shared, seat, used, base, path, follow)
     }
 
-    /// Where a path leads. It goes by the rows first, then fills them as it goes, and asks under the
-    /// lock where that doesn't answer either; the second and the third wait for the lock.
+    /// Where a path leads, by rows that are filled from the tree where none has the key. It waits for
+    /// the lock, once for each question. `Again` says why no row could be had or didn't stay, `Memory`
+    /// where memory for one was refused.
+    pub fn look_counted<R: Wait>(
+        &self,
+        rt: &R,
+        alloc: Global,
+        pass: &mut Pass,
+        base: u64,
+        path: PathText<'_>,
+        follow: Follow,
+    ) -> Fast
+        requires pass { Fits self.now pass.old }
+        ensures same { Fits self.now pass.new × (share pass.new ≡ share pass.old) }
+        ensures tried { Tried (Look base path.entry.bytes.now follow) (view pass.old)
+            (view pass.new) result }
+    {
+        let Pass { seat, used } = pass;
+        counted(&self.shared, rt, alloc, seat, used, base, path, follow)
+    }
+
+    /// Where a path leads, always answered. It goes by the rows alone, else by rows that it fills, else
+    /// under the lock; the last two wait for the lock. A text that is no path asks no question.
     pub fn look<R: Wait>(
         &self,
         rt: &R,
-        _alloc: Global,
+        alloc: Global,
         pass: &mut Pass,
         base: u64,
         path: &[u8],
@@ -55,7 +77,12 @@ impl Dcache {
         if let Fast::Done(stamped) = self.look_fast(pass, base, text, follow) {
             return stamped;
         }
-        self.locked(rt, pass, &Call::Look { base, path, follow })
+        let again = self.look_counted(rt, alloc, pass, base, text, follow);
+        if let Fast::Done(stamped) = again {
+            return stamped;
+        }
+        let call = Call::Look { base, path, follow };
+        locked(&self.shared, rt, &mut pass.seat, &call)
     }
 
     /// Answers a look-up whose text is refused, which asks no question.

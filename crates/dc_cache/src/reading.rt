@@ -3,15 +3,16 @@
 ghost use Rattle.std.specs.Prelude.{◌≡◌, IfOk, OnErr};
 ghost use Rattle.dc_cache.specs.Answers.{Answered};
 ghost use Rattle.dc_cache.specs.Passes.{view, share, Fits};
-ghost use Rattle.dc_ops.specs.Asked.{IsSought, IsToldAtLength};
+ghost use Rattle.dc_ops.specs.Asked.{IsToldAtLength};
 ghost use Rattle.dc_plain.specs.Requests.{request_of};
 ghost use Rattle.dc_plain.specs.Requests.Request.{Stat, Readlink, List_names};
 ghost use Rattle.dc_table.specs.Changes.{NothingNew};
 
 use crate::cache::{Dcache, Pass};
 use dc_names::NoMemory;
-use dc_ops::{ask, seek};
+use dc_ops::ask;
 use dc_plain::{Call, Stamped};
+use dc_walk::locked;
 use std::alloc::Global;
 use std::sync::Wait;
 
@@ -23,21 +24,7 @@ impl Dcache {
         ensures same { Fits self.now pass.new × (share pass.new ≡ share pass.old) }
         ensures answered { Answered pass.old pass.new (Stat base path.now) result }
     {
-        self.locked(rt, pass, &Call::Stat { base, path })
-    }
-
-    /// Answers a read whose reply takes no memory.
-    pub(crate) fn locked<R: Wait>(&self, rt: &R, pass: &mut Pass, call: &Call<'_>) -> Stamped
-        requires pass { Fits self.now pass.old }
-        requires call { IsSought call.now }
-        ensures same { Fits self.now pass.new × (share pass.new ≡ share pass.old) }
-        ensures answered { Answered pass.old pass.new (request_of call.now) result }
-    {
-        let kept = self.shared.take(rt, &mut pass.seat);
-        let at = kept.clock;
-        let reply = seek(&kept.store, call);
-        self.shared.answer(&mut pass.seat, kept, call);
-        Stamped { reply, at }
+        locked(&self.shared, rt, &mut pass.seat, &Call::Stat { base, path })
     }
 
     /// The text of the symbolic link that a path leads to; a last link isn't followed. It waits for the

@@ -93,9 +93,43 @@ fn a_pass_learns_how_far_another_came(rt: HostRuntime) -> Result<(), Fail> {
     assert!(rt; is_missed(&look_fast(&cache, &mut q, b"/a")));
     let found = cache.look(&rt, rt.alloc(), &mut q, 1, b"/a", Follow::Yes);
     assert!(rt; is(&found, &Reply::Found(2, Kind::Dir), 1));
+    let found = look_fast(&cache, &mut q, b"/a");
+    assert!(rt; is_done(&found, &Reply::Found(2, Kind::Dir), 1));
     cache.join(&mut p, q);
     let ended = cache.close(p).expect(&rt, "the lock is free");
     assert!(rt; ended.clock == 1 && ended.store.live() == 2);
+    Ok(())
+}
+
+/// A look-up that always asks under the lock would leave no row behind.
+#[test]
+fn a_look_fills_the_rows_that_it_needs(rt: HostRuntime) -> Result<(), Fail> {
+    let (cache, mut p) = Dcache::new(rt.alloc(), 1, 16).expect(&rt, "memory");
+    let made = cache.change(&rt, rt.alloc(), &mut p, &mkdir(b"/a"));
+    assert!(rt; is_made(&made, &Reply::Done(2), 0));
+    let found = cache.look(&rt, rt.alloc(), &mut p, 1, b"/a", Follow::Yes);
+    assert!(rt; is(&found, &Reply::Found(2, Kind::Dir), 1));
+    let found = look_fast(&cache, &mut p, b"/a");
+    assert!(rt; is_done(&found, &Reply::Found(2, Kind::Dir), 1));
+    Ok(())
+}
+
+/// A walk by rows that are there is no use of them, so the row of `/a` goes first.
+#[test]
+fn the_least_recently_used_rows_are_emptied(rt: HostRuntime) -> Result<(), Fail> {
+    let (cache, mut p) = Dcache::new(rt.alloc(), 1, 16).expect(&rt, "memory");
+    let a = parse(b"/a").ok().expect(&rt, "a path");
+    let found = cache.look_counted(&rt, rt.alloc(), &mut p, 1, a, Follow::Yes);
+    assert!(rt; is_done(&Some(found), &Reply::Refused(2), 0));
+    for path in [b"/b", b"/c", b"/a"] {
+        let found = cache.look(&rt, rt.alloc(), &mut p, 1, path, Follow::Yes);
+        assert!(rt; is(&found, &Reply::Refused(2), 0));
+    }
+    assert!(rt; cache.shrink(&rt, &mut p, 2) == 2);
+    assert!(rt; is_missed(&look_fast(&cache, &mut p, b"/a")));
+    assert!(rt; is_missed(&look_fast(&cache, &mut p, b"/b")));
+    assert!(rt; is_done(&look_fast(&cache, &mut p, b"/c"), &Reply::Refused(2), 0));
+    assert!(rt; cache.shrink(&rt, &mut p, 2) == 1);
     Ok(())
 }
 

@@ -12,7 +12,6 @@ use Rattle.dc_plain.specs.Resolution.{Outcome}
 use Rattle.dc_plain.specs.Requests.{Request, Answer}
 use Rattle.dc_plain.specs.Requests.Request.{Look}
 use Rattle.dc_row.specs.Decoding.{SpelledIsRead}
-use Rattle.dc_row.specs.declared.TheConstants.{ROW_WORDS}
 use Rattle.dc_events.specs.Views.{View, Note, Book}
 use Rattle.dc_events.specs.Views.Fault.{Changed}
 use Rattle.dc_events.specs.Walks.{no_note}
@@ -20,8 +19,8 @@ use Rattle.dc_events.specs.Noted.{facts_in}
 use Rattle.dc_events.specs.Effects.{begins, with_seen, with_record, concluded, settled, turned, pivoted, marked, checked, faulted}
 use Rattle.dc_table.specs.Walking.{CanCheck}
 use Rattle.dc_walk.specs.Uses.{Use, IsUse, Marked, facts_of}
-use Rattle.dc_walk.specs.Fasts.{IsChecking, IsOpen, GaveUp, Went, outcome_by}
-use Rattle.dc_walk.specs.declared.TheConstants.{BUCKET_ROWS, MOST_USED}
+use Rattle.dc_walk.specs.Fasts.{outcome_by}
+use Rattle.dc_walk.specs.Settling.{Came, IsChecking, IsOpen, Unsettled}
 use Rattle.dc_walk.specs.declared.why.Why.TheVariants as whys
 use Rattle.dc_walk.proofs.Marks.{facts_are, marks_next, next_there, IsNext, ticked}
 use Rattle.dc_walk.proofs.Told.{answer_is}
@@ -38,9 +37,9 @@ module _ (spelled : SpelledIsRead) (base : ℕ) (text : List ℕ) (how : Follow)
   no_more c n e l = absurd (omega arith)
 
   -- after a step that came to nothing
-  goes_on : (call : Request) (answer : Answer) (us : List Use) (book : Book) (start at c : ℕ) (v w : View) → w ≡ v → v.loads ≤ start + ROW_WORDS * (BUCKET_ROWS * length us) + 1 + c → v.first_load ≡ start → c < length us → IsOpen call us book at c v
-      → IsChecking call answer us book start at c w
-  goes_on call answer us book start at c v w e loads first less now = subst (IsChecking call answer us book start at c) (sym e) (record {
+  goes_on : (call : Request) (answer : Answer) (us : List Use) (before : View) (at c : ℕ) (v w : View) → w ≡ v → v.loads ≤ before.loads + 1 + c → v.first_load ≡ before.first_load → c < length us → IsOpen call us before.book at c v
+      → IsChecking call answer us before at c w
+  goes_on call answer us before at c v w e loads first less now = subst (IsChecking call answer us before at c) (sym e) (record {
     loads = loads;
     first_load = first;
     more = λ l. now;
@@ -48,39 +47,35 @@ module _ (spelled : SpelledIsRead) (base : ℕ) (text : List ℕ) (how : Follow)
   })
 
   -- after the step that made the record
-  ends : (answer : Answer) (us : List Use) (book : Book) (start at c : ℕ) (v w : View) → w ≡ concluded v (Some answer) → v.loads ≤ start + ROW_WORDS * (BUCKET_ROWS * length us) + 1 + c → v.first_load ≡ start → v.walk.pivot ≡ at → v.book ≡ with_seen book at → v.walk.call ≡ Look base text how → c ≡ length us
-      → IsChecking (Look base text how) answer us book start at c w
-  ends answer us book start at c v w e loads first pivot book_is call all = subst (IsChecking (Look base text how) answer us book start at c) (sym e) (record {
+  ends : (answer : Answer) (us : List Use) (before : View) (at c : ℕ) (v w : View) → w ≡ concluded v (Some answer) → v.loads ≤ before.loads + 1 + c → v.first_load ≡ before.first_load → v.walk.pivot ≡ at → v.book ≡ with_seen before.book at → v.walk.call ≡ Look base text how → c ≡ length us
+      → IsChecking (Look base text how) answer us before at c w
+  ends answer us before at c v w e loads first pivot book_is call all = subst (IsChecking (Look base text how) answer us before at c) (sym e) (record {
     loads = loads;
     first_load = first;
     more = λ l. absurd (no_more c (length us) all l);
     done = λ is i. with_record (book_is i) (record { call = call i; reply = answer; at = pivot i; altered = false });
   })
 
-  module _ (before now w : View) (us : List Use) (answer : Answer) (at : ℕ) (went : Went (outcome_by base text how) (Look base text how) before now us answer) (e : w ≡ pivoted now at) where
-    turned_book : (turned now at).book ≡ with_seen before.book at
-    turned_book = ap (λ (b : Book). with_seen b at) went.same.book
-
+  module _ (now w : View) (us : List Use) (answer : Answer) (at : ℕ) (came : Came (outcome_by base text how) (Look base text how) now us answer) (e : w ≡ pivoted now at) where
     turned_at : (turned now at).walk.pivot ≡ at
-    turned_at = ap (λ b. if b then at else 0) went.walk.busy
+    turned_at = ap (λ b. if b then at else 0) came.walk.busy
 
-    pub first_check : IsChecking (Look base text how) answer us before.book before.loads at 0 w
+    pub first_check : IsChecking (Look base text how) answer us now at 0 w
     first_check =
-        let loads = went.walk.loads in let first = went.same.first_load in
-        let facts = facts_are spelled 0 0 now.walk.notes us went.walk.marked in
+        let facts = facts_are spelled 0 0 now.walk.notes us came.walk.marked in
         elim (none_or_some us) [
           | inl none ↦
-              let nobody : outcome_by base text how (told_by []) ≡ Some went.end = ap (λ us. outcome_by base text how (told_by (facts_of us))) (sym none) ∙ went.found in
+              let nobody : outcome_by base text how (told_by []) ≡ Some came.end = ap (λ us. outcome_by base text how (told_by (facts_of us))) (sym none) ∙ came.found in
               let size : length us ≡ 0 = ap length none in
-              subst (λ a. IsChecking (Look base text how) a us before.book before.loads at 0 w) (sym went.answers)
-              (ends (outcome_answer went.end) us before.book before.loads at 0 (turned now at) w
-              (e ∙ concludes (turned now at) [] (Some went.end) went.walk.busy went.same.call facts nobody)
-              (omega arith) first turned_at turned_book went.same.call (sym size))
+              subst (λ a. IsChecking (Look base text how) a us now at 0 w) (sym came.answers)
+              (ends (outcome_answer came.end) us now at 0 (turned now at) w
+              (e ∙ concludes (turned now at) [] (Some came.end) came.walk.busy came.about facts nobody)
+              (omega arith) refl turned_at refl came.about (sym size))
           | inr some_use ↦
-              goes_on (Look base text how) answer us before.book before.loads at 0 (turned now at) w
-              (e ∙ concludes (turned now at) [] None went.walk.busy went.same.call facts (went.walk.needed 0 (subst (λ (n : ℕ). 0 < n) (sym (many_facts us)) some_use)))
-              (omega arith) first some_use
-              (record { busy = went.walk.busy; late = went.walk.busy; pivot = turned_at; call_is = went.same.call; book_is = turned_book; marked = went.walk.marked })
+              goes_on (Look base text how) answer us now at 0 (turned now at) w
+              (e ∙ concludes (turned now at) [] None came.walk.busy came.about facts (came.walk.needed 0 (subst (λ (n : ℕ). 0 < n) (sym (many_facts us)) some_use)))
+              (omega arith) refl some_use
+              (record { busy = came.walk.busy; late = came.walk.busy; pivot = turned_at; call_is = came.about; book_is = refl; marked = came.walk.marked })
         ]
       where
         none_or_some : (us : List Use) → (us ≡ []) ⊎ (0 < length us)
@@ -91,9 +86,9 @@ module _ (spelled : SpelledIsRead) (base : ℕ) (text : List ℕ) (how : Follow)
   less_or c n l = grind arith
 
   -- one check more
-  pub next_check : (before now : View) (us : List Use) (answer : Answer) (at c : ℕ) (d : Use) (v w : View) → Went (outcome_by base text how) (Look base text how) before now us answer → c < length us
-      → IsChecking (Look base text how) answer us before.book before.loads at c v → w ≡ checked v (get_or us c d).place → IsChecking (Look base text how) answer us before.book before.loads at (suc c) w
-  next_check before now us answer at c d v w went less is e =
+  pub next_check : (now : View) (us : List Use) (answer : Answer) (at c : ℕ) (d : Use) (v w : View) → Came (outcome_by base text how) (Look base text how) now us answer → c < length us
+      → IsChecking (Look base text how) answer us now at c v → w ≡ checked v (get_or us c d).place → IsChecking (Look base text how) answer us now at (suc c) w
+  next_check now us answer at c d v w came less is e =
       let open_now = is.more less in
       let place : ℕ = (get_or us c d).place in
       let m : View = marked v place in
@@ -104,15 +99,15 @@ module _ (spelled : SpelledIsRead) (base : ℕ) (text : List ℕ) (how : Follow)
       elim (less_or c (length us) less) [
         | inl more ↦
             let many : length (facts_of us) ≡ length us = many_facts us in
-            goes_on (Look base text how) answer us before.book before.loads at (suc c) m w
-            (e ∙ concludes m (take (suc c) (facts_of us)) None open_now.busy open_now.call_is facts (went.walk.needed (suc c) (omega arith)))
+            goes_on (Look base text how) answer us now at (suc c) m w
+            (e ∙ concludes m (take (suc c) (facts_of us)) None open_now.busy open_now.call_is facts (came.walk.needed (suc c) (omega arith)))
             (omega arith) is.first_load more
             (record { busy = open_now.busy; late = open_now.late; pivot = open_now.pivot; call_is = open_now.call_is; book_is = open_now.book_is; marked = marks })
         | inr all ↦
             let whole : take (suc c) (facts_of us) ≡ facts_of us = ap (λ (n : ℕ). take n (facts_of us)) (all ∙ sym (many_facts us)) ∙ take-length (facts_of us) in
-            subst (λ a. IsChecking (Look base text how) a us before.book before.loads at (suc c) w) (sym went.answers)
-            (ends (outcome_answer went.end) us before.book before.loads at (suc c) m w
-            (e ∙ concludes m (facts_of us) (Some went.end) open_now.busy open_now.call_is (facts ∙ whole) went.found)
+            subst (λ a. IsChecking (Look base text how) a us now at (suc c) w) (sym came.answers)
+            (ends (outcome_answer came.end) us now at (suc c) m w
+            (e ∙ concludes m (facts_of us) (Some came.end) open_now.busy open_now.call_is (facts ∙ whole) came.found)
             (omega arith) is.first_load open_now.pivot open_now.book_is open_now.call_is all)
       ]
 
@@ -142,32 +137,25 @@ can_check v u late n =
       counted = is.count;
     }
 
-pub ready : {call : Request} {answer : Answer} {us : List Use} {book : Book} {start at c : ℕ} {v : View} (d u : Use) → IsChecking call answer us book start at c v → c < length us → get_or us c d ≡ u → CanCheck v u.place u.row u.count
+pub ready : {call : Request} {answer : Answer} {us : List Use} {before : View} {at c : ℕ} {v : View} (d u : Use) → IsChecking call answer us before at c v → c < length us → get_or us c d ≡ u → CanCheck v u.place u.row u.count
 ready {us = us} {c = c} {v = v} d u is less here = let now = is.more less in
     subst (λ (x : Use). CanCheck v x.place x.row x.count) here (can_check v (get_or us c d) now.late (next_there 0 c v.walk.notes us d now.marked less))
 
-pub failed_check : {outcome : Teller → Option Outcome} {call : Request} {answer : Answer} {us : List Use} {at c : ℕ} (before v w : View) (buckets row noted found : ℕ) → IsChecking call answer us before.book before.loads at c v → c < length us → w ≡ faulted v (Changed row noted found) → noted < found
-    → before.book.seen ≤ at → length us ≤ MOST_USED → outcome (told_by []) ≡ None → GaveUp outcome buckets before w (whys.Changed row noted found)
-failed_check {outcome = outcome} {at = at} before v w buckets row noted found is less e higher later few asks =
-    let loads = is.loads in let book = (is.more less).book_is in
+pub failed_check : {call : Request} {answer : Answer} {us : List Use} {at c : ℕ} (before v w : View) (row noted found : ℕ) → IsChecking call answer us before at c v → c < length us → w ≡ faulted v (Changed row noted found) → noted < found
+    → before.book.seen ≤ at → Unsettled before w (whys.Changed row noted found)
+failed_check {at = at} before v w row noted found is less e higher later =
+    let book = (is.more less).book_is in
     let seen : v.book.seen ≡ at = ap (λ (b : Book). b.seen) book in
     let x = Changed row noted found in
-    subst (λ z. GaveUp outcome buckets before z (whys.Changed row noted found)) (sym e) (record {
-      cause = (Contains-append_right v.faults (x ∷ []) x (0, omega arith, refl), higher);
-      asks = asks;
+    subst (λ z. Unsettled before z (whys.Changed row noted found)) (sym e) (record {
+      changed = (Contains-append_right v.faults (x ∷ []) x (0, omega arith, refl), higher);
       nothing = record { own = ap (λ (b : Book). b.own) book; joined = ap (λ (b : Book). b.joined) book; later = omega arith };
-      first_load = is.first_load;
-      loads = omega arith;
     })
 
-begins_book : (b : Bool) (v : View) (call : Request) → (begins b v call).book ≡ v.book
+pub begins_book : (b : Bool) (v : View) (call : Request) → (begins b v call).book ≡ v.book
 begins_book true v call = refl
 begins_book false v call = refl
 
--- what a walk has seen is what was seen before
-pub same_seen : {outcome : Teller → Option Outcome} {call : Request} {us : List Use} {answer : Answer} (before : View) (b : Bool) (v : View) → Went outcome call before (begins b v call) us answer → v.book.seen ≡ before.book.seen
-same_seen {call = call} before b v went = ap (λ (b : Book). b.seen) (sym (begins_book b v call) ∙ went.same.book)
-
 -- a walk that used a row asked for it
-pub asked : {outcome : Teller → Option Outcome} {call : Request} {before now : View} {us : List Use} {answer : Answer} (c : ℕ) → Went outcome call before now us answer → c < length us → outcome (told_by []) ≡ None
-asked {us = us} c went less = let size = many_facts us in went.walk.needed 0 (omega arith)
+pub asked : {outcome : Teller → Option Outcome} {call : Request} {now : View} {us : List Use} {answer : Answer} (c : ℕ) → Came outcome call now us answer → c < length us → outcome (told_by []) ≡ None
+asked {us = us} c came less = let size = many_facts us in came.walk.needed 0 (omega arith)

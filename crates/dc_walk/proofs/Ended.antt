@@ -37,6 +37,7 @@ by_begun outcome buckets false v call (whys.Busy row) cause = absurd (none_there
 by_begun outcome buckets false v call (whys.Changed row noted found) cause = absurd (none_there (Changed row noted found) cause.0)
 by_begun outcome buckets false v call whys.Long cause = let none : length cause.uses ≡ 0 = ap length cause.marked in let many = cause.many in absurd (omega arith)
 by_begun outcome buckets false v call whys.Link cause = let some = cause.some_note in absurd (omega arith)
+by_begun outcome buckets false v call whys.Memory cause = absurd cause
 
 module _ (f : Rows) where
   pub started : (v : View) → CanWalk f.shared.now f.pass.now → now_in f ≡ begun v (request_in f) → f.made ≡ 0 → f.why ≡ None → f.used.now.items ≡ [] → IsGood f
@@ -81,12 +82,15 @@ module _ (f : Rows) where
     pub went_so : (end : Outcome) (answer : Answer) → g.why ≡ None → ((teller : Teller) → Extends (said_in g) teller → outcome_in f teller ≡ Some end) → answer ≡ outcome_answer end
         → Went (outcome_in f) (request_in f) v (begins (not g.begun) (view p) (request_in f)) (map use_shown us) answer
     went_so end answer fresh found is = record {
-      walk = subst (λ (z : (Teller → Option Outcome) × View × List Use). IsWalk z.0 z.1 z.2 0) (λ i. (outcome_same b.same i, now_is i, map use_shown (sym same_used i)))
-          (subst (λ o. IsFinding g (if is_some o then BUCKET_ROWS else 0)) fresh (b.good good).finding).walk;
+      came = record {
+        walk = subst (λ (z : (Teller → Option Outcome) × View × List Use). IsWalk z.0 z.1 z.2 0) (λ i. (outcome_same b.same i, now_is i, map use_shown (sym same_used i)))
+            (subst (λ o. IsFinding g (if is_some o then BUCKET_ROWS else 0)) fresh (b.good good).finding).walk;
+        about = walked_same.call;
+        end = end;
+        found = ap (λ (items : List Used). outcome_in f (told_by (facts_of (map use_shown items)))) same_used ∙ found (said_in g) (told_itself (said_in g));
+        answers = is;
+      };
       same = walked_same;
-      end = end;
-      found = ap (λ (items : List Used). outcome_in f (told_by (facts_of (map use_shown items)))) same_used ∙ found (said_in g) (told_itself (said_in g));
-      answers = is;
     }
 
     pub gave_so : (why : rust_why.Why) → g.why ≡ Some why → length (map use_shown us) ≤ MOST_USED → GaveUp (outcome_in f) (buckets_of f.pass.now) v (view p) why

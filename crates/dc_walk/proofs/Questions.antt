@@ -222,6 +222,6 @@ none_is None e = refl
 none_is (Some x) e = absurd cc
 
 -- what a finder told is of the right kind
-pub kind_of : {E : Type 0} {g : Rows} → IsGood g → (d : ℕ) (part : Part) (result : Result (Option Target) E) → IfOk result (λ found. (said_in g).entry d (label_of part) ≡ Some found) → IfOk result (λ found. IsTrue (may_be_found part found))
-kind_of {g = g} good d part (Ok found) told = standing_kind (now_in g).walk.notes (uses_in g) good.finding.walk.marked d part found told
-kind_of good d part (Err e) told = tt
+pub kind_of : {E : Type 0} {g : Rows} {k : ℕ} → IsFinding g k → (d : ℕ) (part : Part) (result : Result (Option Target) E) → IfOk result (λ found. (said_in g).entry d (label_of part) ≡ Some found) → IfOk result (λ found. IsTrue (may_be_found part found))
+kind_of {g = g} is d part (Ok found) told = standing_kind (now_in g).walk.notes (uses_in g) is.walk.marked d part found told
+kind_of is d part (Err e) told = tt

@@ -125,9 +125,6 @@ other_on {w = w} on o = other_still on.notes w on.noted o
 pub fault_on : {v w : View} {fault : Fault} → GoesOn v w → Contains v.faults fault → Contains w.faults fault
 fault_on {v = v} {fault = fault} on c = subst (λ (xs : List Fault). Contains xs fault) (sym on.faults) (Contains-append_left v.faults on.more fault c)
 
-pub same_again : {f g h : Rows} → SameRows f g → SameRows g h → SameRows f h
-same_again a b = record { shared = b.shared ∙ a.shared; pass = b.pass ∙ a.pass; used = b.used ∙ a.used; base = b.base ∙ a.base; path = b.path ∙ a.path; follow = b.follow ∙ a.follow; same_pass = same_passes a.same_pass b.same_pass }
-
 pub same_still : (f : Rows) → SameRows f f
 same_still f = record { shared = refl; pass = refl; used = refl; base = refl; path = refl; follow = refl; same_pass = same_pass f.pass.now }
 

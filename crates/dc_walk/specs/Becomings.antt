@@ -37,17 +37,20 @@ stays_so f = record {
   good = λ is. is;
 }
 
+pub same_again : {f g h : Rows} → SameRows f g → SameRows g h → SameRows f h
+same_again p q = record {
+  shared = q.shared ∙ p.shared;
+  pass = q.pass ∙ p.pass;
+  used = q.used ∙ p.used;
+  base = q.base ∙ p.base;
+  path = q.path ∙ p.path;
+  follow = q.follow ∙ p.follow;
+  same_pass = record { table = q.same_pass.table ∙ p.same_pass.table; id = q.same_pass.id ∙ p.same_pass.id; same_share = q.same_pass.same_share ∙ p.same_pass.same_share };
+}
+
 pub goes_so : (f g h : Rows) → Becomes f g → Becomes g h → Becomes f h
-goes_so f g h a b = let p = a.same in let q = b.same in record {
-  same = record {
-    shared = q.shared ∙ p.shared;
-    pass = q.pass ∙ p.pass;
-    used = q.used ∙ p.used;
-    base = q.base ∙ p.base;
-    path = q.path ∙ p.path;
-    follow = q.follow ∙ p.follow;
-    same_pass = record { table = q.same_pass.table ∙ p.same_pass.table; id = q.same_pass.id ∙ p.same_pass.id; same_share = q.same_pass.same_share ∙ p.same_pass.same_share };
-  };
+goes_so f g h a b = record {
+  same = same_again a.same b.same;
   told = record { entry = λ d label found told. b.told.entry d label found (a.told.entry d label found told); text = λ n bytes told. b.told.text n bytes (a.told.text n bytes told) };
   walk = record { call = b.walk.call ∙ a.walk.call; book = b.walk.book ∙ a.walk.book; first_load = b.walk.first_load ∙ a.walk.first_load };
   good = λ is. b.good (a.good is);

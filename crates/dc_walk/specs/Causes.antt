@@ -29,3 +29,4 @@ HasCause outcome buckets v (whys.Busy row) = Contains v.faults (Busy row)
 HasCause outcome buckets v (whys.Changed row noted found) = Contains v.faults (Changed row noted found) × (noted < found)
 HasCause outcome buckets v whys.Long = IsFull v
 HasCause outcome buckets v whys.Link = IsLinked outcome v
+HasCause outcome buckets v whys.Memory = ⊥

@@ -8,4 +8,6 @@ pub mod Causes
 pub mod Findings
 pub mod Sights
 pub mod Becomings
+pub mod Settling
+pub mod Pinned
 pub mod Fasts

@@ -1,6 +1,7 @@
 -- What a probe of a row makes of a view.
-use Rattle.std.specs.Prelude.{ℕ, ◌+◌, List, [], ◌∷◌, ◌++◌, false, length}
-use Rattle.dc_events.specs.Views.{Note, View}
+use Rattle.std.specs.Prelude.{ℕ, ◌+◌, List, [], ◌∷◌, ◌++◌, true, false, length, get_or, drop}
+use Rattle.dc_plain.specs.Requests.{Request}
+use Rattle.dc_events.specs.Views.{Note, Walk, View}
 
 -- a note that no check has seen
 abbrev pub fresh_note : ℕ → ℕ → List ℕ → Note
@@ -12,3 +13,11 @@ probed v row count words = record v {
   walk = record v.walk { notes = v.walk.notes ++ fresh_note row count words ∷ [] };
   loads = v.loads + (1 + length words);
 }
+
+-- a note of a row with all its words, the count first
+abbrev pub note_of : ℕ → List ℕ → Note
+note_of row words = fresh_note row (get_or words 0 0) (drop 1 words)
+
+-- a walk of this call that has these notes, and no pivot yet
+abbrev pub walk_with : Request → List Note → Walk
+walk_with call notes = record { busy = true; call = call; notes = notes; pivoted = false; pivot = 0 }

@@ -21,7 +21,7 @@ use dc_plain::{Key, Label};
 use dc_resolve::{Finder, Stop};
 
 /// The key under which a part is looked up in a directory.
-fn key_of<'a>(number: u64, part: Part<'a>) -> Key<'a>
+pub(crate) fn key_of<'a>(number: u64, part: Part<'a>) -> Key<'a>
     requires asked { part_shown part ≢ Dot }
     ensures key { key_shown result ≡ record { number = number; label = label_of (part_shown part.entry) } }
     ensures entry { (key_shown result).label ≢ Text }

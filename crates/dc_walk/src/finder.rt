@@ -10,6 +10,7 @@ use dc_table::{Pass, Shared};
 
 /// Answers the questions of a look-up from the rows of the table. It knows whether a step was made,
 /// how many rows were noted, and why it gave up.
+#[derive(Drop)]
 pub(crate) struct Rows<'a> {
     pub shared: &'a Shared,
     pub pass: &'a mut Pass,

@@ -1,21 +1,29 @@
-//! Walks over the shared table. `fast` takes no lock and no memory, and never waits.
+//! Walks over the shared table: `fast` takes no lock and no memory, and never waits; `counted` fills and
+//! pins the rows that it needs, each under the lock; `locked` asks the tree itself.
 #![tactic(auto)]
 
 mod asking;
 mod bucket;
+mod counting;
 mod finder;
+mod locking;
 mod long;
 mod looking;
+mod pinning;
 mod probing;
+mod settling;
 #[cfg(test)]
 mod tests;
 mod used;
 mod walking;
 mod why;
 
+pub use counting::counted;
 use dc_row::ROW_WORDS;
+pub use locking::locked;
+pub use settling::Quick;
 pub use used::Used;
-pub use walking::{Quick, fast};
+pub use walking::fast;
 pub use why::Why;
 
 /// How many rows a bucket has.

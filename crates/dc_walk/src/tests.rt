@@ -1,11 +1,17 @@
+ghost use Rattle.dc_ops.specs.Asked.{IsChange};
 ghost use Rattle.dc_table.specs.Passes.{IsSamePass};
 ghost use Rattle.dc_walk.specs.Findings.{CanWalk};
 
-use crate::{Quick, Used, Why, fast};
+mod by_hand;
+mod pinned;
+
+use crate::{Quick, Used, Why, counted, fast};
 use arrayvec::ArrayVec;
 use dc_names::{Kind, Name, parse};
 use dc_plain::{Call, Follow, Key, Label, Reply};
 use dc_table::{Pass, Shared};
+use std::alloc::Global;
+use std::sync::Wait;
 use std::test::Fail;
 
 /// What the fast walk of a path from the root comes to, or `None` where the text is no path.
@@ -16,6 +22,49 @@ fn look(shared: &Shared, pass: &mut Pass, text: &[u8]) -> Option<Quick>
     let path = parse(text).ok()?;
     let mut used: ArrayVec<Used, 256> = ArrayVec::new();
     Some(fast(shared, pass, &mut used, 1, path, Follow::Yes))
+}
+
+/// What the walk that fills and pins rows comes to for a path from the root, or `None` where the text
+/// is no path.
+fn count<R: Wait>(
+    rt: &R,
+    alloc: Global,
+    shared: &Shared,
+    pass: &mut Pass,
+    text: &[u8],
+) -> Option<Quick>
+    requires { CanWalk shared.now pass.old }
+    ensures { CanWalk shared.now pass.new }
+{
+    let path = parse(text).ok()?;
+    let mut used: ArrayVec<Used, 256> = ArrayVec::new();
+    Some(counted(shared, rt, alloc, pass, &mut used, 1, path, Follow::Yes))
+}
+
+/// What a change is answered, and at which point, or `None` without memory.
+fn change<R: Wait>(
+    rt: &R,
+    alloc: Global,
+    shared: &Shared,
+    pass: &mut Pass,
+    call: &Call<'_>,
+) -> Option<(Reply, u64)>
+    requires { CanWalk shared.now pass.old × IsChange call.now }
+    ensures { CanWalk shared.now pass.new }
+{
+    shared.change(rt, alloc, pass, call).ok()
+}
+
+fn mkdir(path: &[u8]) -> Call<'_>
+    ensures { IsChange result }
+{
+    Call::Mkdir { base: 1, path }
+}
+
+fn create(path: &[u8]) -> Call<'_>
+    ensures { IsChange result }
+{
+    Call::Create { base: 1, path }
 }
 
 /// Whether a path led to the root after so many changes.

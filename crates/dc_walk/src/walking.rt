@@ -15,23 +15,14 @@ ghost use Rattle.dc_walk.specs.declared.TheConstants.{MOST_LOADS};
 use crate::MOST_USED;
 use crate::finder::Rows;
 use crate::long::has_long_name;
+use crate::settling::{Quick, settle};
 use crate::used::Used;
 use crate::why::Why;
 use arrayvec::ArrayVec;
 use dc_names::PathText;
-use dc_plain::{Call, Follow, Reply, Stamped};
+use dc_plain::{Follow, Reply};
 use dc_resolve::{Walked, walk};
-use dc_row::words_have_the_fact_they_spell;
 use dc_table::{Pass, Shared};
-
-/// What a look-up without the lock comes to.
-#[derive(Debug, Drop)]
-pub enum Quick {
-    /// An answer, and the point at which it was true.
-    Done(Stamped),
-    /// No answer.
-    Again(Why),
-}
 
 /// Walks by the rows alone. It answers the reply, and whether a step was made.
 fn go(
@@ -110,24 +101,11 @@ pub fn fast(
     if has_long_name(path) {
         return Quick::Again(Why::Long);
     }
-    words_have_the_fact_they_spell();
-    let (reply, begun) = match go(shared, pass, used, base, path, follow) {
-        Ok(went) => went,
-        Err(why) => return Quick::Again(why),
-    };
-    let call = Call::Look {
-        base,
-        path: path.bytes(),
-        follow,
-    };
-    // After all reads and before all checks: a row whose count still stands was as read at this point.
-    let at = shared.pivot(pass, &call, !begun);
-    for c in 0..used.len() {
-        let one = &used.as_slice()[c];
-        let (place, row, count) = (one.place, one.row, one.words[0]);
-        if let Err((noted, found)) = shared.check(pass, place, row, count) {
-            return Quick::Again(Why::Changed(row, noted, found));
+    match go(shared, pass, used, base, path, follow) {
+        Ok((reply, begun)) => {
+            let used = used.as_slice();
+            settle(shared, pass, used, base, path, follow, reply, begun)
         }
+        Err(why) => Quick::Again(why),
     }
-    Quick::Done(Stamped { reply, at })
 }

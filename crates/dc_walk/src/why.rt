@@ -13,4 +13,6 @@ pub enum Why {
     Long,
     /// A link must be followed.
     Link,
+    /// Memory was refused as a row was filled or pinned. Never of a walk without the lock.
+    Memory,
 }

@@ -8,7 +8,8 @@ use Rattle.dc_walk.specs.Finds.{told_in}
 use Rattle.dc_walk.specs.Sights.{Fails}
 use Rattle.dc_walk.specs.declared.TheConstants.{MOST_USED}
 use Rattle.dc_walk.proofs.Seats.{row_still}
-use Rattle.dc_walk.proofs.Sighted.{same_again, same_still, on_again, on_still, still_needed}
+use Rattle.dc_walk.specs.Becomings.{same_again}
+use Rattle.dc_walk.proofs.Sighted.{same_still, on_again, on_still, still_needed}
 use Rattle.dc_walk.proofs.Lookings.{looked_none, looked_other, looked_odd}
 use Rattle.dc_walk.proofs.bucket.ask_rows.Goals.{in-Odd, in-Other}
 use Rattle.dc_walk.proofs.bucket.ask_rows.Goals as goal

@@ -15,5 +15,5 @@ returns-in-Some-clause-kind c = let f = c.args.self.now in
 
 pub returns-clause-kind : goal.returns-clause-kind
 returns-clause-kind c = let e = c.ask.ensures in
-    kind_of (e.becomes.good c.requires.may.good) c.args.dir (part_shown c.args.part) c.ask.result
+    kind_of (e.becomes.good c.requires.may.good).finding c.args.dir (part_shown c.args.part) c.ask.result
     (subst (λ (key : Key). IfOk c.ask.result (λ found. (said_in c.ask.new.rows).entry key.number key.label ≡ Some found)) c.key_of-key.ensures.key e.told)

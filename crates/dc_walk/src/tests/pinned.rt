@@ -1,0 +1,92 @@
+//! Walks that fill and pin rows, and walks under the lock.
+
+use crate::tests::{change, count, create, is_answered, look, mkdir};
+use crate::{Quick, Why, locked};
+use dc_names::Kind;
+use dc_plain::{Call, Follow, Reply, Stamped};
+use dc_table::Shared;
+use std::test::Fail;
+
+/// A walk that needs five rows of a bucket of four takes none that it pinned itself, and leaves no pin.
+#[test]
+fn a_pinned_row_is_not_taken(rt: HostRuntime) -> Result<(), Fail> {
+    let (shared, mut p) = Shared::new(rt.alloc(), 1, 16).expect(&rt, "memory");
+    let made = change(&rt, rt.alloc(), &shared, &mut p, &mkdir(b"/a"));
+    assert!(rt; made == Some((Reply::Done(2), 0)));
+    let made = change(&rt, rt.alloc(), &shared, &mut p, &mkdir(b"/a/b"));
+    assert!(rt; made == Some((Reply::Done(3), 1)));
+    let made = change(&rt, rt.alloc(), &shared, &mut p, &mkdir(b"/a/b/c"));
+    assert!(rt; made == Some((Reply::Done(4), 2)));
+    let made = change(&rt, rt.alloc(), &shared, &mut p, &mkdir(b"/a/b/c/d"));
+    assert!(rt; made == Some((Reply::Done(5), 3)));
+    let found = count(&rt, rt.alloc(), &shared, &mut p, b"/a/b/c/d/e");
+    assert!(rt; matches!(found, Some(Quick::Again(Why::Miss(4)))));
+    let found = look(&shared, &mut p, b"/a/b/c/d");
+    assert!(rt; is_answered(&found, &Reply::Found(5, Kind::Dir), 4));
+    assert!(rt; shared.shrink(&rt, &mut p, 5) == 4);
+    Ok(())
+}
+
+/// What is not there is filled too, and a key that no row tells is a miss.
+#[test]
+fn rows_are_filled_one_by_one(rt: HostRuntime) -> Result<(), Fail> {
+    let (shared, mut p) = Shared::new(rt.alloc(), 1, 16).expect(&rt, "memory");
+    assert!(rt;
+        change(&rt, rt.alloc(), &shared, &mut p, &mkdir(b"/a")) == Some((Reply::Done(2), 0))
+    );
+    let found = count(&rt, rt.alloc(), &shared, &mut p, b"/a");
+    assert!(rt; is_answered(&found, &Reply::Found(2, Kind::Dir), 1));
+    let found = look(&shared, &mut p, b"/a/z");
+    assert!(rt; matches!(found, Some(Quick::Again(Why::Miss(1)))));
+    let found = count(&rt, rt.alloc(), &shared, &mut p, b"/a/z");
+    assert!(rt; is_answered(&found, &Reply::Refused(2), 1));
+    let found = look(&shared, &mut p, b"/a/z");
+    assert!(rt; is_answered(&found, &Reply::Refused(2), 1));
+    assert!(rt;
+        change(&rt, rt.alloc(), &shared, &mut p, &create(b"/a/z")) == Some((Reply::Done(3), 1))
+    );
+    let found = look(&shared, &mut p, b"/a/z");
+    assert!(rt; is_answered(&found, &Reply::Found(3, Kind::File), 2));
+    assert!(rt; shared.shrink(&rt, &mut p, 5) == 2);
+    Ok(())
+}
+
+/// A walk under the lock follows links and fills no row; one by rows ends at a link.
+#[test]
+fn the_tree_itself_is_asked(rt: HostRuntime) -> Result<(), Fail> {
+    let (shared, mut p) = Shared::new(rt.alloc(), 1, 16).expect(&rt, "memory");
+    let symlink = Call::Symlink {
+        base: 1,
+        text: b"a",
+        path: b"/l",
+    };
+    assert!(rt;
+        change(&rt, rt.alloc(), &shared, &mut p, &mkdir(b"/a")) == Some((Reply::Done(2), 0))
+    );
+    assert!(rt; change(&rt, rt.alloc(), &shared, &mut p, &symlink) == Some((Reply::Done(3), 1)));
+    let call = Call::Look {
+        base: 1,
+        path: b"/l",
+        follow: Follow::Yes,
+    };
+    let told = Stamped {
+        reply: Reply::Found(2, Kind::Dir),
+        at: 2,
+    };
+    assert!(rt; locked(&shared, &rt, &mut p, &call) == told);
+    assert!(rt; shared.shrink(&rt, &mut p, 4) == 0);
+    let found = count(&rt, rt.alloc(), &shared, &mut p, b"/l");
+    assert!(rt; matches!(found, Some(Quick::Again(Why::Link))));
+    let found = look(&shared, &mut p, b"/l");
+    assert!(rt; matches!(found, Some(Quick::Again(Why::Link))));
+    let stat = Call::Stat {
+        base: 1,
+        path: b"/l/",
+    };
+    let told = Stamped {
+        reply: Reply::Stat(2, Kind::Dir, 0),
+        at: 2,
+    };
+    assert!(rt; locked(&shared, &rt, &mut p, &stat) == told);
+    Ok(())
+}
