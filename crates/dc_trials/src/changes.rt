@@ -20,7 +20,7 @@ const CALLS: u64 = 2000;
 type Stamps = Result<Vec<Stamp>, NoMemory>;
 
 /// The next number of a fixed sequence.
-fn next(seed: u64) -> u64 {
+pub fn next(seed: u64) -> u64 {
     seed.wrapping_mul(6_364_136_223_846_793_005)
         .wrapping_add(1_442_695_040_888_963_407)
 }

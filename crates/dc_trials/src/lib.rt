@@ -1,6 +1,8 @@
-//! Trials of several rooms at once. They are tests alone: threads change one table, and the checker judges
-//! what they were answered.
+//! Trials of several rooms at once. They are tests alone: threads change one table, sessions of the server
+//! share one cache, and the checker judges what they were answered.
 #![tactic(auto)]
 
 #[cfg(test)]
 mod changes;
+#[cfg(test)]
+mod sessions;
