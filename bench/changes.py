@@ -7,8 +7,8 @@ CHANGES is the program of crates/dcchange, SERVER that of crates/dcserve, as the
 builds them).
 
 It prints how many changes a second 1, 2 and 4 threads make, all of which wait for one lock: each thread makes and
-unlinks a file of its own in the root. Beside them stands the server, which reads such commands, makes the changes on
-one thread without a table, and writes the replies. Times are by the wall clock, and the best of five runs; what an
+unlinks a file of its own in the root. Beside them stands the server, which reads such commands of one session, makes the
+changes on its cache in that session's thread, and writes the replies. Times are by the wall clock, and the best of five runs; what an
 empty run takes is taken off.
 """
 import subprocess
@@ -35,7 +35,7 @@ def main():
         print(f"{threads} threads on the table: {threads * calls / took / 1000:8.0f} thousand changes a second")
     pairs = 40_000
     took = best([server], b"0 create /a\n0 unlink /a\n" * pairs) - best([server])
-    print(f"the server, no table:    {2 * pairs / took / 1000:8.0f} thousand changes a second")
+    print(f"the server, one session:  {2 * pairs / took / 1000:8.0f} thousand changes a second")
 
 
 main()

@@ -9,6 +9,8 @@ use Rattle.dc_lang.specs.Commands.Meaning.{Sync, Orders}
 use Rattle.dc_serve.specs.Bytes.{IsServiceFault}
 use Rattle.dc_serve.specs.Sessions.{Obeyed, RecordedSome, progress}
 use Rattle.dc_serve.specs.declared.fault.ServeFault.{ServeFault}
+use Rattle.dc_serve.specs.Phases.{ordered_by}
+use Rattle.dc_serve.specs.declared.phase.Handed.{Handed}
 use Rattle.dc_serve.specs.declared.phase.PhaseReplies.{PhaseReplies}
 use Rattle.dc_serve.specs.declared.session.SessionReplies.{SessionReplies}
 
@@ -23,6 +25,13 @@ pub record GaveBack (cache : Dcache) (p : Pass) (base : ℕ) (orders : List Orde
   pub recorded : RecordedSome (length orders) (book p) (book q)
   pub ok : IfOk replies (λ r. Obeyed (book p) (progress [] base) orders (progress r.text.items r.base) (book q))
   pub err : IfErr replies (IsServiceFault (book q).seen)
+
+-- what a thread was handed is this
+pub record IsHanded (cache : Dcache) (p : Pass) (base : ℕ) (orders : List Order) (h : Handed) : Type 0 where
+  pub cache_is : h.cache.now ≡ cache
+  pub pass_is : h.pass.value ≡ p
+  pub base_is : h.base ≡ base
+  pub orders_are : ordered_by h.session h.lines.now ≡ orders
 
 -- the replies of some sessions with those of one more
 pub record Adds (front : PhaseReplies) (session : ℕ) (last : SessionReplies) (all : PhaseReplies) : Type 0 where

@@ -7,7 +7,7 @@ ghost use Rattle.dc_lang.specs.Commands.{meaning_of};
 ghost use Rattle.dc_serve.specs.Bytes.{IsServiceFault};
 ghost use Rattle.dc_serve.specs.Phases.{by_session, of_sessions, ordered, ordered_by};
 ghost use Rattle.dc_serve.specs.Sessions.{ObeyedBelow, SameShare, TookInSome, outcome};
-ghost use Rattle.dc_serve.specs.Threads.{Adds, GaveBack, book, is_order_of};
+ghost use Rattle.dc_serve.specs.Threads.{Adds, GaveBack, IsHanded, book, is_order_of};
 ghost use Rattle.dc_table.specs.Shares.{both};
 ghost use Rattle.dc_serve.specs.declared.fault.ServeFault.TheVariants.{NoMemory};
 
@@ -20,7 +20,7 @@ use std::snapshot::Snapshot;
 use std::sync::Wait;
 use std::sync::atomic::{AtomicU64, Ordering};
 use std::thread;
-use std::thread::{Promise, Scope, Threads};
+use std::thread::{Promise, PromisedHandle, Scope, Threads};
 
 /// What a phase is answered, and where each session starts from then on.
 #[derive(Drop)]
@@ -29,17 +29,20 @@ pub struct PhaseReplies {
     pub bases: [u64; 16],
 }
 
-/// What a session's thread was handed, and so what it gives back.
+/// The pass that a session was served with, and what the session was answered.
+type Back = (Pass, Result<SessionReplies, ServeFault>);
+
+/// What a session's thread is handed, and so what it gives back.
 #[derive(Drop)]
 pub struct Handed<'a> {
-    cache: &'a Dcache,
-    pass: Snapshot<Pass>,
-    session: u64,
-    base: u64,
-    lines: &'a [Line],
+    pub cache: &'a Dcache,
+    pub pass: Snapshot<Pass>,
+    pub session: u64,
+    pub base: u64,
+    pub lines: &'a [Line],
 }
 
-impl<'a> Promise<(Pass, Result<SessionReplies, ServeFault>)> for Handed<'a> {
+impl<'a> Promise<Back> for Handed<'a> {
     ghost kept_by = { λ p r. GaveBack p.cache.now p.pass.value p.base
         (ordered_by p.session p.lines.now) r.0 r.1 };
 }
@@ -91,7 +94,7 @@ fn take_in(
     mut pass: Pass,
     others: Result<PhaseReplies, ServeFault>,
     session: u64,
-    back: (Pass, Result<SessionReplies, ServeFault>),
+    back: Back,
 ) -> (Pass, Result<PhaseReplies, ServeFault>)
     requires pass { Fits cache.now pass × Fits cache.now back.0 }
     requires session { session < SESSIONS }
@@ -105,6 +108,61 @@ fn take_in(
     let (child, told) = back;
     cache.join(&mut pass, child);
     (pass, with_session(others, session, told))
+}
+
+/// Starts a session's thread, which serves the session with the pass and gives the pass back. Where
+/// none can be started, the session is refused, and its pass comes back at once.
+fn start<'s, E, R: Wait + Sync, G: Gate>(
+    rt: &'s R,
+    scope: &'s Scope<'s, E>,
+    phase: &Phase<'s, G>,
+    child: Pass,
+    session: u64,
+    base: u64,
+) -> Result<PromisedHandle<Back, Handed<'s>>, Back>
+    requires { Fits phase.now.cache.now child }
+    ensures started { IfOk result (λ handle. IsHanded phase.now.cache.now child base
+        (ordered_by session phase.now.lines.now) handle.promise) }
+    ensures refused { IfErr result (λ back. GaveBack phase.now.cache.now child base
+        (ordered_by session phase.now.lines.now) back.0 back.1) }
+{
+    let (cache, lines, gate) = (phase.cache, phase.lines, phase.gate);
+    let (alloc, first, refused) = (phase.alloc, phase.first, phase.refused);
+    let handed = Handed {
+        cache,
+        pass: Snapshot::of(&child),
+        session,
+        base,
+        lines,
+    };
+    let started = scope.spawn_with(
+        handed,
+        move || -> Back
+            requires { IsSync R.row × IsSync G.row × Fits cache.now child }
+            ensures { GaveBack cache.entry.now child base (ordered_by session lines.entry.now)
+                result.0 result.1 }
+        {
+            let phase = Phase {
+                cache,
+                alloc,
+                first,
+                lines,
+                gate,
+                refused,
+            };
+            phase.serve_session(rt, child, session, base)
+        },
+    );
+    match started {
+        Ok(handle) => Ok(handle),
+        Err(left) => {
+            // The pass of a thread that couldn't be started lies in its closure, and a dropped pass
+            // would take its part of the whole with it. So the closure is called, which sees that
+            // its session is refused and gives the pass back.
+            refused.store(session, Ordering::SeqCst);
+            Err((left.value)())
+        }
+    }
 }
 
 /// Serves the sessions below `count` that have lines, each in a thread of its own with a pass of its
@@ -127,61 +185,22 @@ fn serve_sessions<'s, E, R: Threads + Wait + Sync, G: Gate>(
         (book result.0)) }
     ensures err { IfErr result.1 (IsServiceFault (book result.0).seen) }
 {
-    let Phase {
-        cache,
-        alloc,
-        first,
-        lines,
-        gate,
-        refused,
-    } = *phase;
     if count == 0 {
-        let text = Vec::new(alloc);
+        let text = Vec::new(phase.alloc);
         return (pass, Ok(PhaseReplies { text, bases }));
     }
     let session = count - 1;
-    if !has_lines(session, lines) {
+    if !has_lines(session, phase.lines) {
         return serve_sessions(rt, scope, phase, pass, session, bases);
     }
-    let child = cache.split(&mut pass);
-    let base = bases[session as usize];
-    let handed = Handed {
-        cache,
-        pass: Snapshot::of(&child),
-        session,
-        base,
-        lines,
-    };
-    let started = scope.spawn_with(
-        handed,
-        move || -> (Pass, Result<SessionReplies, ServeFault>)
-            requires { IsSync R.row × IsSync G.row × Fits cache.now child }
-            ensures { GaveBack cache.entry.now child base (ordered_by session lines.entry.now)
-                result.0 result.1 }
-        {
-            let phase = Phase {
-                cache,
-                alloc,
-                first,
-                lines,
-                gate,
-                refused,
-            };
-            phase.serve_session(rt, child, session, base)
-        },
-    );
+    let child = phase.cache.split(&mut pass);
+    let started = start(rt, scope, phase, child, session, bases[session as usize]);
     let (pass, others) = serve_sessions(rt, scope, phase, pass, session, bases);
     let back = match started {
         Ok(handle) => handle.join(rt),
-        Err(left) => {
-            // The pass of a thread that couldn't be started lies in its closure, and a dropped pass
-            // would take its part of the whole with it. So the closure is called, which sees that
-            // its session is refused and gives the pass back.
-            refused.store(session, Ordering::SeqCst);
-            (left.value)()
-        }
+        Err(back) => back,
     };
-    take_in(cache, pass, others, session, back)
+    take_in(phase.cache, pass, others, session, back)
 }
 
 /// Serves a phase: each session that has lines in a thread of its own.
@@ -200,14 +219,8 @@ pub fn serve_phase<R: Threads + Wait + Sync, G: Gate>(
         (book result.0)) }
     ensures err { IfErr result.1 (IsServiceFault (book result.0).seen) }
 {
-    let Phase {
-        cache,
-        alloc,
-        first,
-        lines,
-        gate,
-        refused,
-    } = *phase;
+    let (cache, lines, gate) = (phase.cache, phase.lines, phase.gate);
+    let (alloc, first, refused) = (phase.alloc, phase.first, phase.refused);
     thread::scope(
         thread::scope_env(),
         rt,

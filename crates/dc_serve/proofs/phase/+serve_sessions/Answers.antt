@@ -42,7 +42,7 @@ returns g t c =
           let same : GaveBack cache child base (ordered_by session lines) w.join-back.result.0 w.join-back.result.1 = search rules in
           subst (λ (b : Pass × Result SessionReplies ServeFault). GaveBack cache child base (ordered_by session lines) b.0 b.1) (sym w.back-is) same
       | in-Err w ↦
-          let same : GaveBack cache child base (ordered_by session lines) w.spawn_with-back.result.0 w.spawn_with-back.result.1 = search rules in
+          let same : GaveBack cache child base (ordered_by session lines) w.in-Err.back.0 w.in-Err.back.1 = search rules in
           subst (λ (b : Pass × Result SessionReplies ServeFault). GaveBack cache child base (ordered_by session lines) b.0 b.1) (sym w.back-is) same
     ] in
     let fork : Fork (known c.args.pass) (known c.split-child.new.pass) (known child) (known c.serve_sessions-pass.result.0) (known back.0) (known c.take_in.result.0) =
