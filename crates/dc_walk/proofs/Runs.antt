@@ -7,7 +7,7 @@ use Rattle.std.proofs.lemmas.Grind.{common_steps}
 use Rattle.std.proofs.lemmas.List.{get_or-take, take-append-drop, length-drop, length-take-le}
 use Rattle.std.proofs.lemmas.List.Folds.{list_any-append}
 use Rattle.dc_names.specs.Bytes.{pieces, is_empty, is_dot, is_dot_dot}
-use Rattle.dc_names.specs.Paths.{part_of, parts_of}
+use Rattle.dc_names.specs.Paths.{part_of}
 use Rattle.dc_row.specs.declared.TheConstants.{ROW_TEXT}
 use Rattle.dc_walk.specs.Long.{is_long, has_long_name}
 
@@ -39,12 +39,12 @@ short_piece piece le = grind (arith, nat_tests)
 
 long_part : (piece : List ℕ) → is_long (part_of piece) ≡ is_long_piece piece
 long_part piece = elim (is_dot piece) as (λ d. is_dot piece ≡ d → is_long (part_of piece) ≡ is_long_piece piece) [
-      | true ↦ λ e. let one = short_dot piece e in rw e (sym (short_piece piece (omega arith)))
-      | false ↦ λ e. elim (is_dot_dot piece) as (λ dd. is_dot_dot piece ≡ dd → is_long (part_of piece) ≡ is_long_piece piece) [
-          | true ↦ λ f. let two = short_dot_dot piece f in rw (e, f) (sym (short_piece piece (omega arith)))
-          | false ↦ λ f. rw (e, f) refl
-        ] refl
-    ] refl
+  | true ↦ λ e. let one = short_dot piece e in rw e (sym (short_piece piece (omega arith)))
+  | false ↦ λ e. elim (is_dot_dot piece) as (λ dd. is_dot_dot piece ≡ dd → is_long (part_of piece) ≡ is_long_piece piece) [
+    | true ↦ λ f. let two = short_dot_dot piece f in rw (e, f) (sym (short_piece piece (omega arith)))
+    | false ↦ λ f. rw (e, f) refl
+  ] refl
+] refl
 
 long_parts : (ps : List (List ℕ)) → list_any is_long (map part_of (filter (λ piece. not (is_empty piece)) ps)) ≡ list_any is_long_piece ps
 long_parts [] = refl
@@ -66,9 +66,9 @@ some_onto b (p ∷ ps) = omega arith
 some_piece : (text : List ℕ) → 0 < length (pieces text)
 some_piece [] = omega arith
 some_piece (b ∷ bs) = elim (b == 47) as (λ t. 0 < length (cond t ([] ∷ pieces bs) (onto_first b (pieces bs)))) [
-      | true ↦ omega arith
-      | false ↦ some_onto b (pieces bs)
-    ]
+  | true ↦ omega arith
+  | false ↦ some_onto b (pieces bs)
+]
 
 cut_apart : (xs ys : List ℕ) → pieces (xs ++ 47 ∷ ys) ≡ pieces xs ++ pieces ys
 cut_apart [] ys = refl
