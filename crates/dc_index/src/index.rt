@@ -43,6 +43,7 @@ fn label_bytes<'a>(label: &Label<'a>) -> &'a [u8]
 
 /// The bucket of a key among so many, at least one: by the hash of its number and of its label's
 /// bytes, which are a name, the two dots of dot-dot, or none for a text.
+#[inline(always)]
 pub fn bucket_of(key: &Key<'_>, buckets: u64) -> u64
     requires { 0 < buckets }
     ensures bucket { result ≡ bucket_of (key_shown key.now) buckets }

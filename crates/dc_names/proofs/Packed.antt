@@ -1,7 +1,9 @@
 -- Bytes in a word and back.
-use Rattle.std.proofs.Common.{◌≡◌, ℕ, zero, suc, ◌-◌, ◌^◌, ◌<◌, ◌≤◌, ◌∷◌, [], ◌++◌, List, length, replicate, get_or, refl, sym, arith}
+use Rattle.std.proofs.Common.{◌≡◌, ℕ, zero, suc, ◌+◌, ◌-◌, ◌*◌, ◌^◌, ◌<◌, ◌≤◌, ◌∷◌, [], ◌++◌, List, length, replicate, get_or, drop, refl, sym, subst, ap, ◌∙◌, arith}
 use Rattle.std.specs.Int.{sum_through, byte_worth}
 use Rattle.std.proofs.lemmas.Nat.{le_bytes_8, from_le_bytes-to_le_bytes_8}
+use Rattle.std.proofs.Math.Seq.{drop-cons}
+use Rattle.std.proofs.lemmas.List.{get_or-drop, length-drop}
 use Rattle.std.proofs.lemmas.Grind.{common_steps}
 use Rattle.dc_names.specs.Words.{AreBytes, word_of, bytes_in, padded}
 
@@ -28,3 +30,26 @@ bytes_in-word_of bs short are =
 pub word_of-bytes_in : (n : ℕ) → n < 2 ^ 64 → word_of (bytes_in n) ≡ n
 unfolding word_of bytes_in
 word_of-bytes_in n small = from_le_bytes-to_le_bytes_8 n small
+
+-- one byte more before the others
+pub word_of-cons : (b : ℕ) (bs : List ℕ) → length bs ≤ 7 → word_of (b ∷ bs) ≡ word_of bs * 256 + b
+unfolding word_of
+word_of-cons b bs short = let past : get_or bs 7 0 ≡ 0 = grind (arith, common_steps) in omega arith
+
+pub word_of-small : (bs : List ℕ) → length bs ≤ 7 → AreBytes bs → word_of bs < 2 ^ 56
+unfolding word_of
+word_of-small bs short are =
+    let past : get_or bs 7 0 ≡ 0 = grind (arith, common_steps) in
+    omega (arith, are 0, are 1, are 2, are 3, are 4, are 5, are 6)
+
+-- the bytes from the i-th on
+pub word_of-rest : (bs : List ℕ) (i : ℕ) → 0 < i → i ≤ length bs → length bs ≤ 8 → word_of (drop (i - 1) bs) ≡ word_of (drop i bs) * 256 + get_or bs (i - 1) 0
+word_of-rest bs i pos within short =
+    let next : suc (i - 1) ≡ i = omega arith in
+    let size = length-drop i bs in
+    ap word_of (drop-cons bs (i - 1) 0 (omega arith)) ∙ ap (λ (k : ℕ). word_of (get_or bs (i - 1) 0 ∷ drop k bs)) next ∙ word_of-cons (get_or bs (i - 1) 0) (drop i bs) (omega arith)
+
+pub rest-small : (bs : List ℕ) (i : ℕ) → 0 < i → length bs ≤ 8 → AreBytes bs → word_of (drop i bs) < 2 ^ 56
+rest-small bs i pos short are =
+    let size = length-drop i bs in
+    word_of-small (drop i bs) (omega arith) (λ k. subst (λ (b : ℕ). b < 256) (sym (get_or-drop i bs k 0)) (are (i + k)))

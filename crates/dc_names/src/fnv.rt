@@ -15,6 +15,7 @@ const PRIME_7: u64 = 14218562807570617051;
 
 /// The hash of a number and the bytes beside it, by FNV-1a with 64 bits.
 #[must_use]
+#[inline(always)]
 pub fn hash(number: u64, bytes: &[u8]) -> u64
     ensures { result ≡ hash_of number bytes.now }
 {

@@ -10,13 +10,12 @@ pub fn pack(bytes: &[u8]) -> u64
     ensures word { result ≡ word_of bytes.now }
     ensures back { bytes_in result ≡ padded bytes.now }
 {
-    // A whole word is one load, where copying so many bytes as there are would be a call.
-    if let Some(block) = bytes.as_array::<8>() {
-        return u64::from_le_bytes(*block);
+    // Byte by byte: a copy of so many bytes as there are would be a call, and keep the load waiting.
+    let mut word = 0;
+    for i in (0..bytes.len()).rev() {
+        word = word * 256 + u64::from(bytes[i]);
     }
-    let mut block = [0; 8];
-    block[..bytes.len()].copy_from_slice(bytes);
-    u64::from_le_bytes(block)
+    word
 }
 
 /// The 8 bytes of a word, the lowest first.

@@ -15,9 +15,10 @@ pub(crate) enum Step {
     AtLink(Target, u64),
 }
 
-/// What a part leads to.
+/// What a part leads to, by its number.
 pub(crate) enum Reached {
-    Goes(Target),
+    Dir(u64),
+    File(u64),
     Stops(Refusal),
-    Meets(Target),
+    Meets(u64),
 }

@@ -22,12 +22,13 @@ use std::ops::ControlFlow;
 
 fn on_to(there: Option<Target>) -> Reached
     ensures met { Some (met_shown result) ≡ met_by (Some there) }
-    ensures link { IfMeets result (λ link. there ≡ Some (link.0, Link)) }
+    ensures link { IfMeets result (λ link. there ≡ Some (link, Link)) }
 {
     match there {
         None => Reached::Stops(Refusal::NotFound),
-        Some((number, Kind::Link)) => Reached::Meets((number, Kind::Link)),
-        Some(place) => Reached::Goes(place),
+        Some((number, Kind::Dir)) => Reached::Dir(number),
+        Some((number, Kind::File)) => Reached::File(number),
+        Some((number, Kind::Link)) => Reached::Meets(number),
     }
 }
 
@@ -47,8 +48,8 @@ pub(crate) fn step_on<F: Finder>(
         return Ok(Reached::Stops(Refusal::NotDirectory));
     }
     match part {
-        Part::Dot => Ok(Reached::Goes(place)),
-        Part::DotDot if place.0 == 1 => Ok(Reached::Goes(place)),
+        Part::Dot => Ok(Reached::Dir(place.0)),
+        Part::DotDot if place.0 == 1 => Ok(Reached::Dir(place.0)),
         Part::DotDot | Part::Normal(_) => Ok(on_to(finder.find(place.0, part)?)),
     }
 }
@@ -87,12 +88,13 @@ pub(crate) fn after<T: Bytes + Drop>(
     ensures link { (said : Teller) → IsSaidMet said reached → IsSaidFlow said result }
 {
     match reached {
-        Reached::Goes(next) => ControlFlow::Continue(next),
+        Reached::Dir(number) => ControlFlow::Continue((number, Kind::Dir)),
+        Reached::File(number) => ControlFlow::Continue((number, Kind::File)),
         Reached::Stops(refusal) => ControlFlow::Break(Step::Ended(End::Refused(refusal))),
         // Only at a link does it matter whether it is the last, so only here it is looked for.
         Reached::Meets(link) if is_kept(follow, left.is_done(), slash) => {
-            ControlFlow::Break(Step::Ended(End::Found(link)))
+            ControlFlow::Break(Step::Ended(End::Found((link, Kind::Link))))
         }
-        Reached::Meets(link) => ControlFlow::Break(Step::AtLink(place, link.0)),
+        Reached::Meets(link) => ControlFlow::Break(Step::AtLink(place, link)),
     }
 }

@@ -1,11 +1,9 @@
 -- Words that are compared from the second on.
-use Rattle.std.proofs.Common.{◌≡◌, ℕ, zero, suc, ◌+◌, ◌-◌, ◌<◌, ◌≤◌, List, [], ◌∷◌, length, get_or, take, drop, Option, Some, IsTrue, refl, subst, sym, ap, ◌∙◌, arith}
+use Rattle.std.proofs.Common.{◌≡◌, ℕ, zero, suc, ◌+◌, ◌-◌, ◌<◌, ◌≤◌, List, [], ◌∷◌, length, get_or, take, drop, Option, refl, sym, ap, ◌∙◌, arith}
 use Rattle.std.proofs.lemmas.List.{get_or-take, get_or-drop}
-use Rattle.dc_names.specs.Words.{AreBytes}
-use Rattle.dc_plain.specs.Facts.{Target, Label, Fact, label_bytes}
-use Rattle.dc_plain.specs.Facts.Fact.{Leads}
+use Rattle.dc_plain.specs.Facts.{Fact}
 use Rattle.dc_row.specs.Laws.{CountsTellNothing}
-use Rattle.dc_row.specs.Spelling.{fields, has_spelling, kind_code, target_number, word_at, IsSpelled, Spells}
+use Rattle.dc_row.specs.Spelling.{Spells}
 use Rattle.dc_row.specs.declared.TheConstants.{ROW_WORDS}
 
 from_second : (ws : List ℕ) (n i : ℕ) → 0 < i → i ≤ n → get_or (take n (drop 1 ws)) (i - 1) 0 ≡ get_or ws i 0

@@ -1,6 +1,6 @@
 //! An entry that is sought in the words of rows, which are compared and not decoded.
 
-ghost use Rattle.std.specs.Prelude.{◌≡◌, ◌≤◌, ◌↔◌, length, Option, Some, IfSome, IfNone, IsTrue};
+ghost use Rattle.std.specs.Prelude.{◌≡◌, ◌≤◌, ◌↔◌, length, Option, Some, IfSome, IfNone, IsTrue, true, false};
 ghost use Rattle.dc_names.specs.Words.{AreBytes};
 ghost use Rattle.dc_plain.specs.Facts.{Target};
 ghost use Rattle.dc_plain.specs.Facts.Fact.{Leads};
@@ -16,7 +16,7 @@ use dc_plain::{Key, Label};
 
 /// Where the words say that the entry of a key leads, or `None` where they spell no entry of that
 /// key. The sequence count isn't looked at, and no row spells an entry of the label `Text`.
-#[inline]
+#[inline(always)]
 pub fn entry_in(words: &[u64], key: Key<'_>) -> Option<Option<(u64, Kind)>>
     ensures spelled { IfSome result (λ target. let key = key_shown key.entry in
         Spells words.now (Some (Leads key.number key.label target))) }
@@ -24,33 +24,31 @@ pub fn entry_in(words: &[u64], key: Key<'_>) -> Option<Option<(u64, Kind)>>
         Spells words.now (Some (Leads key.number key.label target)) → ⊥) }
 {
     // Most rows of a bucket are of another directory: one word tells, and no text is looked at.
-    if words.len() != ROW_WORDS || number(words) != key.number {
+    if words.len() != ROW_WORDS || number(words) != key.number || !is_entry_of(words, key) {
         return None;
     }
-    compared(words, key)
+    Some(target_in(words))
 }
 
-/// The same of a row of the key's directory.
-fn compared(words: &[u64], key: Key<'_>) -> Option<Option<(u64, Kind)>>
+/// Whether the words spell an entry of a key, wherever it leads.
+#[inline(always)]
+fn is_entry_of(words: &[u64], key: Key<'_>) -> bool
     requires size { length words.now ≡ ROW_WORDS }
-    ensures spelled { IfSome result (λ target. let key = key_shown key.entry in
-        Spells words.now (Some (Leads key.number key.label target))) }
-    ensures none { IfNone result ((target : Option Target) → let key = key_shown key.entry in
-        Spells words.now (Some (Leads key.number key.label target)) → ⊥) }
+    ensures spelled { result ≡ true → let key = key_shown key.entry in
+        (target : Option Target) × Spells words.now (Some (Leads key.number key.label target)) }
+    ensures none { result ≡ false → (target : Option Target) → let key = key_shown key.entry in
+        Spells words.now (Some (Leads key.number key.label target)) → ⊥ }
 {
     let target = target_in(words);
     if !has_spelling(key, &target) {
-        return None;
+        return false;
     }
     let (kind, value) = (kind_code(&target), target_number(&target));
-    if is_entry(words, kind, key.number, value, key.label.bytes()) {
-        Some(target)
-    } else {
-        None
-    }
+    is_entry(words, kind, key.number, value, key.label.bytes())
 }
 
 /// Whether the words after the sequence count are those of an entry with these fields.
+#[inline(always)]
 fn is_entry(words: &[u64], kind: u64, number: u64, value: u64, text: &[u8]) -> bool
     requires size { length words.now ≡ ROW_WORDS }
     requires kind { kind ≤ 3 }

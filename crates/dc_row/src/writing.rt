@@ -103,6 +103,7 @@ pub(crate) fn spell(tag: u64, kind: u64, number: u64, value: u64, text: &[u8]) -
 }
 
 /// Eight bytes of a text in one word, with zeros past its end.
+#[inline(always)]
 pub(crate) fn text_word(text: &[u8], at: usize) -> u64
     requires { at < ROW_WORDS }
     ensures { result ≡ text_word text.now at }
@@ -111,5 +112,8 @@ pub(crate) fn text_word(text: &[u8], at: usize) -> u64
         return 0;
     }
     let rest = &text[8 * at..];
-    pack(&rest[..rest.len().min(8)])
+    match rest.first_chunk::<8>() {
+        Some(block) => u64::from_le_bytes(*block),
+        None => pack(rest),
+    }
 }

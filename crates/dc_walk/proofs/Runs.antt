@@ -7,7 +7,7 @@ use Rattle.std.proofs.lemmas.Grind.{common_steps}
 use Rattle.std.proofs.lemmas.List.{get_or-take, take-append-drop, length-drop, length-take-le}
 use Rattle.std.proofs.lemmas.List.Folds.{list_any-append}
 use Rattle.dc_names.specs.Bytes.{pieces, is_empty, is_dot, is_dot_dot}
-use Rattle.dc_names.specs.Paths.{part_of, parts_of}
+use Rattle.dc_names.specs.Paths.{part_of}
 use Rattle.dc_row.specs.declared.TheConstants.{ROW_TEXT}
 use Rattle.dc_walk.specs.Long.{is_long, has_long_name}
 

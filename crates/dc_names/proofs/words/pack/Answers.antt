@@ -1,24 +1,31 @@
-use Rattle.std.proofs.Common.{◌≡◌, ℕ, length, drop, replicate, ◌-◌, ◌∙◌, ap, rules}
-use Rattle.std.proofs.lemmas.List.{drop-replicate}
-use Rattle.std.specs.Int.{w64, from_le_bytes}
+use Rattle.std.proofs.Common.{◌≡◌, ℕ, ◌-◌, ◌*◌, ◌+◌, drop, refl, sym, ◌∙◌, ap, arith}
+use Rattle.std.proofs.Math.Seq.{drop-length}
 use Rattle.dc_names.specs.Words.{word_of}
-use Rattle.dc_names.proofs.Packed.{word_of-padded, bytes_in-word_of}
+use Rattle.dc_names.proofs.Packed.{bytes_in-word_of, word_of-rest, rest-small}
 use Rattle.dc_names.proofs.words.pack.Goals as goal
 
-pub returns-in-Some-clause-word : goal.returns-in-Some-clause-word
+pub loop-i-init : goal.loop-i-init
 unfolding word_of
-returns-in-Some-clause-word c =
-    let same : c.in-Some.block.now ≡ c.args.bytes.now = search rules in
-    c.from_le_bytes.ensures ∙ ap (from_le_bytes w64) same
+loop-i-init c = rw (drop-length c.args.bytes.now) refl
 
-pub returns-in-Some-clause-back : goal.returns-in-Some-clause-back
-returns-in-Some-clause-back c = rw (returns-in-Some-clause-word c) (bytes_in-word_of c.args.bytes.now c.requires (λ i. (c.type_inv.bytes i).fits))
+pub overflow_mul-word : goal.overflow_mul-word
+overflow_mul-word c =
+    let small = rest-small c.args.bytes.now c.loop-i.i c.loop-i-test.true c.requires (λ k. (c.type_inv.bytes k).fits) in
+    let is : c.loop-i.word ≡ word_of (drop c.loop-i.i c.args.bytes.now) = c.loop-i.invariant in
+    omega arith
 
-pub returns-clause-word : goal.returns-clause-word
-unfolding word_of
-returns-clause-word c =
-    let left : drop {A = ℕ} (length c.args.bytes.now) (replicate 8 0) ≡ replicate (8 - length c.args.bytes.now) 0 = drop-replicate _ _ _ in
-    rw (c.from_le_bytes-2.ensures, c.copy_from_slice.ensures.after) (rw left (word_of-padded c.args.bytes.now))
+pub overflow_add-word : goal.overflow_add-word
+overflow_add-word c =
+    let small = rest-small c.args.bytes.now c.loop-i.i c.loop-i-test.true c.requires (λ k. (c.type_inv.bytes k).fits) in
+    let is : c.loop-i.word ≡ word_of (drop c.loop-i.i c.args.bytes.now) = c.loop-i.invariant in
+    omega (arith, (c.type_inv.bytes (c.loop-i.i - 1)).fits)
+
+pub loop-i-preserved : goal.loop-i-preserved
+loop-i-preserved c =
+    let rest = word_of-rest c.args.bytes.now c.loop-i.i c.loop-i-test.true c.loop-i.auto.i c.requires in
+    ap (λ (n : ℕ). n * 256 + c.from.result) c.loop-i.invariant ∙ ap (λ (n : ℕ). word_of (drop c.loop-i.i c.args.bytes.now) * 256 + n) c.from.ensures ∙ sym rest
 
 pub returns-clause-back : goal.returns-clause-back
-returns-clause-back c = rw (returns-clause-word c) (bytes_in-word_of c.args.bytes.now c.requires (λ i. (c.type_inv.bytes i).fits))
+returns-clause-back c =
+    let none : c.loop-i.i ≡ 0 = omega arith in
+    rw (c.loop-i.invariant, none) (bytes_in-word_of c.args.bytes.now c.requires (λ k. (c.type_inv.bytes k).fits))

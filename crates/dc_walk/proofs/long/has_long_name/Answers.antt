@@ -1,5 +1,4 @@
-use Rattle.std.proofs.Common.{◌≡◌, ◌+◌, ◌≤◌, ap, sym, ◌∙◌, length, take, arith}
-use Rattle.dc_row.specs.declared.TheConstants.{ROW_TEXT}
+use Rattle.std.proofs.Common.{ap, sym, ◌∙◌, arith}
 use Rattle.dc_walk.proofs.Runs.{has_long_piece, by_pieces, short_bytes, window, past_there, long_run}
 use Rattle.dc_walk.proofs.long.has_long_name.Goals as goal
 

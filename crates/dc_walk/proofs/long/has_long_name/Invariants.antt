@@ -1,4 +1,4 @@
-use Rattle.std.proofs.Common.{◌≡◌, ℕ, length}
+use Rattle.std.proofs.Common.{◌≡◌, length}
 use Rattle.dc_walk.specs.Long.{has_long_name}
 use Rattle.dc_walk.proofs.Runs.{has_long_piece}
 use Rattle.dc_walk.proofs.long.has_long_name.Given as goal
