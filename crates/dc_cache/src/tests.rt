@@ -271,10 +271,10 @@ fn a_text_without_room_is_asked_under_the_lock(rt: HostRuntime) -> Result<(), Fa
     let file = Reply::Found(3, Kind::File);
     let (first, found) = look_twice(&rt, rt.alloc(), &cache, &mut p, b"/t/f");
     assert!(rt; is_missed(&first) && is(&found, &file, 3));
-    for _ in 0..2 {
-        let (first, found) = look_twice(&rt, rt.alloc(), &cache, &mut p, b"/t/f");
-        assert!(rt; is_linked(&first) && is(&found, &file, 3));
-    }
+    let (first, found) = look_twice(&rt, rt.alloc(), &cache, &mut p, b"/t/f");
+    assert!(rt; is_linked(&first) && is(&found, &file, 3));
+    let (first, found) = look_twice(&rt, rt.alloc(), &cache, &mut p, b"/t/f");
+    assert!(rt; is_linked(&first) && is(&found, &file, 3));
     Ok(())
 }
 
