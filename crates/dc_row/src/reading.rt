@@ -64,7 +64,9 @@ pub fn target(words: &[u64]) -> Option<(u64, Kind)>
     }
 }
 
-pub(crate) fn text_in(words: &[u64]) -> Option<RowText>
+/// The text that stands in the words of a name or a link. Of other words it is whatever they have there,
+/// or `None` where they say that it is longer than a row has room for.
+pub fn text_in(words: &[u64]) -> Option<RowText>
     ensures { (fact : Option Fact) → Spells words.now fact → result ≡ Some (fields_of fact).text }
 {
     let len = length(words) as usize;

@@ -1,7 +1,7 @@
 use crate::{
     EMPTY_ROW, ROW_WORDS, Row, RowLabel, RowText, counts_tell_nothing, decode,
     empty_row_spells_nothing, encode, kind, length, number, rows_have_one_spelling, tag, target,
-    tells_of, text_of, value, words_have_the_fact_they_spell, words_spell_one_row,
+    tells_of, text_in, text_of, value, words_have_the_fact_they_spell, words_spell_one_row,
 };
 use dc_names::{Kind, Name};
 use dc_plain::{Key, Label};
@@ -108,6 +108,7 @@ fn finds_texts_by_their_words(rt: HostRuntime) {
         assert_eq!(rt; tells_of(&EXAMPLES[at], Key { number, label }), want);
     }
     assert_eq!(rt; text_of(&EXAMPLES[3]), RowText::of(b"./d"));
+    assert_eq!(rt; text_in(&EXAMPLES[0]), RowText::of(b"usr"));
     assert_eq!(rt; text_of(&EXAMPLES[3][..7]), None);
     for at in [0, 1, 2, 4] {
         assert_eq!(rt; text_of(&EXAMPLES[at]), None);

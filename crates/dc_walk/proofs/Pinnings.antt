@@ -1,5 +1,5 @@
 -- What a finder over pinned rows knows after the lock was had and given back, and after a question.
-use Rattle.std.proofs.Common.{◌≡◌, ℕ, ◌+◌, ◌≤◌, List, ◌∷◌, [], ◌++◌, Bool, true, false, not, Option, Some, None, is_some, if◌then◌else◌, length, map, refl, ap, sym, ◌∙◌, subst, arith}
+use Rattle.std.proofs.Common.{◌≡◌, ℕ, ◌≤◌, List, ◌∷◌, [], Bool, true, false, not, Option, Some, None, is_some, if◌then◌else◌, length, map, refl, ap, sym, ◌∙◌, subst, arith}
 use Rattle.std.proofs.lemmas.List.{map-append}
 use Rattle.dc_plain.specs.Facts.{Key, Teller, told_by}
 use Rattle.dc_plain.specs.Resolution.{Outcome}
@@ -9,7 +9,7 @@ use Rattle.dc_plain.specs.Tellers.{Extends}
 use Rattle.dc_events.specs.Views.{View, Walk, Book}
 use Rattle.dc_events.specs.Effects.{begins, with_seen, empty_hold}
 use Rattle.dc_table.specs.Changes.{NothingNew, Rested}
-use Rattle.dc_table.specs.Passes.{Pass, view, share, IsIdle}
+use Rattle.dc_table.specs.Passes.{Pass, view, IsIdle}
 use Rattle.dc_table.specs.Shares.{Share}
 use Rattle.dc_walk.specs.Uses.{Use, facts_of}
 use Rattle.dc_walk.specs.Asking.{IsWalk, GoesOn}

@@ -4,7 +4,7 @@ use Rattle.std.proofs.lemmas.List.{append-nil, append_assoc}
 use Rattle.std.specs.List.{Contains}
 use Rattle.std.proofs.lemmas.List.Elements.{Contains-append_left}
 use Rattle.dc_names.specs.Paths.{path_in}
-use Rattle.dc_plain.specs.Facts.{Fact, Key, Teller, key_of, told_by}
+use Rattle.dc_plain.specs.Facts.{Fact, Key, Teller, key_of}
 use Rattle.dc_plain.specs.Places.{walk}
 use Rattle.dc_plain.specs.Resolution.{Outcome}
 use Rattle.dc_plain.specs.Requests.Request.{Look}
@@ -25,7 +25,7 @@ use Rattle.dc_walk.specs.declared.finder.Rows.{Rows}
 use Rattle.dc_walk.specs.declared.used.Used.{Used}
 use Rattle.dc_walk.proofs.Told.{new_same}
 use Rattle.dc_walk.proofs.Walked.{passed, stumbled, answered, last_noted, last_fault, other_still}
-use Rattle.dc_walk.proofs.Seats.{same_pass, same_passes, fits_still}
+use Rattle.dc_walk.proofs.Seats.{same_pass, fits_still}
 use Rattle.dc_table.specs.Shares.{Share}
 use Rattle.dc_table.specs.Passes.{Pass, share, IsSamePass, IsIdle}
 use Rattle.dc_table.specs.declared.shared.Shared.{Shared}

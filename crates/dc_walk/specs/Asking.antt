@@ -1,5 +1,5 @@
 -- The state of a walk, and the keys that it asks for.
-use Rattle.std.specs.Prelude.{◌≡◌, ◌≢◌, ℕ, ◌+◌, ◌*◌, ◌<◌, ◌≤◌, List, ◌++◌, true, false, Option, Some, length}
+use Rattle.std.specs.Prelude.{◌≡◌, ℕ, ◌+◌, ◌*◌, ◌<◌, ◌≤◌, List, ◌++◌, true, false, Option, Some, length}
 use Rattle.std.specs.List.{Contains}
 use Rattle.dc_plain.specs.Facts.{Fact, Key, Teller, told_by}
 use Rattle.dc_plain.specs.Resolution.{Outcome}

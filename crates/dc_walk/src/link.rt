@@ -5,7 +5,7 @@ ghost use Rattle.dc_row.specs.Spelling.{TellsText};
 ghost use Rattle.dc_walk.specs.Finds.{SpellsText};
 
 use dc_resolve::Bytes;
-use dc_row::{RowText, text_of};
+use dc_row::{RowText, text_in};
 
 /// The text of a link, by value, since it is followed after other rows were used.
 #[derive(Debug, Drop)]
@@ -14,12 +14,12 @@ pub(crate) struct LinkText {
 }
 
 impl LinkText {
-    /// The text that the words of a row spell.
+    /// The text that the words of a row spell, which were tested before.
     pub(crate) fn of(words: &[u64]) -> LinkText
         requires spelled { SpellsText words.now }
         ensures told { TellsText words.now (Some result.text) }
     {
-        match text_of(words) {
+        match text_in(words) {
             Some(text) => LinkText { text },
             None => unreachable!(),
         }

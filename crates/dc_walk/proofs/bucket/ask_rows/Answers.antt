@@ -1,4 +1,4 @@
-use Rattle.std.proofs.Common.{arith, ◌+◌, ◌<◌, refl, ap, sym, ◌∙◌, subst}
+use Rattle.std.proofs.Common.{arith, ◌+◌, ◌<◌, refl, sym, ◌∙◌, subst}
 use Rattle.arrayvec.specs.ArrayVec.{array_vec_len}
 use Rattle.dc_plain.specs.KeysShown.{key_shown}
 use Rattle.dc_table.specs.Passes.{share}

@@ -1,8 +1,6 @@
-use Rattle.std.proofs.Common.{◌≡◌, ◌+◌, ◌<◌, ◌≤◌, ℕ, length, arith, below_more, subst, sym, ◌∙◌}
+use Rattle.std.proofs.Common.{arith}
 use Rattle.dc_plain.specs.KeysShown.{key_shown}
-use Rattle.dc_row.specs.Spelling.{TellsOf}
-use Rattle.dc_walk.specs.Finds.{no_use}
-use Rattle.dc_walk.proofs.Standing.{AreOthers, stands_so, none_stands}
+use Rattle.dc_walk.proofs.Standing.{stands_so, none_stands}
 use Rattle.dc_walk.proofs.used.standing.Goals as goal
 
 pub returns-then-tells_of-clause-some : goal.returns-then-tells_of-clause-some
