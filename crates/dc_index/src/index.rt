@@ -38,11 +38,13 @@ pub fn bucket_of(key: &Key<'_>, buckets: u64) -> u64
     ensures bucket { result ≡ bucket_of (key_shown key.now) buckets }
     ensures within { result < buckets }
 {
-    remainder(hash(key.number, key.label.bytes()), buckets)
+    bucket_at(hash(key.number, key.label.bytes()), buckets)
 }
 
-/// The remainder of a hash. The number of buckets is mostly a power of two, and then nothing is divided.
-fn remainder(hash: u64, buckets: u64) -> u64
+/// The bucket of a key by its hash. The number of buckets is mostly a power of two, and then nothing is
+/// divided.
+#[inline(always)]
+pub fn bucket_at(hash: u64, buckets: u64) -> u64
     requires { 0 < buckets }
     ensures { result ≡ hash % buckets }
 {
