@@ -1,8 +1,10 @@
 //! The questions of a walk, answered by rows.
 
 ghost use Rattle.std.specs.Prelude.{◌≡◌, ◌≢◌, None, true, is_some, IfOk, OnOk, OnErr};
+ghost use Rattle.dc_names.specs.Hash.{hash_of};
 ghost use Rattle.dc_names.specs.Names.{part_shown};
 ghost use Rattle.dc_names.specs.Paths.Part.{Dot};
+ghost use Rattle.dc_plain.specs.Facts.{label_bytes};
 ghost use Rattle.dc_plain.specs.Facts.Label.{Text};
 ghost use Rattle.dc_plain.specs.KeysShown.{key_shown};
 ghost use Rattle.dc_resolve.specs.Asked.{label_of};
@@ -18,8 +20,8 @@ use crate::finder::Rows;
 use crate::link::LinkText;
 use crate::used::{standing, target_at, text_at};
 use crate::why::Why;
-use dc_index::bucket_of;
-use dc_names::{Kind, Part};
+use dc_index::bucket_at;
+use dc_names::{Kind, Part, hash};
 use dc_plain::{Key, Label};
 use dc_resolve::{Finder, Stop};
 
@@ -55,11 +57,13 @@ pub(crate) fn missing(key: Key<'_>, answered: u64) -> Why
     }
 }
 
-/// Asks the rows of a key's bucket for a key of which nothing was told, and answers which of the rows
-/// that were used tells of it.
-fn ask(rows: &mut Rows<'_>, key: Key<'_>) -> Result<usize, Stop>
+/// Asks the rows of a key's bucket for a key of which nothing was told, by its hash, and answers which
+/// of the rows that were used tells of it.
+#[inline(always)]
+fn ask(rows: &mut Rows<'_>, key: Key<'_>, hash: u64) -> Result<usize, Stop>
     requires fresh { rows.old.why ≡ None }
     requires good { IsGood rows.old }
+    requires hash { hash ≡ hash_of (key_shown key).number (label_bytes (key_shown key).label) }
     requires needed { IsNeeded (outcome_in rows.old) (said_in rows.old) (key_shown key).number
         (key_shown key).label }
     requires untold { IsUntold (said_in rows.old) (key_shown key).number (key_shown key).label }
@@ -74,7 +78,7 @@ fn ask(rows: &mut Rows<'_>, key: Key<'_>) -> Result<usize, Stop>
     }
     let answered = rows.used.len();
     let buckets = rows.shared.limits.rows / BUCKET_ROWS;
-    let first = BUCKET_ROWS * bucket_of(&key, buckets);
+    let first = BUCKET_ROWS * bucket_at(hash, buckets);
     match ask_rows(rows, first, key) {
         Ok(()) => Ok(answered),
         Err(Some(row)) => {
@@ -88,9 +92,11 @@ fn ask(rows: &mut Rows<'_>, key: Key<'_>) -> Result<usize, Stop>
     }
 }
 
-/// Which of the rows that were used tells of a key. Where none does yet, the rows of its bucket are
-/// asked.
-fn told(rows: &mut Rows<'_>, key: Key<'_>) -> Result<usize, Stop>
+/// Which of the rows that were used tells of a key with this hash. Where none does yet, the rows of its
+/// bucket are asked.
+#[inline(always)]
+fn told(rows: &mut Rows<'_>, key: Key<'_>, hash: u64) -> Result<usize, Stop>
+    requires hash { hash ≡ hash_of (key_shown key).number (label_bytes (key_shown key).label) }
     requires may { MayAskRows rows.old (key_shown key).number (key_shown key).label }
     ensures becomes { Becomes rows.old rows.new }
     ensures told { IfOk result (IsStanding rows.new.used.now.items (key_shown key.entry)) }
@@ -102,7 +108,7 @@ fn told(rows: &mut Rows<'_>, key: Key<'_>) -> Result<usize, Stop>
     }
     match standing(rows.used.as_slice(), key) {
         Some(place) => Ok(place),
-        None => ask(rows, key),
+        None => ask(rows, key, hash),
     }
 }
 
@@ -119,13 +125,24 @@ impl<'a> Finder for Rows<'a> {
 
     fn find(&mut self, dir: u64, part: Part<'_>) -> Result<Option<(u64, Kind)>, Stop> {
         let key = key_of(dir, part);
-        let place = told(self, key)?;
+        self.find_hashed(dir, part, hash(dir, key.label.bytes()))
+    }
+
+    #[inline(always)]
+    fn find_hashed(
+        &mut self,
+        dir: u64,
+        part: Part<'_>,
+        hash: u64,
+    ) -> Result<Option<(u64, Kind)>, Stop> {
+        let key = key_of(dir, part);
+        let place = told(self, key, hash)?;
         Ok(target_at(self.used.as_slice(), place, key))
     }
 
     fn link_text(&mut self, number: u64) -> Result<LinkText, Stop> {
         let key = text_key(number);
-        let place = told(self, key)?;
+        let place = told(self, key, hash(number, key.label.bytes()))?;
         Ok(text_at(self.used.as_slice(), place, key))
     }
 

@@ -18,6 +18,7 @@ use dc_plain::Key;
 
 /// Looks at the rows of a bucket up to the first that tells of a key, which is the last of the used
 /// ones then. Else it answers the first of them that is odd.
+#[inline(always)]
 pub(crate) fn ask_rows(rows: &mut Rows<'_>, first: u64, key: Key<'_>) -> Result<(), Option<u64>>
     requires finding { IsFinding rows.old 0 }
     requires within { first + BUCKET_ROWS ≤ (share rows.old.pass.now).rows }

@@ -28,6 +28,7 @@ pub(crate) enum Seen {
 
 /// Looks at a row for what it tells of a key. Where it does it is the last of the used ones. So many
 /// rows were looked at before.
+#[inline(always)]
 pub(crate) fn look_at(rows: &mut Rows<'_>, row: u64, key: Key<'_>, before: u64) -> Seen
     requires finding { IsFinding rows.old before }
     requires row { row < (share rows.old.pass.now).rows }

@@ -34,6 +34,7 @@ impl Default for Used {
 }
 
 /// Which of the rows that were used tells of a key, if one does.
+#[inline(always)]
 pub(crate) fn standing(used: &[Used], key: Key<'_>) -> Option<usize>
     requires spelled { AllSpelled used.now }
     ensures some { IfSome result (IsStanding used.now (key_shown key.entry)) }
@@ -50,6 +51,7 @@ pub(crate) fn standing(used: &[Used], key: Key<'_>) -> Option<usize>
 }
 
 /// Where the entry of a key leads, by the row that was used for it.
+#[inline(always)]
 pub(crate) fn target_at(used: &[Used], place: usize, key: Key<'_>) -> Option<(u64, Kind)>
     requires standing { IsStanding used.now (key_shown key) place }
     requires entry { (key_shown key).label ≢ Text }
