@@ -103,7 +103,7 @@ pub fn fast(
             let used = used.as_slice();
             settle(shared, pass, used, base, path, follow, reply, begun)
         }
-        // No other walk of this path by rows would come further than to that name.
+        // The walk that fills rows comes no further than to that name either.
         Err(_) if has_long_name(path) => Quick::Again(Why::Long),
         Err(why) => Quick::Again(why),
     }
