@@ -20,7 +20,7 @@ FILES = 1_000
 DIRECTORIES = {1: [], 4: [4, 20, 100], 8: [2, 4, 8, 16, 32, 63, 125]}
 LETTERS = "abcdefghijklmnopqrstuvwxyz0123456789_-"
 BUCKETS, ROWS = 1_024, 4
-LOOKS, TURNS, ROUNDS = 20_000, 4, 16
+LOOKS, TURNS, ROUNDS = 4_000, 15, 60
 
 
 def bucket(number, name):
