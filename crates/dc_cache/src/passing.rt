@@ -2,11 +2,11 @@
 
 ghost use Rattle.std.specs.Prelude.{◌≡◌, ◌*◌, ◌≤◌, ◌↔◌, false, Err, IsOk, IfOk, IfErr, IfSome, IsSome};
 ghost use Rattle.dc_cache.specs.Passes.{known, view, share, Fits};
+ghost use Rattle.dc_events.specs.Sizes.{are_right};
+ghost use Rattle.dc_events.specs.declared.sizes.MakeFault.TheVariants.{BadSize};
 ghost use Rattle.dc_table.specs.Changes.{NothingNew};
 ghost use Rattle.dc_table.specs.Ends.{Ends};
 ghost use Rattle.dc_table.specs.Shares.{IsWhole, first_known, kept_half, new_half, both};
-ghost use Rattle.dc_table.specs.Sizes.{are_right};
-ghost use Rattle.dc_table.specs.declared.fault.MakeFault.TheVariants.{BadSize};
 
 use crate::cache::{Dcache, Ended, NotYet, Pass};
 use arrayvec::ArrayVec;

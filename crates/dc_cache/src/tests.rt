@@ -34,6 +34,12 @@ fn symlink<'a>(text: &'a [u8], path: &'a [u8]) -> Call<'a>
     }
 }
 
+fn unlink(path: &[u8]) -> Call<'_>
+    ensures { IsChange result }
+{
+    Call::Unlink { base: 1, path }
+}
+
 /// What the fast walk of a path from the root comes to, or `None` where the text is no path.
 fn look_fast(cache: &Dcache, pass: &mut Pass, text: &[u8]) -> Option<Fast>
     requires { Fits cache.now pass.old }
@@ -66,6 +72,11 @@ fn is_done(found: &Option<Fast>, reply: &Reply, at: u64) -> bool {
 /// Whether the rows didn't answer the first question of a walk.
 fn is_missed(found: &Option<Fast>) -> bool {
     matches!(found, Some(Fast::Again(Why::Miss(0))))
+}
+
+/// Whether no row had the text of a link.
+fn is_linked(found: &Option<Fast>) -> bool {
+    matches!(found, Some(Fast::Again(Why::Link)))
 }
 
 #[test]
@@ -191,6 +202,79 @@ fn reads_that_take_memory_are_answered(rt: HostRuntime) -> Result<(), Fail> {
     let s = Vec::from_slice(rt.alloc(), b"s").expect(&rt, "memory");
     let names = Vec::from_array(rt.alloc(), [d, s]).expect(&rt, "memory");
     assert!(rt; is(&told.expect(&rt, "memory"), &Reply::Names(names), 2));
+    Ok(())
+}
+
+/// What the fast walk and then the whole look-up of a path come to.
+fn look_twice<R: Wait>(
+    rt: &R,
+    alloc: Global,
+    cache: &Dcache,
+    pass: &mut Pass,
+    path: &[u8],
+) -> (Option<Fast>, Stamped)
+    requires { Fits cache.now pass.old }
+    ensures { Fits cache.now pass.new }
+{
+    let first = look_fast(cache, pass, path);
+    (first, cache.look(rt, alloc, pass, 1, path, Follow::Yes))
+}
+
+/// Makes a directory, a file in it, and a link to the directory with this text.
+fn make_linked<R: Wait>(
+    rt: &R,
+    alloc: Global,
+    cache: &Dcache,
+    pass: &mut Pass,
+    text: &[u8],
+    path: &[u8],
+) -> bool
+    requires { Fits cache.now pass.old }
+    ensures { Fits cache.now pass.new }
+{
+    let first = cache.change(rt, alloc, pass, &mkdir(b"/d"));
+    let second = cache.change(rt, alloc, pass, &create(b"/d/f"));
+    let third = cache.change(rt, alloc, pass, &symlink(text, path));
+    is_made(&first, &Reply::Done(2), 0)
+        && is_made(&second, &Reply::Done(3), 1)
+        && is_made(&third, &Reply::Done(4), 2)
+}
+
+/// The text of a link stands in a row as long as the link has a name. A new link of that name is
+/// another, whose text is asked anew.
+#[test]
+fn links_are_followed_by_their_rows(rt: HostRuntime) -> Result<(), Fail> {
+    let (cache, mut p) = Dcache::new(rt.alloc(), 1, 16).expect(&rt, "memory");
+    assert!(rt; make_linked(&rt, rt.alloc(), &cache, &mut p, b"./d", b"/s"));
+    let file = Reply::Found(3, Kind::File);
+    let (first, found) = look_twice(&rt, rt.alloc(), &cache, &mut p, b"/s/f");
+    assert!(rt; is_missed(&first) && is(&found, &file, 3));
+    assert!(rt; is_done(&look_fast(&cache, &mut p, b"/s/f"), &file, 3));
+    let gone = cache.change(&rt, rt.alloc(), &mut p, &unlink(b"/s"));
+    assert!(rt; is_made(&gone, &Reply::Unit, 3));
+    assert!(rt; is_done(&look_fast(&cache, &mut p, b"/s/f"), &Reply::Refused(2), 4));
+    let made = cache.change(&rt, rt.alloc(), &mut p, &symlink(b"d", b"/s"));
+    assert!(rt; is_made(&made, &Reply::Done(5), 4));
+    let (first, found) = look_twice(&rt, rt.alloc(), &cache, &mut p, b"/s/f");
+    assert!(rt; is_linked(&first) && is(&found, &file, 5));
+    assert!(rt; is_done(&look_fast(&cache, &mut p, b"/s/f"), &file, 5));
+    Ok(())
+}
+
+/// A text of 33 bytes has no room in a row: each look-up asks for it under the lock.
+#[test]
+fn a_text_without_room_is_asked_under_the_lock(rt: HostRuntime) -> Result<(), Fail> {
+    let (cache, mut p) = Dcache::new(rt.alloc(), 1, 16).expect(&rt, "memory");
+    let text = b"././././././././././././././././d";
+    assert!(rt; text.len() == 33);
+    assert!(rt; make_linked(&rt, rt.alloc(), &cache, &mut p, text, b"/t"));
+    let file = Reply::Found(3, Kind::File);
+    let (first, found) = look_twice(&rt, rt.alloc(), &cache, &mut p, b"/t/f");
+    assert!(rt; is_missed(&first) && is(&found, &file, 3));
+    let (first, found) = look_twice(&rt, rt.alloc(), &cache, &mut p, b"/t/f");
+    assert!(rt; is_linked(&first) && is(&found, &file, 3));
+    let (first, found) = look_twice(&rt, rt.alloc(), &cache, &mut p, b"/t/f");
+    assert!(rt; is_linked(&first) && is(&found, &file, 3));
     Ok(())
 }
 

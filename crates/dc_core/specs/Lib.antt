@@ -6,7 +6,6 @@ pub mod Spans
 pub mod Shown
 pub mod Told
 pub mod Labels
-pub mod Sizes
 pub mod Listed
 pub mod Steps
 pub mod Cores

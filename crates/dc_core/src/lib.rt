@@ -18,7 +18,8 @@ mod steps;
 mod tests;
 mod truths;
 
+pub use dc_events::MakeFault;
 pub use event::{Act, Event};
 pub use machine::Core;
-pub use refused::{MakeFault, Refused};
+pub use refused::Refused;
 pub use state::Finished;

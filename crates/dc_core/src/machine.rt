@@ -6,14 +6,15 @@ ghost use Rattle.dc_core.specs.Machine.{after, after_all, clock_of, opening};
 ghost use Rattle.dc_core.specs.Lives.{Lives, AreLegal};
 ghost use Rattle.dc_core.specs.Refusals.{Answers};
 ghost use Rattle.dc_core.specs.Shown.{event_shown, finished_shown, reason, IsMemory};
-ghost use Rattle.dc_core.specs.Sizes.{are_right};
-ghost use Rattle.dc_core.specs.declared.refused.MakeFault.TheVariants.{BadSize};
 ghost use Rattle.dc_events.specs.Rows.{count};
+ghost use Rattle.dc_events.specs.Sizes.{are_right};
+ghost use Rattle.dc_events.specs.declared.sizes.MakeFault.TheVariants.{BadSize};
 
 use crate::state::{Finished, State};
-use crate::{Event, MakeFault, Refused};
+use crate::{Event, Refused};
 use dc_events::{
-    events_keep_the_rule, loads_tell_nothing, new_tables_have_the_rule, records_are_legal,
+    MakeFault, are_right, events_keep_the_rule, loads_tell_nothing, new_tables_have_the_rule,
+    records_are_legal,
 };
 use std::alloc::Global;
 use std::marker::Model;
@@ -47,10 +48,8 @@ impl Core {
             return Err(MakeFault::BadSize);
         }
         new_tables_have_the_rule();
-        match State::new(alloc, buckets * 4, actors, max_inodes) {
-            Ok(state) => Ok(Core { state }),
-            Err(_) => Err(MakeFault::NoMemory),
-        }
+        let state = State::new(alloc, buckets * 4, actors, max_inodes)?;
+        Ok(Core { state })
     }
 
     /// Does an event, or refuses it: exactly where the table of events says, by the first test that
@@ -127,15 +126,4 @@ impl Core {
     {
         self.state.words[0]
     }
-}
-
-/// Whether buckets are a power of two from 1 to 1,024, and from 1 to 1,048,576 inodes may live.
-fn are_right(buckets: u64, max_inodes: u64) -> bool
-    ensures { result ≡ are_right buckets max_inodes }
-{
-    1 <= buckets
-        && buckets <= 1024
-        && buckets.is_power_of_two()
-        && 1 <= max_inodes
-        && max_inodes <= 1048576
 }

@@ -3,6 +3,7 @@
 ghost use Rattle.std.specs.Prelude.{◌≡◌, ◌≤◌, map, replicate, IfOk};
 ghost use Rattle.dc_core.specs.Machine.{idle, opening};
 ghost use Rattle.dc_core.specs.Shown.{actor_shown, state_of};
+ghost use Rattle.dc_plain.specs.declared.TheConstants.{MOST_INODES};
 
 use crate::seat::Actor;
 use crate::state::State;
@@ -16,7 +17,7 @@ impl State {
     pub fn new(alloc: Global, rows: u64, actors: u64, max_inodes: u64) -> Result<State, NoMemory>
         requires few { rows ≤ 4096 }
         requires least { 1 ≤ max_inodes }
-        requires most { max_inodes ≤ 1048576 }
+        requires most { max_inodes ≤ MOST_INODES }
         ensures { IfOk result (λ state. state_of state ≡ opening max_inodes rows actors) }
     {
         Ok(State {

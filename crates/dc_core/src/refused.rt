@@ -4,16 +4,6 @@ ghost use Rattle.dc_core.specs.declared.refused.Refused.TheVariants.{NoMemory as
 use dc_names::NoMemory;
 use std::alloc::AllocError;
 
-/// Why no core was made.
-#[derive(Clone, Copy, Debug, PartialEq, Eq)]
-pub enum MakeFault {
-    /// A number of buckets that is no power of two from 1 to 1,024, or a limit of inodes that isn't
-    /// from 1 to 1,048,576.
-    BadSize,
-    /// No memory.
-    NoMemory,
-}
-
 /// Why an event was not done.
 #[derive(Clone, Copy, Debug, PartialEq, Eq)]
 pub enum Refused {

@@ -1,4 +1,4 @@
--- The rule of the shared words, the views of the actors, and what each event does to them.
+-- The rule of the shared words, the views of the actors, what each event does to them, and the sizes of a table.
 pub mod Views
 pub mod Standing
 pub mod Rows
@@ -9,3 +9,4 @@ pub mod Effects
 pub mod Legal
 pub mod Passes
 pub mod Laws
+pub mod Sizes

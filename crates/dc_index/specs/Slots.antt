@@ -1,8 +1,7 @@
 -- The rows of the cache, each with the key that it has.
-use Rattle.std.specs.Prelude.{◌≡◌, ◌↔◌, ℕ, ◌*◌, ◌<◌, ◌≤◌, ◌/◌, ◌%◌, Bool, true, false, ◌==◌, ◌&&◌, List, [], ◌∷◌, length, slice_index_or, Option, Some}
+use Rattle.std.specs.Prelude.{◌≡◌, ◌↔◌, ℕ, ◌*◌, ◌<◌, ◌≤◌, ◌/◌, ◌%◌, Bool, true, false, ◌==◌, ◌&&◌, List, length, slice_index_or, Option, Some}
 use Rattle.dc_names.specs.Hash.{hash_of}
-use Rattle.dc_plain.specs.Facts.{Key, Label, same_label}
-use Rattle.dc_plain.specs.Facts.Label.{Entry, Parent, Text}
+use Rattle.dc_plain.specs.Facts.{Key, same_label, label_bytes}
 
 -- a row: free, never to be used again, or with the key that it has
 pub data Slot : Type 0 where
@@ -36,12 +35,6 @@ abbrev pub cleared : Slot → Slot
 cleared Free = Free
 cleared Retired = Retired
 cleared (Holds key) = Free
-
--- a name, the two dots of dot-dot, or nothing for a text
-abbrev pub label_bytes : Label → List ℕ
-label_bytes (Entry name) = name
-label_bytes Parent = 46 ∷ 46 ∷ []
-label_bytes Text = []
 
 -- the bucket of a key, of so many
 abbrev pub bucket_of : Key → ℕ → ℕ

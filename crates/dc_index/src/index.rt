@@ -1,13 +1,13 @@
 ghost use Rattle.std.specs.Prelude.{◌≡◌, ◌<◌, ◌≤◌, ◌*◌, ◌/◌, ◌%◌, ◌≢◌, ℕ, OnOk, OnErr, IfOk, IfSome, length, replicate, slice_set, map};
-ghost use Rattle.dc_plain.specs.KeysShown.{key_shown, label_shown};
-ghost use Rattle.dc_index.specs.Slots.{slot_of, cleared, bucket_of, bucket_in, label_bytes, IsIndex, IsRowOf};
+ghost use Rattle.dc_plain.specs.KeysShown.{key_shown};
+ghost use Rattle.dc_index.specs.Slots.{slot_of, cleared, bucket_of, bucket_in, IsIndex, IsRowOf};
 ghost use Rattle.dc_index.specs.Slots.Slot.{Free as IsFree, Retired as IsRetired, Holds};
 ghost use Rattle.dc_index.specs.OwnKeys.{slot_shown};
 ghost use Rattle.dc_index.specs.Choices.{first_free, slots_in, choice, AgreeIn, MayTake};
 
 use crate::slot::{OwnKey, Slot, free_slots, place_of_free, place_of_key};
 use dc_names::{NoMemory, hash};
-use dc_plain::{Key, Label};
+use dc_plain::Key;
 use dc_shrink::Shrinker;
 use std::alloc::Global;
 use std::marker::Model;
@@ -30,17 +30,6 @@ impl Model for Index {
     ghost invariant = { λ i. IsIndex (map slot_shown i.slots.items) };
 }
 
-/// The bytes of a label that its key's hash takes.
-fn label_bytes<'a>(label: &Label<'a>) -> &'a [u8]
-    ensures { result.now ≡ label_bytes (label_shown label.now) }
-{
-    match label {
-        Label::Name(name) => name.bytes(),
-        Label::DotDot => b"..",
-        Label::Text => b"",
-    }
-}
-
 /// The bucket of a key among so many, at least one: by the hash of its number and of its label's
 /// bytes, which are a name, the two dots of dot-dot, or none for a text.
 #[inline(always)]
@@ -49,11 +38,13 @@ pub fn bucket_of(key: &Key<'_>, buckets: u64) -> u64
     ensures bucket { result ≡ bucket_of (key_shown key.now) buckets }
     ensures within { result < buckets }
 {
-    remainder(hash(key.number, label_bytes(&key.label)), buckets)
+    bucket_at(hash(key.number, key.label.bytes()), buckets)
 }
 
-/// The remainder of a hash. The number of buckets is mostly a power of two, and then nothing is divided.
-fn remainder(hash: u64, buckets: u64) -> u64
+/// The bucket of a key by its hash. The number of buckets is mostly a power of two, and then nothing is
+/// divided.
+#[inline(always)]
+pub fn bucket_at(hash: u64, buckets: u64) -> u64
     requires { 0 < buckets }
     ensures { result ≡ hash % buckets }
 {

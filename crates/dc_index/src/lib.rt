@@ -4,7 +4,7 @@
 mod index;
 mod slot;
 
-pub use index::{Index, bucket_of};
+pub use index::{Index, bucket_at, bucket_of};
 
 #[cfg(test)]
 mod tests;

@@ -5,7 +5,7 @@ ghost use Rattle.dc_shrink.specs.Uses.{KeepsUse, SetsUse, UsesNone};
 ghost use Rattle.dc_index.specs.Slots.{slot_of, bucket_in, has_key};
 ghost use Rattle.dc_index.specs.Slots.Slot.{Free, Retired, Holds};
 
-use crate::{Index, bucket_of};
+use crate::{Index, bucket_at, bucket_of};
 use dc_names::{Name, NoMemory, hash};
 use dc_plain::{Key, Label};
 use dc_shrink::{PinFault, Shrinker};
@@ -98,6 +98,7 @@ fn the_longest_name_has_a_row(rt: HostRuntime) -> Result<(), Fail> {
     };
     for buckets in [1, 2, 1023, 1024] {
         let row = 4 * bucket_of(&key, buckets);
+        assert_eq!(rt; 4 * bucket_at(hash(key.number, name.bytes()), buckets), row);
         let rows = rows_of(rt.alloc(), buckets, &key)?;
         assert_eq!(rt; rows, [Some(row), Some(row + 1), Some(row + 1), None]);
     }

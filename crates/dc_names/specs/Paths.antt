@@ -12,6 +12,12 @@ pub data Part : Type 0 where
   Dot : Part
   DotDot : Part
 
+-- the bytes of a part
+abbrev pub bytes_of : Part → List ℕ
+bytes_of (Name name) = name
+bytes_of Dot = 46 ∷ []
+bytes_of DotDot = 46 ∷ 46 ∷ []
+
 -- a path: its parts, whether it begins with a slash, and whether one ends it after another byte
 pub record Path : Type 0 where
   pub parts : List Part

@@ -1,12 +1,14 @@
 //! A path split at its slashes.
 
-ghost use Rattle.std.specs.Prelude.{◌≡◌, ◌<◌, ◌==◌, ◌∷◌, [], false, length, IsTrue, IfSome, IfNone};
+ghost use Rattle.std.specs.Prelude.{◌≡◌, ◌<◌, ◌==◌, ◌∷◌, [], false, length, take, IsTrue, IfSome, IfNone};
 ghost use Rattle.std.specs.Iterator.{YieldsFirstBy, item_count};
 ghost use Rattle.std.specs.List.{position_or_len};
 ghost use Rattle.dc_names.specs.Bytes.{has_parts, is_part, IsRest};
+ghost use Rattle.dc_names.specs.Hash.{hash_of, hash_from};
 ghost use Rattle.dc_names.specs.Names.{part_shown};
-ghost use Rattle.dc_names.specs.Paths.{part_of, parts_of, begins_with_slash};
+ghost use Rattle.dc_names.specs.Paths.{part_of, parts_of, bytes_of, begins_with_slash};
 
+use crate::fnv::{hash_number, hash_on};
 use crate::name::{is_dot, is_dot_dot};
 use crate::{Name, Part};
 
@@ -20,12 +22,30 @@ pub fn first_part(bytes: &[u8]) -> Option<(Part<'_>, &[u8])>
     ensures rest { IfSome result (λ r. IsRest r.1.now bytes.now) }
     ensures shorter { IfSome result (λ r. length r.1.now < length bytes.now) }
 {
+    let (part, rest, _) = first_part_hashed(0, bytes)?;
+    Some((part, rest))
+}
+
+/// The same, with the hash of a number and the component's bytes, which is taken while its end is
+/// sought. Where the hash isn't used, none is taken.
+#[must_use]
+#[inline(always)]
+pub fn first_part_hashed(number: u64, bytes: &[u8]) -> Option<(Part<'_>, &[u8], u64)>
+    requires { IsTrue (has_parts bytes.now) }
+    ensures first { IfSome result (λ r. parts_of bytes.now ≡ part_shown r.0 ∷ parts_of r.1.now) }
+    ensures last { IfNone result (parts_of bytes.now ≡ []) }
+    ensures parts { IfSome result (λ r. IsTrue (has_parts r.1.now)) }
+    ensures rest { IfSome result (λ r. IsRest r.1.now bytes.now) }
+    ensures shorter { IfSome result (λ r. length r.1.now < length bytes.now) }
+    ensures hash { IfSome result (λ r. r.2 ≡ hash_of number (bytes_of (part_shown r.0))) }
+{
     let text = after_slashes(bytes);
-    let (piece, rest) = text.split_at(piece_len(text));
+    let (len, hash) = hashed_piece(hash_number(number), text);
+    let (piece, rest) = text.split_at(len);
     if piece.is_empty() {
         None
     } else {
-        Some((part_of(piece), rest))
+        Some((part_of(piece), rest, hash))
     }
 }
 
@@ -43,18 +63,28 @@ fn after_slashes(bytes: &[u8]) -> &[u8]
     rest
 }
 
-/// How many bytes stand before the first slash.
-fn piece_len(bytes: &[u8]) -> usize
-    ensures { result ≡ position_or_len (λ b. b == 47) bytes.now }
+/// How many bytes stand before the first slash, and their hash, taken on from a start.
+#[inline(always)]
+fn hashed_piece(start: u64, bytes: &[u8]) -> (usize, u64)
+    ensures len { result.0 ≡ position_or_len (λ b. b == 47) bytes.now }
+    ensures hash { result.1 ≡ hash_from start (take result.0 bytes.now) }
 {
-    bytes.iter().position(|b| *b == b'/').unwrap_or(bytes.len())
+    let mut hash = start;
+    for at in 0..bytes.len() {
+        if bytes[at] == b'/' {
+            return (at, hash);
+        }
+        hash = hash_on(hash, bytes[at]);
+    }
+    (bytes.len(), hash)
 }
 
 /// The component that these bytes are, of which there is one at least.
 fn part_of(piece: &[u8]) -> Part<'_>
     requires some { 0 < length piece.now }
     requires part { IsTrue (is_part piece.now) }
-    ensures { part_shown result ≡ part_of piece.now }
+    ensures part { part_shown result ≡ part_of piece.now }
+    ensures bytes { bytes_of (part_shown result) ≡ piece.now }
 {
     if is_dot(piece) {
         Part::Dot

@@ -2,7 +2,7 @@
 
 ghost use Rattle.std.specs.Prelude.{◌≡◌};
 ghost use Rattle.std.specs.Int.{w64, to_le_bytes};
-ghost use Rattle.dc_names.specs.Hash.{hash_of, hash_from};
+ghost use Rattle.dc_names.specs.Hash.{hash_of, hash_from, hash_step};
 
 const BASIS: u64 = 14695981039346656037;
 
@@ -24,7 +24,8 @@ pub fn hash(number: u64, bytes: &[u8]) -> u64
 
 /// The hash of the eight bytes of a number. A zero byte does no more than multiply, so those above a
 /// small number are one multiplication by a power.
-fn hash_number(number: u64) -> u64
+#[inline(always)]
+pub(crate) fn hash_number(number: u64) -> u64
     ensures { result ≡ hash_from BASIS (to_le_bytes w64 number) }
 {
     if number < 1 << 16 {
@@ -40,7 +41,13 @@ fn hash_number(number: u64) -> u64
 fn hash_from(start: u64, bytes: &[u8]) -> u64
     ensures { result ≡ hash_from start bytes.now }
 {
-    bytes
-        .iter()
-        .fold(start, |h, b| (h ^ u64::from(*b)).wrapping_mul(PRIME))
+    bytes.iter().fold(start, |h, b| hash_on(h, *b))
+}
+
+/// The hash after one byte more.
+#[inline(always)]
+pub(crate) fn hash_on(hash: u64, byte: u8) -> u64
+    ensures { result ≡ hash_step hash byte }
+{
+    (hash ^ u64::from(byte)).wrapping_mul(PRIME)
 }

@@ -14,7 +14,7 @@ mod refusal;
 mod tests;
 mod words;
 
-pub use components::{Components, first_part};
+pub use components::{Components, first_part, first_part_hashed};
 pub use fault::{NoMemory, TextFault};
 pub use fnv::hash;
 pub use kind::Kind;

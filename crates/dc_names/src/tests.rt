@@ -3,8 +3,8 @@ ghost use Rattle.dc_names.specs.Names.{part_shown};
 ghost use Rattle.dc_names.specs.Paths.{parts_of};
 
 use crate::{
-    Last, Name, Part, PathText, Refusal, TextFault, hash, pack, parse, parts_are_names_or_dots,
-    unpack,
+    Last, Name, Part, PathText, Refusal, TextFault, first_part_hashed, hash, pack, parse,
+    parts_are_names_or_dots, unpack,
 };
 use std::alloc::{AllocError, Global};
 use std::test::Fail;
@@ -132,6 +132,19 @@ fn hashes_numbers_and_bytes(rt: HostRuntime) {
     assert_eq!(rt; hash(1, b"a") % 1024, 959);
     assert_eq!(rt; hash(2, b"..") % 1024, 767);
     assert_eq!(rt; hash(2, b"") % 1024, 519);
+}
+
+#[test]
+fn splits_and_hashes_at_once(rt: HostRuntime) -> Result<(), Fail> {
+    let path = parse(b"//a/..")?;
+    let (part, rest, found) = first_part_hashed(1, path.bytes()).ok_or("no component")?;
+    assert!(rt; spelled(&part) == b"a".as_slice() && rest == b"/..".as_slice());
+    assert_eq!(rt; found % 1024, 959);
+    let (part, rest, found) = first_part_hashed(2, rest).ok_or("no component")?;
+    assert!(rt; part == Part::DotDot && rest.is_empty());
+    assert_eq!(rt; found % 1024, 767);
+    assert!(rt; first_part_hashed(2, rest).is_none());
+    Ok(())
 }
 
 #[test]

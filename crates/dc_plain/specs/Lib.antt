@@ -7,6 +7,7 @@ pub mod Trees
 pub mod IsWellFormed
 pub mod Requests
 pub mod OwnCalls
+pub mod RequestBytes
 pub mod Refusals
 pub mod Effects
 pub mod Reads

@@ -2,6 +2,7 @@
 
 ghost use Rattle.std.specs.Prelude.{◌≡◌, IfOk};
 ghost use Rattle.dc_plain.specs.OwnCalls.{own_request};
+ghost use Rattle.dc_plain.specs.RequestBytes.{bytes_of};
 ghost use Rattle.dc_plain.specs.Requests.{request_of};
 
 use crate::{Call, Follow};
@@ -72,62 +73,65 @@ pub enum OwnCall {
     },
 }
 
+/// The path of a call with nothing beside it, or its two paths, or its text with its path.
+fn bytes_of<'a>(call: &Call<'a>) -> (&'a [u8], &'a [u8])
+    ensures { (result.0.now, result.1.now) ≡ bytes_of (request_of call.now) }
+{
+    match *call {
+        Call::Look { path, .. }
+        | Call::Readlink { path, .. }
+        | Call::Stat { path, .. }
+        | Call::List { path, .. }
+        | Call::Mkdir { path, .. }
+        | Call::Create { path, .. }
+        | Call::Unlink { path, .. }
+        | Call::Rmdir { path, .. } => (path, b""),
+        Call::Link { old, new, .. } | Call::Rename { old, new, .. } => (old, new),
+        Call::Symlink { text, path, .. } => (text, path),
+    }
+}
+
 impl OwnCall {
     /// A copy of a call.
     pub fn of(alloc: Global, call: &Call) -> Result<OwnCall, NoMemory>
         ensures { IfOk result (λ own. own_request own ≡ request_of call.now) }
     {
-        let copy = |bytes: &[u8]| Vec::from_slice(alloc, bytes);
-        Ok(match *call {
-            Call::Look { base, path, follow } => OwnCall::Look {
+        let (first, second) = bytes_of(call);
+        let first = Vec::from_slice(alloc, first)?;
+        let second = Vec::from_slice(alloc, second)?;
+        Ok(OwnCall::with(call, first, second))
+    }
+
+    /// The call over copies of its bytes: of its path alone, or of both texts that it names.
+    fn with(call: &Call<'_>, path: Vec<u8>, second: Vec<u8>) -> OwnCall
+        requires { (path.items, second.items) ≡ bytes_of (request_of call.now) }
+        ensures { own_request result ≡ request_of call.now }
+    {
+        match *call {
+            Call::Look { base, follow, .. } => OwnCall::Look { base, path, follow },
+            Call::Readlink { base, .. } => OwnCall::Readlink { base, path },
+            Call::Stat { base, .. } => OwnCall::Stat { base, path },
+            Call::List { base, .. } => OwnCall::List { base, path },
+            Call::Mkdir { base, .. } => OwnCall::Mkdir { base, path },
+            Call::Create { base, .. } => OwnCall::Create { base, path },
+            Call::Link { base, .. } => OwnCall::Link {
                 base,
-                path: copy(path)?,
-                follow,
+                old: path,
+                new: second,
             },
-            Call::Readlink { base, path } => OwnCall::Readlink {
+            Call::Symlink { base, .. } => OwnCall::Symlink {
                 base,
-                path: copy(path)?,
+                text: path,
+                path: second,
             },
-            Call::Stat { base, path } => OwnCall::Stat {
+            Call::Unlink { base, .. } => OwnCall::Unlink { base, path },
+            Call::Rmdir { base, .. } => OwnCall::Rmdir { base, path },
+            Call::Rename { base, .. } => OwnCall::Rename {
                 base,
-                path: copy(path)?,
+                old: path,
+                new: second,
             },
-            Call::List { base, path } => OwnCall::List {
-                base,
-                path: copy(path)?,
-            },
-            Call::Mkdir { base, path } => OwnCall::Mkdir {
-                base,
-                path: copy(path)?,
-            },
-            Call::Create { base, path } => OwnCall::Create {
-                base,
-                path: copy(path)?,
-            },
-            Call::Link { base, old, new } => OwnCall::Link {
-                base,
-                old: copy(old)?,
-                new: copy(new)?,
-            },
-            Call::Symlink { base, text, path } => OwnCall::Symlink {
-                base,
-                text: copy(text)?,
-                path: copy(path)?,
-            },
-            Call::Unlink { base, path } => OwnCall::Unlink {
-                base,
-                path: copy(path)?,
-            },
-            Call::Rmdir { base, path } => OwnCall::Rmdir {
-                base,
-                path: copy(path)?,
-            },
-            Call::Rename { base, old, new } => OwnCall::Rename {
-                base,
-                old: copy(old)?,
-                new: copy(new)?,
-            },
-        })
+        }
     }
 
     /// The call over the bytes that are owned.

@@ -16,7 +16,7 @@ use crate::remaining::{Remaining, Rest};
 use crate::step::step_on;
 use crate::{Bytes, Finder, Stop};
 use arrayvec::ArrayVec;
-use dc_names::{PathText, first_part};
+use dc_names::{PathText, first_part_hashed};
 use dc_plain::{MOST_LINKS, Target};
 
 /// Whether a part is left in some bytes: it looks no further than the first byte of it.
@@ -92,6 +92,7 @@ impl<'p, T: Bytes + Drop> Remaining<'p, T> {
     }
 
     /// Takes the text off that comes first.
+    #[inline(always)]
     fn pop(&mut self) -> Option<Rest<T>>
         ensures none { IfNone result (parts_left self.old ≡ parts_of self.new.path.now) }
         ensures some { IfSome result (λ rest.
@@ -105,6 +106,7 @@ impl<'p, T: Bytes + Drop> Remaining<'p, T> {
 }
 
 /// Asks at the first part of some bytes, if there is one, and answers the bytes after it too.
+#[inline(always)]
 fn ask_first<'b, F: Finder>(
     finder: &mut F,
     place: Target,
@@ -115,13 +117,14 @@ fn ask_first<'b, F: Finder>(
     ensures taken { IfOk result (λ met. TakesFirst (F.said finder.new) place bytes.entry.now met) }
     ensures kept { KeepsAnswering F.Finder finder.old finder.new result }
 {
-    let Some((part, after)) = first_part(bytes) else {
+    let Some((part, after, hash)) = first_part_hashed(place.0, bytes) else {
         return Ok(None);
     };
-    Ok(Some((step_on(finder, place, part)?, after)))
+    Ok(Some((step_on(finder, place, part, hash)?, after)))
 }
 
 /// Asks at the first part that is left, if one is.
+#[inline(always)]
 pub(crate) fn ask_next<F: Finder>(
     finder: &mut F,
     place: Target,

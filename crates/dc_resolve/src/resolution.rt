@@ -28,6 +28,7 @@ use dc_plain::{Follow, MOST_LINKS, ROOT, Target};
 use std::ops::ControlFlow;
 
 /// One part on from a place, over the parts that are left, or to the end where none is.
+#[inline(always)]
 fn go_on<F: Finder>(
     finder: &mut F,
     place: Target,
@@ -51,6 +52,7 @@ fn go_on<F: Finder>(
 }
 
 /// Goes over the parts that are left, up to their end or a link that must be followed.
+#[inline(always)]
 fn walk_parts<F: Finder>(
     finder: &mut F,
     start: Target,

@@ -2,7 +2,9 @@
 
 ghost use Rattle.std.specs.Prelude.{◌≡◌, ◌&&◌, ℕ, not, Bool, Option, Some, IfOk, IsTrue, if◌then◌else◌};
 ghost use Rattle.dc_names.specs.Bytes.{is_empty};
+ghost use Rattle.dc_names.specs.Hash.{hash_of};
 ghost use Rattle.dc_names.specs.Names.{part_shown};
+ghost use Rattle.dc_names.specs.Paths.{bytes_of};
 ghost use Rattle.dc_names.specs.declared.kind.Kind.TheVariants.{Link};
 ghost use Rattle.dc_plain.specs.Facts.{Teller, Target as SpecTarget};
 ghost use Rattle.dc_plain.specs.Resolution.{Outcome, at_part, ending, keeps_link, met_by, with_met};
@@ -20,6 +22,7 @@ use dc_names::{Kind, Part, Refusal};
 use dc_plain::{Follow, Target, is_directory};
 use std::ops::ControlFlow;
 
+#[inline(always)]
 fn on_to(there: Option<Target>) -> Reached
     ensures met { Some (met_shown result) ≡ met_by (Some there) }
     ensures link { IfMeets result (λ link. there ≡ Some (link, Link)) }
@@ -32,13 +35,16 @@ fn on_to(there: Option<Target>) -> Reached
     }
 }
 
-/// From a place, one part on.
+/// From a place, one part on. The hash is of the question that it asks there, if it asks one.
+#[inline(always)]
 pub(crate) fn step_on<F: Finder>(
     finder: &mut F,
     place: Target,
     part: Part<'_>,
+    hash: u64,
 ) -> Result<Reached, Stop>
-    requires { IsTrue (asks place (part_shown part)) →
+    requires hash { hash ≡ hash_of place.0 (bytes_of (part_shown part)) }
+    requires may { IsTrue (asks place (part_shown part)) →
         F.may_ask finder.old place.0 (label_of (part_shown part)) }
     ensures leads { IfOk result (Leads (F.said finder.new) place (part_shown part.entry)) }
     ensures link { IfOk result (IsSaidMet (F.said finder.new)) }
@@ -50,7 +56,7 @@ pub(crate) fn step_on<F: Finder>(
     match part {
         Part::Dot => Ok(Reached::Dir(place.0)),
         Part::DotDot if place.0 == 1 => Ok(Reached::Dir(place.0)),
-        Part::DotDot | Part::Normal(_) => Ok(on_to(finder.find(place.0, part)?)),
+        Part::DotDot | Part::Normal(_) => Ok(on_to(finder.find_hashed(place.0, part, hash)?)),
     }
 }
 
@@ -74,6 +80,7 @@ fn is_kept(follow: Follow, is_last: bool, slash: bool) -> bool
 
 /// Where a walk goes from a place by what its next part leads to, with these parts left. A link is
 /// kept, or stops the walk.
+#[inline(always)]
 pub(crate) fn after<T: Bytes + Drop>(
     place: Target,
     reached: Reached,

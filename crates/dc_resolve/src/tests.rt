@@ -1,13 +1,16 @@
+//! A finder over a table, which the tests of walks and of places ask.
+
 ghost use Rattle.std.specs.Prelude.{◌≡◌, option_map, refl};
 ghost use Rattle.std.proofs.Common.{sym, subst, ◌∙◌};
 ghost use Rattle.dc_plain.specs.Tellers.{Extends};
 ghost use Rattle.dc_resolve.specs.Tables.{target_in, parent_in, text_in, said_by};
 
-use crate::{Finder, Placed, Stop, Walked, place, walk, walk_alone};
+mod places;
+mod walks;
+
+use crate::{Finder, Stop};
 use arrayvec::ArrayVec;
-use dc_names::{Kind, Last, Name, Part, Refusal, TextFault, parse};
-use dc_plain::{Follow, Where};
-use std::test::Fail;
+use dc_names::{Kind, Part, parse};
 
 /// A name in a directory, and where it leads.
 type Row<'a> = (u64, &'a [u8], (u64, Kind));
@@ -45,6 +48,9 @@ struct Table<'a> {
     parents: &'a [(u64, u64)],
     texts: &'a [(u64, &'a [u8])],
 }
+
+/// A question: a number with the first byte of a name, `.` for dot-dot, or `@` for a text.
+type Asked = (u64, u8);
 
 /// Answers from a table, and notes what is asked: a name by its first byte, a text as `@`.
 #[derive(Drop)]
@@ -169,234 +175,4 @@ fn new_fixed<'a>(
         asked: ArrayVec::new(),
         stopped: false,
     }
-}
-
-fn walked(base: u64, path: &[u8], follow: Follow) -> Result<Walked, TextFault> {
-    let mut finder = new_fixed(&ROWS, &PARENTS, &TEXTS);
-    Ok(walk(&mut finder, base, parse(path)?, follow))
-}
-
-#[test]
-fn walks(rt: HostRuntime) -> Result<(), Fail> {
-    let cases: [(u64, &[u8], Follow, Walked); 34] = [
-        (1, b"/d/f", Follow::Yes, Walked::Found(3, Kind::File)),
-        (1, b"//d//f", Follow::Yes, Walked::Found(3, Kind::File)),
-        (2, b"f", Follow::Yes, Walked::Found(3, Kind::File)),
-        (4, b"../f", Follow::Yes, Walked::Found(3, Kind::File)),
-        (4, b".", Follow::Yes, Walked::Found(4, Kind::Dir)),
-        (1, b"/", Follow::Dir, Walked::Found(1, Kind::Dir)),
-        (1, b"/../..", Follow::Yes, Walked::Found(1, Kind::Dir)),
-        (
-            1,
-            b"/d/f/",
-            Follow::Yes,
-            Walked::Refused(Refusal::NotDirectory),
-        ),
-        (
-            1,
-            b"/d/f/e",
-            Follow::Yes,
-            Walked::Refused(Refusal::NotDirectory),
-        ),
-        (
-            1,
-            b"/d/f/..",
-            Follow::Yes,
-            Walked::Refused(Refusal::NotDirectory),
-        ),
-        (
-            1,
-            b"/d/f",
-            Follow::Dir,
-            Walked::Refused(Refusal::NotDirectory),
-        ),
-        (
-            1,
-            b"/none/e",
-            Follow::Yes,
-            Walked::Refused(Refusal::NotFound),
-        ),
-        (1, b"/r", Follow::No, Walked::Found(10, Kind::Link)),
-        (1, b"/r", Follow::Yes, Walked::Found(4, Kind::Dir)),
-        (1, b"/r", Follow::Dir, Walked::Found(4, Kind::Dir)),
-        (1, b"/r/", Follow::No, Walked::Found(4, Kind::Dir)),
-        (1, b"/r/..", Follow::Yes, Walked::Found(2, Kind::Dir)),
-        (1, b"/d/a/.", Follow::Yes, Walked::Found(4, Kind::Dir)),
-        (1, b"/d/p", Follow::Yes, Walked::Found(3, Kind::File)),
-        (1, b"/d/q", Follow::Yes, Walked::Found(3, Kind::File)),
-        (
-            1,
-            b"/d/q/",
-            Follow::No,
-            Walked::Refused(Refusal::NotDirectory),
-        ),
-        (1, b"/d/s", Follow::No, Walked::Found(16, Kind::Link)),
-        (
-            1,
-            b"/d/s",
-            Follow::Yes,
-            Walked::Refused(Refusal::NotDirectory),
-        ),
-        (1, b"/x", Follow::Yes, Walked::Refused(Refusal::NotFound)),
-        (
-            1,
-            b"/l",
-            Follow::Yes,
-            Walked::Refused(Refusal::TooManyLinks),
-        ),
-        (1, b"/bad", Follow::Yes, Walked::Stopped),
-        (1, b"/c8", Follow::Yes, Walked::Found(2, Kind::Dir)),
-        (
-            1,
-            b"/c9",
-            Follow::Yes,
-            Walked::Refused(Refusal::TooManyLinks),
-        ),
-        (1, b"/c9", Follow::No, Walked::Found(29, Kind::Link)),
-        (1, b"/c7/q", Follow::Yes, Walked::Found(3, Kind::File)),
-        (
-            1,
-            b"/c8/q",
-            Follow::Yes,
-            Walked::Refused(Refusal::TooManyLinks),
-        ),
-        (1, &[b'n'; 255], Follow::Yes, Walked::Found(30, Kind::File)),
-        (3, b"f", Follow::Yes, Walked::Refused(Refusal::NotFound)),
-        (99, b"/d/f", Follow::Yes, Walked::Found(3, Kind::File)),
-    ];
-    for (base, path, follow, want) in cases {
-        assert_eq!(rt; walked(base, path, follow)?, want);
-    }
-    Ok(())
-}
-
-/// A question: a number with the first byte of a name, `.` for dot-dot, or `@` for a text.
-type Asked = (u64, u8);
-
-#[test]
-fn walks_ask_in_order(rt: HostRuntime) -> Result<(), Fail> {
-    let cases: [(u64, &[u8], Follow, &[Asked]); 13] = [
-        (
-            4,
-            b"../q/.",
-            Follow::No,
-            &[(4, b'.'), (4, b'.'), (2, b'q'), (15, b'@'), (2, b'f')],
-        ),
-        (4, b".", Follow::No, &[(4, b'.')]),
-        (1, b"d/..", Follow::No, &[(1, b'd'), (2, b'.')]),
-        (4, b"/../d", Follow::No, &[(1, b'd')]),
-        (1, b".././", Follow::No, &[]),
-        (1, b"/d/q", Follow::No, &[(1, b'd'), (2, b'q')]),
-        (
-            1,
-            b"/d/q",
-            Follow::Yes,
-            &[(1, b'd'), (2, b'q'), (15, b'@'), (2, b'f')],
-        ),
-        (
-            1,
-            b"/r",
-            Follow::Yes,
-            &[(1, b'r'), (10, b'@'), (1, b'd'), (2, b'e')],
-        ),
-        (
-            99,
-            b"/r/",
-            Follow::Dir,
-            &[(1, b'r'), (10, b'@'), (1, b'd'), (2, b'e')],
-        ),
-        (
-            4,
-            b"../p",
-            Follow::Dir,
-            &[
-                (4, b'.'),
-                (4, b'.'),
-                (2, b'p'),
-                (12, b'@'),
-                (2, b'e'),
-                (4, b'.'),
-                (2, b'f'),
-            ],
-        ),
-        (1, b"/x/f", Follow::Yes, &[(1, b'x'), (14, b'@'), (1, b'n')]),
-        (1, b"/d/f/../e", Follow::Dir, &[(1, b'd'), (2, b'f')]),
-        (99, b"f", Follow::Yes, &[(99, b'.')]),
-    ];
-    for (base, path, follow, want) in cases {
-        let mut finder = new_fixed(&ROWS, &PARENTS, &TEXTS);
-        let _ = walk(&mut finder, base, parse(path)?, follow);
-        assert!(rt; finder.asked.as_slice() == want);
-    }
-    Ok(())
-}
-
-#[test]
-fn places_ask_in_order(rt: HostRuntime) -> Result<(), Fail> {
-    let cases: [(u64, &[u8], &[Asked]); 9] = [
-        (1, b"/d/f", &[(1, b'd')]),
-        (99, b"/d/q//", &[(1, b'd')]),
-        (1, b"/l", &[]),
-        (2, b"///", &[]),
-        (2, b"/../x", &[]),
-        (4, b".", &[(4, b'.')]),
-        (4, b"../g", &[(4, b'.'), (4, b'.')]),
-        (1, b"/r/g", &[(1, b'r'), (10, b'@'), (1, b'd'), (2, b'e')]),
-        (1, b"/d/f/g/h", &[(1, b'd'), (2, b'f')]),
-    ];
-    for (base, path, want) in cases {
-        let mut finder = new_fixed(&ROWS, &PARENTS, &TEXTS);
-        let _ = place(&mut finder, base, parse(path)?);
-        assert!(rt; finder.asked.as_slice() == want);
-    }
-    Ok(())
-}
-
-#[test]
-fn walks_alone_to_the_root(rt: HostRuntime) -> Result<(), Fail> {
-    let path = parse(b"/../.")?;
-    assert_eq!(rt;
-        walk_alone(4, path, Follow::Dir),
-        Walked::Found(1, Kind::Dir)
-    );
-    Ok(())
-}
-
-fn named(name: &[u8]) -> Last<'_> {
-    match Name::new(name) {
-        Some(name) => Last::Normal(name),
-        None => Last::Root,
-    }
-}
-
-fn at(dir: u64, last: Last<'_>, slash: bool) -> Placed<'_> {
-    Placed::At(Where { dir, last, slash })
-}
-
-#[test]
-fn places(rt: HostRuntime) -> Result<(), Fail> {
-    let cases: [(u64, &[u8], Placed<'_>); 17] = [
-        (1, b"/d/f", at(2, named(b"f"), false)),
-        (1, b"/d/new//", at(2, named(b"new"), true)),
-        (1, b"///", at(1, Last::Root, false)),
-        (1, b"/d/..", at(2, Last::DotDot, false)),
-        (2, b"a///b/.//", Placed::Refused(Refusal::NotFound)),
-        (1, b"d//e///", at(2, named(b"e"), true)),
-        (2, b"f", at(2, named(b"f"), false)),
-        (4, b".", at(4, Last::Dot, false)),
-        (4, b"../g", at(2, named(b"g"), false)),
-        (1, b"/l", at(1, named(b"l"), false)),
-        (1, b"/r/g", at(4, named(b"g"), false)),
-        (1, b"/c8/g", at(2, named(b"g"), false)),
-        (1, b"/c9/g", Placed::Refused(Refusal::TooManyLinks)),
-        (1, b"/d/q/g", Placed::Refused(Refusal::NotDirectory)),
-        (1, b"/none/g", Placed::Refused(Refusal::NotFound)),
-        (3, b"g", Placed::Refused(Refusal::NotFound)),
-        (1, b"/bad/g", Placed::Stopped),
-    ];
-    for (base, path, want) in cases {
-        let mut finder = new_fixed(&ROWS, &PARENTS, &TEXTS);
-        assert_eq!(rt; place(&mut finder, base, parse(path)?), want);
-    }
-    Ok(())
 }

@@ -4,7 +4,7 @@ use Rattle.dc_names.specs.Bytes.{is_name}
 use Rattle.dc_names.specs.Paths.{fault_of}
 use Rattle.dc_names.specs.Words.{AreBytes, word_of}
 use Rattle.dc_names.specs.declared.kind.Kind.TheVariants.{Dir, File, Link}
-use Rattle.dc_plain.specs.Facts.{Target, Label, Fact, label_bytes}
+use Rattle.dc_plain.specs.Facts.{Target, Label, Key, Fact, key_of, label_bytes}
 use Rattle.dc_plain.specs.Facts.Label.{Entry, Parent, Text}
 use Rattle.dc_plain.specs.Facts.Fact.{Leads, Reads}
 use Rattle.dc_row.specs.declared.TheConstants.{ROW_WORDS, ROW_TEXT}
@@ -79,12 +79,22 @@ pub record Spells (words : List ℕ) (fact : Option Fact) : Type 0 where
 abbrev pub TellsRow : List ℕ → Option (Option Fact) → Type 0
 TellsRow words result = (fact : Option Fact) → Spells words fact → result ≡ Some fact
 
--- the label, or the target, of any entry that the words spell; a byte of the text that stands in them
+-- the label, or the target, of any entry that the words spell; the text of any link
 abbrev pub TellsLabel : List ℕ → Option Label → Type 0
 TellsLabel words result = (d : ℕ) (label : Label) (target : Option Target) → Spells words (Some (Leads d label target)) → result ≡ Some label
 
 abbrev pub TellsTarget : List ℕ → Option Target → Type 0
 TellsTarget words result = (d : ℕ) (label : Label) (target : Option Target) → Spells words (Some (Leads d label target)) → result ≡ target
 
+abbrev pub TellsText : List ℕ → Option (List ℕ) → Type 0
+TellsText words result = (n : ℕ) (text : List ℕ) → Spells words (Some (Reads n text)) → result ≡ Some text
+
+-- the words spell a fact of the key
+pub record TellsOf (words : List ℕ) (key : Key) : Type 0 where
+  pub fact : Fact
+  pub about : key_of fact ≡ key
+  pub spelled : Spells words (Some fact)
+
+-- a byte of the text that stands in the words
 abbrev pub TellsByte : List ℕ → ℕ → ℕ → Type 0
 TellsByte words k result = (bytes : List ℕ) → length bytes ≤ 8 → AreBytes bytes → slice_index words (4 + k / 8) ≡ word_of bytes → result ≡ slice_index bytes (k % 8)

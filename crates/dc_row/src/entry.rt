@@ -1,33 +1,52 @@
-//! An entry that is sought in the words of rows, which are compared and not decoded.
+//! A fact of a key that is sought in the words of rows, which are compared and not decoded.
 
-ghost use Rattle.std.specs.Prelude.{◌≡◌, ◌≤◌, ◌↔◌, length, Option, Some, IfSome, IfNone, IsTrue, true, false};
+ghost use Rattle.std.specs.Prelude.{◌≡◌, ◌≤◌, ◌↔◌, length, slice_index, Option, Some, IfSome, IsTrue, true, false};
 ghost use Rattle.dc_names.specs.Words.{AreBytes};
 ghost use Rattle.dc_plain.specs.Facts.{Target};
-ghost use Rattle.dc_plain.specs.Facts.Fact.{Leads};
+ghost use Rattle.dc_plain.specs.Facts.Fact.{Leads, Reads};
 ghost use Rattle.dc_plain.specs.KeysShown.{key_shown};
-ghost use Rattle.dc_row.specs.Spelling.{Spells, has_spelling, fields, IsSpelled};
+ghost use Rattle.dc_row.specs.Spelling.{Spells, TellsOf, TellsText, has_spelling, fields, IsSpelled};
 ghost use Rattle.dc_row.specs.declared.TheConstants.{ROW_WORDS, ROW_TEXT};
 
-use crate::reading::target_in;
-use crate::writing::{is_numbered, kind_code, target_number, text_word};
-use crate::{ROW_TEXT, ROW_WORDS, number};
+use crate::reading::text_in;
+use crate::writing::{can_be_text, is_numbered, kind_code, target_number, text_word};
+use crate::{ROW_TEXT, ROW_WORDS, RowText, number, target};
 use dc_names::Kind;
 use dc_plain::{Key, Label};
 
-/// Where the words say that the entry of a key leads, or `None` where they spell no entry of that
-/// key. The sequence count isn't looked at, and no row spells an entry of the label `Text`.
+/// Whether the words spell a fact of a key. The sequence count isn't looked at, and no row spells an
+/// entry of the label `Text`.
 #[inline(always)]
-pub fn entry_in(words: &[u64], key: Key<'_>) -> Option<Option<(u64, Kind)>>
-    ensures spelled { IfSome result (λ target. let key = key_shown key.entry in
-        Spells words.now (Some (Leads key.number key.label target))) }
-    ensures none { IfNone result ((target : Option Target) → let key = key_shown key.entry in
-        Spells words.now (Some (Leads key.number key.label target)) → ⊥) }
+pub fn tells_of(words: &[u64], key: Key<'_>) -> bool
+    ensures { IsTrue result ↔ TellsOf words.now (key_shown key.entry) }
 {
     // Most rows of a bucket are of another directory: one word tells, and no text is looked at.
-    if words.len() != ROW_WORDS || number(words) != key.number || !is_entry_of(words, key) {
+    if words.len() != ROW_WORDS || number(words) != key.number {
+        return false;
+    }
+    match key.label {
+        Label::Text => text_of(words).is_some(),
+        Label::Name(_) | Label::DotDot => is_entry_of(words, key),
+    }
+}
+
+/// The text that the words say a link has, or `None` where they spell no link's text. The sequence
+/// count isn't looked at.
+pub fn text_of(words: &[u64]) -> Option<RowText>
+    ensures spelled { IfSome result (λ text.
+        Spells words.now (Some (Reads (slice_index words.now 2) text))) }
+    ensures any { TellsText words.now result }
+{
+    if words.len() != ROW_WORDS {
         return None;
     }
-    Some(target_in(words))
+    let text = text_in(words)?;
+    let number = number(words);
+    if can_be_text(number, &text) && is_spelled(words, 2, 0, number, 0, text.bytes()) {
+        Some(text)
+    } else {
+        None
+    }
 }
 
 /// Whether the words spell an entry of a key, wherever it leads.
@@ -39,24 +58,25 @@ fn is_entry_of(words: &[u64], key: Key<'_>) -> bool
     ensures none { result ≡ false → (target : Option Target) → let key = key_shown key.entry in
         Spells words.now (Some (Leads key.number key.label target)) → ⊥ }
 {
-    let target = target_in(words);
+    let target = target(words);
     if !has_spelling(key, &target) {
         return false;
     }
     let (kind, value) = (kind_code(&target), target_number(&target));
-    is_entry(words, kind, key.number, value, key.label.bytes())
+    is_spelled(words, 1, kind, key.number, value, key.label.bytes())
 }
 
-/// Whether the words after the sequence count are those of an entry with these fields.
+/// Whether the words after the sequence count are those of a row with these fields.
 #[inline(always)]
-fn is_entry(words: &[u64], kind: u64, number: u64, value: u64, text: &[u8]) -> bool
+fn is_spelled(words: &[u64], tag: u64, kind: u64, number: u64, value: u64, text: &[u8]) -> bool
     requires size { length words.now ≡ ROW_WORDS }
+    requires tag { tag ≤ 2 }
     requires kind { kind ≤ 3 }
     requires room { length text.now ≤ ROW_TEXT }
     ensures bytes { AreBytes text.now }
-    ensures is { IsTrue result ↔ IsSpelled words.now (fields 1 kind number value text.now) }
+    ensures is { IsTrue result ↔ IsSpelled words.now (fields tag kind number value text.now) }
 {
-    let head = 1 + 256 * text.len() as u64 + 16777216 * kind;
+    let head = tag + 256 * text.len() as u64 + 16777216 * kind;
     if words[1] != head || words[2] != number || words[3] != value {
         return false;
     }

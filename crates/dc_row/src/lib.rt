@@ -11,13 +11,13 @@ mod tests;
 mod text;
 mod writing;
 
-pub use entry::entry_in;
+pub use entry::{tells_of, text_of};
 pub use fields::{kind, length, number, tag, value};
 pub use laws::{
     counts_tell_nothing, empty_row_spells_nothing, rows_have_one_spelling,
     words_have_the_fact_they_spell, words_spell_one_row,
 };
-pub use reading::decode;
+pub use reading::{decode, target, text_in};
 pub use row::{Row, RowLabel};
 pub use text::RowText;
 pub use writing::encode;

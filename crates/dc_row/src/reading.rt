@@ -34,7 +34,7 @@ fn read(words: &[u64]) -> Option<Row>
 {
     match tag(words) {
         0 => Some(Row::Empty),
-        1 => Some(Row::Entry(number(words), label_in(words)?, target_in(words))),
+        1 => Some(Row::Entry(number(words), label_in(words)?, target(words))),
         2 => Some(Row::Link(number(words), text_in(words)?)),
         _ => None,
     }
@@ -51,7 +51,9 @@ fn label_in(words: &[u64]) -> Option<RowLabel>
     }
 }
 
-pub(crate) fn target_in(words: &[u64]) -> Option<(u64, Kind)>
+/// Where the entry that the words spell leads. Of other words it is whatever their kind and value say.
+#[inline(always)]
+pub fn target(words: &[u64]) -> Option<(u64, Kind)>
     ensures { TellsTarget words.now result }
 {
     match kind(words) {
@@ -62,7 +64,9 @@ pub(crate) fn target_in(words: &[u64]) -> Option<(u64, Kind)>
     }
 }
 
-fn text_in(words: &[u64]) -> Option<RowText>
+/// The text that stands in the words of a name or a link. Of other words it is whatever they have there,
+/// or `None` where they say that it is longer than a row has room for.
+pub fn text_in(words: &[u64]) -> Option<RowText>
     ensures { (fact : Option Fact) → Spells words.now fact → result ≡ Some (fields_of fact).text }
 {
     let len = length(words) as usize;

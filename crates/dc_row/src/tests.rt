@@ -1,7 +1,7 @@
 use crate::{
     EMPTY_ROW, ROW_WORDS, Row, RowLabel, RowText, counts_tell_nothing, decode,
-    empty_row_spells_nothing, encode, entry_in, kind, length, number, rows_have_one_spelling, tag,
-    value, words_have_the_fact_they_spell, words_spell_one_row,
+    empty_row_spells_nothing, encode, kind, length, number, rows_have_one_spelling, tag, target,
+    tells_of, text_in, text_of, value, words_have_the_fact_they_spell, words_spell_one_row,
 };
 use dc_names::{Kind, Name};
 use dc_plain::{Key, Label};
@@ -66,13 +66,17 @@ fn spells_the_examples(rt: HostRuntime) {
     empty_row_spells_nothing();
 }
 
-/// What the words say of a directory's entry, or of its dot-dot.
+/// What the words say of a directory's entry, or of its dot-dot, if they are of it.
 fn sought(words: &[u64], dir: u64, name: &[u8]) -> Option<Option<(u64, Kind)>> {
     let label = match Name::new(name) {
         Some(name) => Label::Name(name),
         None => Label::DotDot,
     };
-    entry_in(words, Key { number: dir, label })
+    if tells_of(words, Key { number: dir, label }) {
+        Some(target(words))
+    } else {
+        None
+    }
 }
 
 #[test]
@@ -93,12 +97,25 @@ fn finds_entries_by_their_words(rt: HostRuntime) {
     for (at, dir, name, want) in cases {
         assert_eq!(rt; sought(&EXAMPLES[at], dir, name), want);
     }
-    let text = Key {
-        number: 4,
-        label: Label::Text,
-    };
-    assert_eq!(rt; entry_in(&EXAMPLES[3], text), None);
     assert_eq!(rt; sought(&EXAMPLES[0][..7], 1, b"usr"), None);
+}
+
+#[test]
+fn finds_texts_by_their_words(rt: HostRuntime) {
+    let cases = [(3, 4, true), (3, 3, false), (0, 1, false), (4, 0, false)];
+    for (at, number, want) in cases {
+        let label = Label::Text;
+        assert_eq!(rt; tells_of(&EXAMPLES[at], Key { number, label }), want);
+    }
+    assert_eq!(rt; text_of(&EXAMPLES[3]), RowText::of(b"./d"));
+    assert_eq!(rt; text_in(&EXAMPLES[0]), RowText::of(b"usr"));
+    assert_eq!(rt; text_of(&EXAMPLES[3][..7]), None);
+    for at in [0, 1, 2, 4] {
+        assert_eq!(rt; text_of(&EXAMPLES[at]), None);
+    }
+    let mut words = EXAMPLES[3];
+    words[5] = 1;
+    assert_eq!(rt; text_of(&words), None);
 }
 
 #[test]

@@ -1,10 +1,11 @@
-ghost use Rattle.std.specs.Prelude.{◌≡◌, ◌≤◌, ◌<◌, ◌↔◌, length, slice_index, IfSome, IsSome, IsTrue};
+ghost use Rattle.std.specs.Prelude.{◌≡◌, ◌≤◌, ◌<◌, ◌↔◌, length, slice_index, Some, IfSome, IsSome, IsTrue};
 ghost use Rattle.dc_names.specs.Words.{AreBytes};
+ghost use Rattle.dc_plain.specs.Facts.Fact.{Reads};
 ghost use Rattle.dc_row.specs.Rows.{row_shown};
 ghost use Rattle.dc_row.specs.Spelling.{Spells, has_spelling, is_numbered, kind_code, target_number, text_word, fields, IsSpelled};
 ghost use Rattle.dc_row.specs.declared.TheConstants.{ROW_WORDS, ROW_TEXT};
 
-use crate::{ROW_WORDS, Row, RowLabel};
+use crate::{ROW_WORDS, Row, RowLabel, RowText};
 use dc_names::{Kind, Name, pack, parse};
 
 /// The words of a row, with 0 for its sequence count, or `None` where nothing spells the row.
@@ -50,8 +51,15 @@ fn has_spelling(row: &Row) -> bool
         Row::Entry(dir, RowLabel::DotDot, target) => {
             *dir != 0 && is_numbered(target) && kind_code(target) <= 1
         }
-        Row::Link(number, text) => *number != 0 && parse(text.bytes()).is_ok(),
+        Row::Link(number, text) => can_be_text(*number, text),
     }
+}
+
+/// Whether a text can stand in a row as that of a link.
+pub(crate) fn can_be_text(number: u64, text: &RowText) -> bool
+    ensures { result ≡ has_spelling (Some (Reads number text.now)) }
+{
+    number != 0 && parse(text.bytes()).is_ok()
 }
 
 pub(crate) fn is_numbered(target: &Option<(u64, Kind)>) -> bool

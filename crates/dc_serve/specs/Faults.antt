@@ -1,8 +1,8 @@
 -- What a fault of the cache is to the server.
 use Rattle.dc_table.specs.declared.fault.ChangeFault.{ChangeFault}
 use Rattle.dc_table.specs.declared.fault.ChangeFault.TheVariants as changes
-use Rattle.dc_table.specs.declared.fault.MakeFault.{MakeFault}
-use Rattle.dc_table.specs.declared.fault.MakeFault.TheVariants as makings
+use Rattle.dc_events.specs.declared.sizes.MakeFault.{MakeFault}
+use Rattle.dc_events.specs.declared.sizes.MakeFault.TheVariants as makings
 use Rattle.dc_serve.specs.declared.fault.ServeFault.{ServeFault}
 use Rattle.dc_serve.specs.declared.fault.ServeFault.TheVariants.{BadSize, NoMemory, Spent}
 

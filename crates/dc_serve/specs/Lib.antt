@@ -9,7 +9,6 @@ pub mod Phases
 pub mod Rounds
 pub mod Serving
 pub mod Sessions
-pub mod Sizes
 pub mod Statuses
 pub mod Threads
 pub mod Turns

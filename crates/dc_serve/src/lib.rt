@@ -29,9 +29,6 @@ pub use sizes::Options;
 /// The most bytes that an input may have.
 pub const MOST_BYTES: usize = 1_048_576;
 
-/// The most buckets that a cache may have.
-pub const MOST_BUCKETS: u64 = 1024;
-
 #[cfg(test)]
 mod rows;
 #[cfg(test)]

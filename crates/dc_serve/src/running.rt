@@ -1,9 +1,9 @@
 //! From bytes to bytes.
 
 ghost use Rattle.std.specs.Prelude.{◌≡◌, ◌↔◌, true, false, Err, IsOk, OnOk, IfOk, IfErr, IsErrOf, map};
+ghost use Rattle.dc_events.specs.Sizes.{are_right};
 ghost use Rattle.dc_lang.specs.Commands.{meaning_of};
 ghost use Rattle.dc_serve.specs.Endings.{Answers, AnswersPlainly, EndsBy, IsInputFault, Reads, streams};
-ghost use Rattle.dc_serve.specs.Sizes.{are_right};
 
 use crate::bytes::read_whole;
 use crate::read::read_lines;

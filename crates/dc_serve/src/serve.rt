@@ -3,11 +3,11 @@
 ghost use Rattle.std.specs.Prelude.{◌≡◌, true, OnOk, IfErr, map};
 ghost use Rattle.std.specs.Io.KnownBytes.{Appends};
 ghost use Rattle.dc_cache.specs.Passes.{known, share, Fits};
+ghost use Rattle.dc_events.specs.Sizes.{are_right};
 ghost use Rattle.dc_lang.specs.Commands.{meaning_of};
 ghost use Rattle.dc_serve.specs.Endings.{Serves, ServesFront};
 ghost use Rattle.dc_serve.specs.Phases.{ordered, phases};
 ghost use Rattle.dc_serve.specs.Rounds.{StopsBy, Wrote};
-ghost use Rattle.dc_serve.specs.Sizes.{are_right};
 ghost use Rattle.dc_table.specs.Shares.{first_known};
 
 use crate::bytes::write_whole;

@@ -1,8 +1,7 @@
 ghost use Rattle.std.specs.Prelude.{◌≡◌};
-ghost use Rattle.dc_serve.specs.Sizes.{are_right};
+ghost use Rattle.dc_events.specs.Sizes.{are_right};
 
-use crate::MOST_BUCKETS;
-use dc_plain::MOST_INODES;
+use dc_events::are_right;
 
 /// The sizes that a server is started with.
 #[derive(Clone, Copy, Debug, PartialEq, Eq)]
@@ -18,8 +17,6 @@ impl Options {
     pub fn are_right(&self) -> bool
         ensures { result ≡ are_right self.now.buckets self.now.inodes }
     {
-        (1..=MOST_BUCKETS).contains(&self.buckets)
-            && self.buckets.is_power_of_two()
-            && (1..=MOST_INODES).contains(&self.inodes)
+        are_right(self.buckets, self.inodes)
     }
 }

@@ -1,5 +1,5 @@
 -- A call is committed while the rows of its keys are odd.
-use Rattle.std.proofs.Common.{◌≡◌, ℕ, ◌+◌, ◌<◌, true, List, [], ◌∷◌, ◌++◌, length, map, set, refl, sym, ap, ap₂, ◌∙◌, subst, subst₂, arith, length-set}
+use Rattle.std.proofs.Common.{◌≡◌, ℕ, ◌+◌, ◌<◌, true, List, [], ◌∷◌, ◌++◌, length, set, refl, sym, ap, ap₂, ◌∙◌, subst, arith, length-set}
 use Rattle.std.proofs.lemmas.List.{length-append}
 use Rattle.dc_plain.specs.Facts.{Key}
 use Rattle.dc_plain.specs.FactLaws.{UntouchedStay}

@@ -1,5 +1,5 @@
 -- A commit while the rows of the touched keys are odd.
-use Rattle.std.proofs.Common.{true, ◌≡◌, ℕ, ◌%◌, ◌<◌, List, length, get_or, Option, Some, None, refl, sym, ap, ◌∙◌, subst, arith, suc-ne-zero}
+use Rattle.std.proofs.Common.{◌≡◌, ℕ, ◌<◌, List, length, get_or, Option, Some, None, refl, sym, ap, ◌∙◌, subst, arith, suc-ne-zero}
 use Rattle.std.specs.List.{Contains}
 use Rattle.std.proofs.lemmas.Option.{slice_get-get_or}
 use Rattle.dc_plain.specs.Facts.{Fact, Key, key_of}
@@ -8,16 +8,15 @@ use Rattle.dc_plain.specs.Laws.{TouchesTheListed}
 use Rattle.dc_plain.specs.Trees.{Tree, Holds}
 use Rattle.dc_plain.specs.IsWellFormed.{IsWellFormed}
 use Rattle.dc_plain.specs.Requests.{Request}
-use Rattle.dc_plain.specs.Runs.{tree_after, Touches}
+use Rattle.dc_plain.specs.Runs.{tree_after}
 use Rattle.dc_plain.specs.TouchedKeys.{keys_touched}
 use Rattle.dc_index.specs.Slots.{Slot, slot_of}
 use Rattle.dc_index.specs.Slots.Slot.{Free, Retired, Holds as Held}
 use Rattle.dc_shrink.specs.Listings.{Listing}
 use Rattle.dc_row.specs.Spelling.{Spells}
 use Rattle.dc_row.specs.Decoding.{SpelledIsRead}
-use Rattle.dc_events.specs.Rows.{count, row_words, IsUntouched}
-use Rattle.dc_table.specs.Rows.{At, OnlyOdd, Between, Fit, Stage, Rest, IsOdd, IsEven, FitsSlot, OfNone}
-use Rattle.dc_table.proofs.Cells.{row_low}
+use Rattle.dc_events.specs.Rows.{row_words, IsUntouched}
+use Rattle.dc_table.specs.Rows.{At, Between, Stage, Rest, IsOdd, IsEven, FitsSlot}
 use Rattle.dc_table.proofs.Shuts.{odd_even}
 
 some_fact : (a b : Option Fact) → Some a ≡ Some b → a ≡ b

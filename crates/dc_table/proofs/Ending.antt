@@ -1,8 +1,8 @@
 -- A table opens and ends, and passes are cut and put together.
-use Rattle.std.proofs.Common.{◌≡◌, ◌≢◌, ℕ, zero, suc, ◌+◌, ◌*◌, ◌<◌, ◌≤◌, ◌⊎◌, false, true, List, [], ◌∷◌, ◌++◌, map, length, get_or, set, replicate, sym, refl, ap, ap₂, ◌∙◌, subst, ⊎_elim, inl, arith, Option as Maybe, Some, None, IfSome, IsSome, true≢false}
-use Rattle.std.proofs.lemmas.List.{map-append, get_or-replicate}
+use Rattle.std.proofs.Common.{◌≡◌, ℕ, zero, suc, ◌+◌, ◌*◌, ◌<◌, ◌≤◌, false, List, [], ◌∷◌, ◌++◌, map, length, get_or, set, replicate, sym, refl, ap, ap₂, ◌∙◌, subst, ⊎_elim, inl, arith, Option as Maybe, Some, None, IfSome, IsSome, true≢false}
+use Rattle.std.proofs.lemmas.List.{map-append}
 use mathlib.Core.Logic.{dite}
-use mathlib.Core.Option.{Option, none, some, some-injective, some-ne-none}
+use mathlib.Core.Option.{some, some-injective, some-ne-none}
 use native.Mathlib.Decide.{ℕ_discrete}
 use lib.ListN.{get_elem?}
 use Rattle.atomic_table.specs.Table.{Splits, Joins, Final, Seen, opening}
@@ -14,17 +14,16 @@ use Rattle.dc_index.specs.Slots.{Slot, slot_of, has_key}
 use Rattle.dc_index.specs.Slots.Slot.{Free}
 use Rattle.dc_shrink.specs.Listings.{is_used}
 use Rattle.dc_events.specs.Views.{Record, View}
-use Rattle.dc_events.specs.Legal.{Legal}
 use Rattle.dc_events.specs.Standing.{Stands, Rising, hits, all_hits}
 use Rattle.dc_events.specs.Rows.{base_of, count, row_words, opening_words}
-use Rattle.dc_events.specs.Rule.{total, view_hits, once_below, Locked, AllEven, Rule}
+use Rattle.dc_events.specs.Rule.{view_hits, once_below, Locked, AllEven, Rule}
 use Rattle.dc_events.specs.Effects.{nobody}
 use Rattle.dc_events.specs.Passes.{newcomer, joined_with}
 use Rattle.dc_events.specs.Laws.{PassesKeepTheRule, NewTablesHaveTheRule, RecordsAreLegal}
 use Rattle.dc_plain.specs.Requests.{Request}
 use Rattle.dc_table.specs.Shares.{Known, Shares, IsSpent, IsWhole, first_known, kept_half, new_half, both, spent}
 use Rattle.dc_table.specs.Rows.{OfNone, At, FitsSlot}
-use Rattle.dc_table.specs.Kept.{HomeFits, KeptAt, Kept, known_of, knowns, views_of, sheet_of, first_sheet}
+use Rattle.dc_table.specs.Kept.{HomeFits, Kept, known_of, knowns, views_of, sheet_of, first_sheet}
 use Rattle.dc_table.specs.Ends.{Ends}
 use Rattle.dc_table.specs.declared.table.Value.{Value}
 use Rattle.dc_table.specs.declared.table.Limits.{Limits}

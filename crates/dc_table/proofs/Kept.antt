@@ -1,19 +1,18 @@
 -- The rule of the table after a step of one pass.
-use Rattle.std.proofs.Common.{◌≡◌, ℕ, ◌+◌, ◌<◌, ◌≤◌, false, List, [], ◌∷◌, ◌++◌, map, length, get_or, set, sym, refl, ap, ◌∙◌, subst, subst₂, zero, suc, arith, Option as Maybe, get_or-set_other, length-set}
-use Rattle.std.proofs.lemmas.List.{map-set, map-append}
+use Rattle.std.proofs.Common.{◌≡◌, ℕ, ◌<◌, List, [], ◌∷◌, map, get_or, set, sym, refl, ap, ◌∙◌, subst, zero, suc, arith, Option as Maybe, get_or-set_other, length-set}
+use Rattle.std.proofs.lemmas.List.{map-set}
 use lib.Seq.{set-get_or}
-use mathlib.Core.Option.{Option, some, some-injective, some-ne-none}
+use mathlib.Core.Option.{some, some-injective, some-ne-none}
 use lib.ListN.{get_elem?}
 use Rattle.atomic_table.specs.Table.{State, Act, keeps, stepped, homes_after}
 use Rattle.atomic_table.proofs.Lists.{at_map}
 use Rattle.dc_plain.specs.Requests.{Request}
 use Rattle.dc_plain.specs.Trees.{Tree}
 use Rattle.dc_index.specs.Slots.{Slot, slot_of}
-use Rattle.dc_events.specs.Views.{View}
-use Rattle.dc_events.specs.Rows.{count, row_words}
+use Rattle.dc_events.specs.Rows.{row_words}
 use Rattle.dc_events.specs.Rule.{Rule, AllEven}
 use Rattle.dc_table.specs.Shares.{Known, Shares}
-use Rattle.dc_table.specs.Rows.{At, OnlyOdd, OfNone, Rest}
+use Rattle.dc_table.specs.Rows.{At, OfNone, Rest}
 use Rattle.dc_table.specs.Kept.{HomeFits, Home, KeptAt, Kept, known_of, knowns, views_of, sheet_of}
 use Rattle.dc_table.specs.declared.table.Value.{Value}
 use Rattle.dc_table.specs.declared.table.Limits.{Limits}

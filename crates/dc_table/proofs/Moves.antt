@@ -1,5 +1,5 @@
 -- Each step of the one that gets, has or gives the lock keeps the table's rule.
-use Rattle.std.proofs.Common.{◌≡◌, ℕ, ◌+◌, ◌%◌, ◌<◌, ◌≤◌, eqb, true, false, List, [], ◌∷◌, ◌++◌, length, get_or, set, sym, refl, ap, ◌∙◌, subst, subst₂, arith, Option as Maybe, Some, get_or-set_same, get_or-set_other, mod-eq_of_lt}
+use Rattle.std.proofs.Common.{◌≡◌, ℕ, ◌+◌, ◌%◌, ◌<◌, eqb, true, false, List, [], ◌∷◌, ◌++◌, length, get_or, set, sym, refl, ap, ◌∙◌, subst, subst₂, arith, Option as Maybe, Some, get_or-set_same, mod-eq_of_lt}
 use mathlib.Core.Option.{none, some}
 use lib.ListN.{get_elem?}
 use prog.Atomic.{either}
@@ -11,13 +11,13 @@ use Rattle.dc_row.specs.Spelling.{Spells}
 use Rattle.dc_row.specs.declared.TheConstants.{ROW_WORDS}
 use Rattle.dc_events.specs.Views.{View}
 use Rattle.dc_events.specs.Standing.{tree_of}
-use Rattle.dc_events.specs.Rows.{most, base_of, count, row_words, Tells, IsUntouched}
-use Rattle.dc_events.specs.Rule.{AllEven, Rule}
+use Rattle.dc_events.specs.Rows.{most, base_of, count, row_words, IsUntouched}
+use Rattle.dc_events.specs.Rule.{Rule}
 use Rattle.dc_events.specs.Effects.{taken, wrote, committed, gave, answered}
 use Rattle.dc_events.specs.Laws.{HoldersKeepTheRule}
 use Rattle.dc_table.specs.Shares.{Known, Shares, with_view}
 use Rattle.dc_table.specs.Rows.{MayStand}
-use Rattle.dc_table.specs.Kept.{HomeFits, KeptAt, Kept, known_of, knowns, views_of, sheet_of}
+use Rattle.dc_table.specs.Kept.{HomeFits, KeptAt, Kept, knowns, views_of, sheet_of}
 use Rattle.dc_table.specs.Plays.{Place, Home, known_at, took, raised, put, committed_as, gave_as, answered_as}
 use Rattle.dc_table.specs.Passes.{CanShut, CanOpen, CanCommit}
 use Rattle.dc_table.specs.declared.table.Value.{Value}

@@ -1,5 +1,5 @@
 -- A row is written anew, and gets another slot.
-use Rattle.std.proofs.Common.{◌≡◌, ◌≢◌, ◌⊎◌, ◌↔◌, ℕ, ◌+◌, ◌*◌, ◌%◌, ◌-◌, ◌<◌, ◌≤◌, Bool, true, false, ◌||◌, List, [], ◌∷◌, length, slice_set, set, Option, Some, None, is_some, refl, sym, ap, ◌∙◌, subst, subst₂, arith, inl, inr, ⊎_elim, nat_eq, true≢false, length-set, set-set, get_or, get_or-set_same, get_or-set_other, if◌then◌else◌}
+use Rattle.std.proofs.Common.{◌≡◌, ◌≢◌, ◌⊎◌, ℕ, ◌+◌, ◌%◌, ◌-◌, ◌<◌, ◌≤◌, Bool, true, false, ◌||◌, List, length, slice_set, set, Option, Some, None, is_some, refl, sym, ap, ◌∙◌, subst, arith, inl, inr, ⊎_elim, nat_eq, true≢false, length-set, set-set, get_or, get_or-set_same, get_or-set_other, if◌then◌else◌}
 use Rattle.std.proofs.lemmas.Bool.{cases_lt, eq-eqb}
 use Rattle.std.proofs.lemmas.List.{get_or_past}
 use Rattle.std.proofs.lemmas.Map.Keys.{any_passes_from_place}
@@ -7,7 +7,7 @@ use Rattle.std.specs.Option.{unwrap_or}
 use Rattle.dc_plain.specs.Facts.{Key}
 use Rattle.dc_plain.specs.Trees.{Tree}
 use Rattle.dc_row.specs.Spelling.{Spells}
-use Rattle.dc_row.specs.declared.TheConstants.{ROW_WORDS, EMPTY_ROW}
+use Rattle.dc_row.specs.declared.TheConstants.{EMPTY_ROW}
 use Rattle.dc_index.specs.Slots.{Slot, slot_of, has_key, cleared}
 use Rattle.dc_index.specs.Slots.Slot.{Free, Retired, Holds as Held}
 use Rattle.dc_shrink.specs.Listings.{Listing, is_in, last_of, pins_of}
@@ -16,7 +16,7 @@ use Rattle.dc_events.specs.Rows.{most, base_of, count, row_words}
 use Rattle.dc_table.specs.Rows.{At, OfNone, Agree, FitsSlot, IsOf, MayTell, MayStand, Rest, Wrote}
 use Rattle.dc_table.specs.Filling.{Redone, Emptied, Given}
 use Rattle.dc_table.proofs.Cells.{row_raised, count_now, spells_too}
-use Rattle.dc_table.proofs.Slots.{moved, agrees, retired_held}
+use Rattle.dc_table.proofs.Slots.{moved, agrees}
 
 -- what a row was used for and is
 pub then_use : (row : ℕ) (a b : Bool) (u v w : Listing) → SetsUse row a u v → SetsUse row b v w → SetsUse row b u w

@@ -1,5 +1,5 @@
 -- One row more is filled and opened.
-use Rattle.std.proofs.Common.{◌≡◌, ◌≢◌, ◌↔◌, ℕ, ◌+◌, ◌*◌, ◌%◌, ◌<◌, false, List, [], ◌∷◌, length, slice_get, slice_set, Some, None, refl, sym, ap, ◌∙◌, subst, arith, inl, length-set, get_or-set_same, get_or-set_other}
+use Rattle.std.proofs.Common.{◌≡◌, ◌≢◌, ◌↔◌, ℕ, ◌+◌, ◌%◌, ◌<◌, false, List, slice_get, slice_set, Some, None, refl, sym, ap, ◌∙◌, subst, arith, inl, length-set, get_or-set_same, get_or-set_other}
 use Rattle.dc_plain.specs.Facts.{Key}
 use Rattle.dc_plain.specs.Trees.{Tree}
 use Rattle.dc_index.specs.Slots.{Slot, slot_of, cleared, IsRowOf, IsIndex}
@@ -9,7 +9,7 @@ use Rattle.dc_shrink.specs.Uses.{SetsUse}
 use Rattle.dc_ops.specs.Keys.{AreDistinct}
 use Rattle.dc_row.specs.Spelling.{Spells}
 use Rattle.dc_row.specs.declared.TheConstants.{EMPTY_ROW}
-use Rattle.dc_events.specs.Rows.{most, base_of, count, row_words}
+use Rattle.dc_events.specs.Rows.{most, count, row_words}
 use Rattle.dc_table.specs.Rows.{At, Between, Stage, Wrote, IsOdd, FitsSlot, IsOf, MayStand}
 use Rattle.dc_table.proofs.Cells.{spells_too}
 use Rattle.dc_table.proofs.Slots.{held_two, held_within, free_held, unheld, at_for, moved, rest_less, agrees}

@@ -6,8 +6,7 @@ use mathlib.Core.Logic.{dite}
 use mathlib.Core.Option.{some}
 use native.Mathlib.Decide.{ℕ_discrete}
 use lib.ListN.{get_elem?}
-use Rattle.dc_events.specs.Rule.{total}
-use Rattle.dc_table.specs.Shares.{Share, Known, Shares, Everyone, IsSpent, IsWhole, halved, added, kept_half, new_half, both, spent, weight}
+use Rattle.dc_table.specs.Shares.{Share, Known, Shares, Everyone, IsSpent, IsWhole, added, kept_half, new_half, both, spent, weight}
 use Rattle.dc_table.proofs.Totals.{total_set, total_snoc, total_two, weight_doubles, total_doubles}
 use Rattle.atomic_table.proofs.Lists.{at_set, at_snoc, set_else}
 

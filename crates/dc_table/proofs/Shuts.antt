@@ -1,5 +1,5 @@
 -- One row more is shut.
-use Rattle.std.proofs.Common.{◌≡◌, ◌≢◌, ◌↔◌, ℕ, ◌+◌, ◌*◌, ◌%◌, ◌<◌, false, List, [], ◌∷◌, length, map, set, get_or, slice_get, slice_set, option_map, Some, None, refl, sym, ap, ◌∙◌, subst, subst₂, arith, inl, inr, ⊎_elim, suc-ne-zero, length-set, get_or-set_same, get_or-set_other}
+use Rattle.std.proofs.Common.{◌≡◌, ◌≢◌, ◌↔◌, ℕ, ◌+◌, ◌%◌, ◌<◌, false, List, length, map, set, get_or, slice_get, slice_set, option_map, Some, None, refl, sym, ap, ◌∙◌, subst, arith, inl, inr, ⊎_elim, suc-ne-zero, length-set, get_or-set_same, get_or-set_other}
 use Rattle.std.proofs.lemmas.Option.{slice_get-map, slice_get-get_or}
 use Rattle.dc_plain.specs.Facts.{Key}
 use Rattle.dc_plain.specs.KeysShown.{key_shown}
@@ -13,7 +13,7 @@ use Rattle.dc_ops.specs.Keys.{AreDistinct}
 use Rattle.dc_row.specs.Spelling.{Spells}
 use Rattle.dc_row.specs.declared.TheConstants.{EMPTY_ROW}
 use Rattle.dc_events.specs.Rows.{most, base_of, count, row_words}
-use Rattle.dc_table.specs.Rows.{At, OnlyOdd, Between, Fit, Stage, MayStand, Wrote}
+use Rattle.dc_table.specs.Rows.{At, Between, Stage, MayStand, Wrote}
 use Rattle.dc_table.proofs.Cells.{count_now, row_raised, spells_too}
 use Rattle.dc_table.proofs.Slots.{held_two, held_within, retired_held, unheld, at_for, moved, first_more, agrees}
 

@@ -1,5 +1,5 @@
 -- Which rows are odd, as one row changes.
-use Rattle.std.proofs.Common.{◌≡◌, ◌≢◌, ◌↔◌, ℕ, ◌+◌, ◌<◌, Bool, true, false, List, length, slice_get, slice_set, Option, Some, None, refl, sym, ap, ◌∙◌, subst, subst₂, arith, inl, inr, true≢false, suc-ne-zero, get_or-set_other, get_or-set_same}
+use Rattle.std.proofs.Common.{◌≡◌, ◌≢◌, ◌↔◌, ℕ, ◌+◌, ◌<◌, Bool, List, length, slice_get, slice_set, Option, Some, None, sym, ap, ◌∙◌, subst, subst₂, arith, inl, inr, true≢false, suc-ne-zero, get_or-set_other, get_or-set_same}
 use Rattle.std.proofs.lemmas.Bool.{cases_eq, cases_lt}
 use Rattle.std.proofs.lemmas.List.{get_or_past}
 use Rattle.dc_plain.specs.Facts.{Key}

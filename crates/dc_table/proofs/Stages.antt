@@ -1,5 +1,5 @@
 -- The stages of a change, on the pass that makes it.
-use Rattle.std.proofs.Common.{◌≡◌, ℕ, ◌+◌, ◌<◌, List, set, sym, ap, ap₂, ◌∙◌, subst₂}
+use Rattle.std.proofs.Common.{◌≡◌, ℕ, ◌+◌, List, set, sym, ap, ap₂, ◌∙◌, subst₂}
 use Rattle.dc_plain.specs.Facts.{Key}
 use Rattle.dc_plain.specs.Trees.{Tree}
 use Rattle.dc_index.specs.Slots.{Slot}

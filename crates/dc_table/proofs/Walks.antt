@@ -1,33 +1,27 @@
 -- Each step of a pass that walks keeps the table's rule.
-use Rattle.std.proofs.Common.{◌≡◌, ◌≢◌, ℕ, zero, suc, ◌+◌, ◌%◌, ◌<◌, ◌≤◌, Bool, true, false, List, [], ◌∷◌, length, get_or, set, sym, refl, ap, ◌∙◌, subst, subst₂, arith, Option as Maybe}
+use Rattle.std.proofs.Common.{◌≡◌, ℕ, zero, suc, ◌+◌, ◌%◌, ◌<◌, ◌≤◌, Bool, true, false, List, [], ◌∷◌, length, get_or, set, sym, refl, ap, ◌∙◌, subst, arith}
+use Rattle.std.proofs.lemmas.List.{set-set}
 use mathlib.Core.Logic.{dite}
 use mathlib.Core.Option.{none, some, some-ne-none}
 use native.Mathlib.Decide.{ℕ_discrete}
 use lib.ListN.{get_elem?}
-use Rattle.atomic_table.specs.Table.{Act, step, keeps, stepped, Valid, Allows}
+use Rattle.atomic_table.specs.Table.{step, keeps, stepped, Allows}
 use Rattle.atomic_table.proofs.Lists.{set_again, set_here}
 use Rattle.dc_plain.specs.Requests.{Request}
-use Rattle.dc_row.specs.declared.TheConstants.{ROW_WORDS}
 use Rattle.dc_events.specs.Views.{View, Note}
 use Rattle.dc_events.specs.Views.Fault.{Busy, Changed}
 use Rattle.dc_events.specs.Rows.{base_of, count}
 use Rattle.dc_events.specs.Rule.{Rule}
 use Rattle.dc_events.specs.Walks.{last_of}
-use Rattle.dc_events.specs.Effects.{begins, begun, quit, noted, note_at, read, pivoted, checked, faulted}
+use Rattle.dc_events.specs.Effects.{begins, quit, noted, note_at, read, pivoted, checked, faulted}
 use Rattle.dc_events.specs.Laws.{WalkersKeepTheRule}
-use Rattle.dc_table.specs.Shares.{Known, with_view}
+use Rattle.dc_table.specs.Shares.{with_view}
 use Rattle.dc_table.specs.Kept.{KeptAt, Kept, knowns, views_of, sheet_of}
 use Rattle.dc_table.specs.Plays.{Place, known_at}
 use Rattle.dc_table.specs.Walking.{IsFresh, CanRead, CanCheck, noted_as, read_as, pivoted_as, learnt_as, checked_as}
-use Rattle.dc_table.specs.declared.table.Value.{Value}
 use Rattle.dc_table.specs.declared.table.Limits.{Limits}
 use Rattle.dc_table.proofs.Sharing.{same_shares}
 use Rattle.dc_table.proofs.Kept.{Seen, known_there, view_there, after_load}
-
-set_twice : {A : Type 0} (l : List A) (i : ℕ) (a b : A) → set (set l i a) i b ≡ set l i b
-set_twice [] i a b = refl
-set_twice (x ∷ xs) zero a b = refl
-set_twice (x ∷ xs) (suc i) a b = ap (λ ys. x ∷ ys) (set_twice xs i a b)
 
 within_list : {A : Type 0} (l : List A) (i : ℕ) (a : A) → get_elem? l i ≡ some a → i < length l
 within_list [] i a e = absurd (some-ne-none a (sym e))
@@ -48,7 +42,7 @@ module _ (k : Limits) (law : WalkersKeepTheRule) where
   -- and then goes on
   then_rule : (words : List ℕ) (views : List View) (h : List Request) (id : ℕ) (v w u : View) → get_elem? views id ≡ some v → Rule k.max_inodes k.rows words (set views id w) h
       → (Rule k.max_inodes k.rows words (set views id w) h → get_elem? (set views id w) id ≡ some w → Rule k.max_inodes k.rows words (set (set views id w) id u) h) → Rule k.max_inodes k.rows words (set views id u) h
-  then_rule words views h id v w u at R more = subst (λ vs. Rule k.max_inodes k.rows words vs h) (set_twice views id w u) (more R (set_here views id w (within_list views id v at)))
+  then_rule words views h id v w u at R more = subst (λ vs. Rule k.max_inodes k.rows words vs h) (set-set views id w u) (more R (set_here views id w (within_list views id v at)))
 
   pub notes_row : (slots id : ℕ) (me : Place) (call : Request) (row : ℕ) (first : Bool) → row < (known_at me).share.rows → 0 < (known_at me).share.parts → (begins first (known_at me).view call).walk.pivoted ≡ false
       → Allows (Kept k) slots id me (base_of row) (λ x. x) (noted_as call row first (step slots (base_of row) 0 0 none) me)

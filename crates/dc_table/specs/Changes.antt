@@ -4,7 +4,7 @@ use Rattle.dc_plain.specs.Facts.{Key}
 use Rattle.dc_plain.specs.Trees.{Tree}
 use Rattle.dc_plain.specs.Requests.{Request, Answer}
 use Rattle.dc_plain.specs.Runs.{reply_of}
-use Rattle.dc_events.specs.Views.{View, Record}
+use Rattle.dc_events.specs.Views.{View}
 use Rattle.dc_events.specs.Standing.{tree_of}
 use Rattle.dc_events.specs.Rows.{most}
 use Rattle.dc_events.specs.Effects.{committed, with_seen, empty_hold}

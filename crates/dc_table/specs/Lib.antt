@@ -7,7 +7,6 @@ pub mod Kept
 pub mod Plays
 pub mod Passes
 pub mod Ends
-pub mod Sizes
 pub mod Changes
 pub mod Walking
 pub mod Filling

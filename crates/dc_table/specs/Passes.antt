@@ -1,5 +1,5 @@
 -- What a caller knows of a pass, and when it may take a step.
-use Rattle.std.specs.Prelude.{◌≡◌, ℕ, ◌+◌, ◌%◌, ◌<◌, ◌≤◌, true, false, [], ◌∷◌, length, Option as Maybe, None}
+use Rattle.std.specs.Prelude.{◌≡◌, ℕ, ◌%◌, ◌<◌, true, false, [], ◌∷◌, length, Option as Maybe, None}
 use Rattle.atomic_table.specs.declared.shared.Seat.{Seat}
 use Rattle.dc_plain.specs.Requests.{Request}
 use Rattle.dc_plain.specs.Runs.{alters}

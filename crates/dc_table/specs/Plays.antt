@@ -1,8 +1,8 @@
 -- What each step tells its pass. A step cannot read the sizes of the table, so passes name them.
-use Rattle.std.specs.Prelude.{◌≡◌, ◌≢◌, ℕ, ◌+◌, ◌<◌, ◌≤◌, List, [], ◌∷◌, length, get_or, Option as Maybe, Some}
+use Rattle.std.specs.Prelude.{◌≡◌, ◌≢◌, ℕ, ◌+◌, ◌≤◌, List, [], ◌∷◌, length, get_or, Option as Maybe, Some}
 use Rattle.atomic_table.specs.Table.{Me, Step}
 use Rattle.dc_plain.specs.Requests.{Request}
-use Rattle.dc_events.specs.Rows.{most, base_of}
+use Rattle.dc_events.specs.Rows.{most}
 use Rattle.dc_events.specs.Effects.{taken, wrote, committed, gave, answered}
 use Rattle.dc_table.specs.Shares.{Known, with_view}
 use Rattle.dc_table.specs.Kept.{HomeFits, sheet_of}

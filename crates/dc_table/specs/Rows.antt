@@ -1,5 +1,5 @@
 -- Which rows are odd, and what the even ones spell.
-use Rattle.std.specs.Prelude.{◌≡◌, ◌≢◌, ◌⊎◌, ℕ, ◌+◌, ◌%◌, ◌<◌, ◌≤◌, Bool, true, List, [], ◌∷◌, length, get_or, slice_get, Option, Some, None}
+use Rattle.std.specs.Prelude.{◌≡◌, ◌≢◌, ◌⊎◌, ℕ, ◌+◌, ◌%◌, ◌<◌, ◌≤◌, List, length, get_or, slice_get, Option, Some, None}
 use Rattle.dc_plain.specs.Facts.{Fact, Key, key_of}
 use Rattle.dc_plain.specs.Trees.{Tree, Holds}
 use Rattle.dc_row.specs.Spelling.{Spells}

@@ -46,7 +46,8 @@ mod table;
 mod tests;
 mod walking;
 
-pub use fault::{ChangeFault, MakeFault};
+pub use dc_events::MakeFault;
+pub use fault::ChangeFault;
 pub use shared::Shared;
 pub use sheet::Sheet;
 pub use table::{Limits, Pass, Protocol, Value};

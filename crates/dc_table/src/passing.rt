@@ -1,39 +1,27 @@
 //! How a table begins and ends, and how passes are cut and put together.
 
 ghost use Rattle.std.specs.Prelude.{◌≡◌, ◌*◌, ◌≤◌, ◌↔◌, false, Err, IfOk, IfSome, IsSome};
+ghost use Rattle.dc_events.specs.Sizes.{are_right};
+ghost use Rattle.dc_events.specs.declared.sizes.MakeFault.TheVariants.{BadSize};
 ghost use Rattle.dc_table.specs.Ends.{Ends};
 ghost use Rattle.dc_table.specs.Kept.{IsNew};
 ghost use Rattle.dc_table.specs.Passes.{known, share, Fits, IsIdle};
 ghost use Rattle.dc_table.specs.Shares.{IsWhole, first_known, kept_half, new_half, both};
-ghost use Rattle.dc_table.specs.Sizes.{are_right};
-ghost use Rattle.dc_table.specs.declared.fault.MakeFault.TheVariants.{BadSize};
 
-use crate::fault::MakeFault;
 use crate::plays::Halves;
 use crate::shared::Shared;
 use crate::table::{Limits, Pass, Value};
 use atomic_table::{Refused, Table};
-use dc_events::{new_tables_have_the_rule, passes_keep_the_rule, records_are_legal};
+use dc_events::{
+    MakeFault, are_right, new_tables_have_the_rule, passes_keep_the_rule, records_are_legal,
+};
 use dc_index::Index;
 use dc_names::NoMemory;
-use dc_plain::MOST_INODES;
 use dc_row::{ROW_WORDS, empty_row_spells_nothing};
 use dc_shrink::Shrinker;
 use dc_store::SlabStore;
 use std::alloc::Global;
 use std::sync::atomic::AtomicU64;
-
-/// The most buckets that a table has.
-const MOST_BUCKETS: u64 = 1024;
-
-/// Whether a table may have so many buckets, and so many inodes live in it.
-fn are_right(buckets: u64, max_inodes: u64) -> bool
-    ensures { result ≡ are_right buckets max_inodes }
-{
-    (1..=MOST_BUCKETS).contains(&buckets)
-        && buckets.is_power_of_two()
-        && (1..=MOST_INODES).contains(&max_inodes)
-}
 
 impl Value {
     /// The root directory alone, and no row with a key.

@@ -1,12 +1,11 @@
 -- A walk by hand: three notes, a pivot, and checks that no record ends, as those of a call that rows never answer.
-use Rattle.std.proofs.Common.{◌≡◌, ℕ, zero, suc, ◌+◌, ◌<◌, List, [], ◌∷◌, ◌++◌, Bool, true, false, Option, None, Result, Ok, Err, OnOk, IfErr, if◌then◌else◌, length, get_or, set, refl, ap, sym, ◌∙◌, subst, arith}
+use Rattle.std.proofs.Common.{◌≡◌, ℕ, zero, suc, ◌<◌, List, [], ◌∷◌, ◌++◌, Bool, true, false, Option, None, Result, Ok, Err, OnOk, IfErr, if◌then◌else◌, get_or, set, refl, ap, sym, ◌∙◌, subst, arith}
 use mathlib.Core.Option.{some}
 use lib.ListN.{get_elem?}
 use Rattle.dc_plain.specs.Facts.{told_by}
 use Rattle.dc_plain.specs.FactLaws.{answer_told}
 use Rattle.dc_plain.specs.Requests.{Request, Answer}
 use Rattle.dc_plain.specs.Requests.Request.{Stat}
-use Rattle.dc_row.specs.declared.TheConstants.{ROW_WORDS}
 use Rattle.dc_events.specs.Views.{View, Walk, Note}
 use Rattle.dc_events.specs.Views.Fault.{Changed}
 use Rattle.dc_events.specs.Rows.{IsWhole}

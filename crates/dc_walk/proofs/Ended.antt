@@ -32,11 +32,11 @@ none_there x c = let never = c.1 in absurd (omega arith)
 -- a cause is one of a walk that was begun
 by_begun : (outcome : Teller → Option Outcome) (buckets : ℕ) (b : Bool) (v : View) (call : Request) (why : rust_why.Why) → HasCause outcome buckets (begins (not b) v call) why → b ≡ true
 by_begun outcome buckets true v call why cause = refl
-by_begun outcome buckets false v call (whys.Miss n) cause = let other = cause.rows 0 (omega arith) in absurd (none_there other.note other.noted)
+by_begun outcome buckets false v call (whys.Miss n) cause = let other = cause.2.rows 0 (omega arith) in absurd (none_there other.note other.noted)
 by_begun outcome buckets false v call (whys.Busy row) cause = absurd (none_there (Busy row) cause)
 by_begun outcome buckets false v call (whys.Changed row noted found) cause = absurd (none_there (Changed row noted found) cause.0)
 by_begun outcome buckets false v call whys.Long cause = let none : length cause.uses ≡ 0 = ap length cause.marked in let many = cause.many in absurd (omega arith)
-by_begun outcome buckets false v call whys.Link cause = let some = cause.some_note in absurd (omega arith)
+by_begun outcome buckets false v call whys.Link cause = let other = cause.2.rows 0 (omega arith) in absurd (none_there other.note other.noted)
 by_begun outcome buckets false v call whys.Memory cause = absurd cause
 
 module _ (f : Rows) where

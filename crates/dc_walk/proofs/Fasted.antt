@@ -1,17 +1,16 @@
 -- What a look-up without the lock keeps, from its walk and from the end of its walk.
-use Rattle.std.proofs.Common.{◌≡◌, ℕ, ◌+◌, ◌*◌, ◌≤◌, ◌⊎◌, inl, inr, List, [], Option, None, length, refl, ap, sym, ◌∙◌, arith}
+use Rattle.std.proofs.Common.{◌≡◌, ℕ, ◌+◌, ◌≤◌, inl, List, [], Option, None, length, ap, ◌∙◌, arith}
 use Rattle.dc_plain.specs.declared.call.Follow.{Follow}
 use Rattle.dc_plain.specs.Facts.{Teller, told_by}
 use Rattle.dc_plain.specs.Resolution.{Outcome}
-use Rattle.dc_plain.specs.Requests.{Request, Answer, answer_of}
+use Rattle.dc_plain.specs.Requests.{Answer, answer_of}
 use Rattle.dc_plain.specs.Requests.Request.{Look}
-use Rattle.dc_row.specs.declared.TheConstants.{ROW_WORDS}
 use Rattle.dc_events.specs.Views.{View, Book}
 use Rattle.dc_walk.specs.Uses.{Use}
 use Rattle.dc_walk.specs.Causes.{HasCause}
 use Rattle.dc_walk.specs.Settling.{Settled, IsChanged, noted_in}
 use Rattle.dc_walk.specs.Fasts.{Went, Keeps, IfAgain, outcome_by}
-use Rattle.dc_walk.specs.declared.TheConstants.{BUCKET_ROWS, MOST_USED, MOST_LOADS}
+use Rattle.dc_walk.specs.declared.TheConstants.{MOST_USED, MOST_LOADS}
 use Rattle.dc_walk.specs.declared.why.Why as rust_why
 use Rattle.dc_walk.specs.declared.why.Why.TheVariants as whys
 use Rattle.dc_walk.specs.declared.settling.Quick as rust_quick

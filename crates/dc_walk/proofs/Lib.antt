@@ -12,5 +12,4 @@ pub mod Checks
 pub mod Fasted
 pub mod Pinnings
 pub mod ByHand
-pub mod Unasked
 pub mod Runs

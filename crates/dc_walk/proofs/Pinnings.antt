@@ -1,7 +1,7 @@
 -- What a finder over pinned rows knows after the lock was had and given back, and after a question.
-use Rattle.std.proofs.Common.{◌≡◌, ℕ, ◌+◌, ◌≤◌, List, ◌∷◌, [], ◌++◌, Bool, true, false, not, Option, Some, None, is_some, if◌then◌else◌, length, map, refl, ap, sym, ◌∙◌, subst, arith}
+use Rattle.std.proofs.Common.{◌≡◌, ℕ, ◌≤◌, List, ◌∷◌, [], Bool, true, false, not, Option, Some, None, is_some, if◌then◌else◌, length, map, refl, ap, sym, ◌∙◌, subst, arith}
 use Rattle.std.proofs.lemmas.List.{map-append}
-use Rattle.dc_plain.specs.Facts.{Label, Target, Teller, told_by}
+use Rattle.dc_plain.specs.Facts.{Key, Teller, told_by}
 use Rattle.dc_plain.specs.Resolution.{Outcome}
 use Rattle.dc_plain.specs.FactLaws.{outcome_answer}
 use Rattle.dc_plain.specs.Requests.{Request, Answer}
@@ -9,7 +9,7 @@ use Rattle.dc_plain.specs.Tellers.{Extends}
 use Rattle.dc_events.specs.Views.{View, Walk, Book}
 use Rattle.dc_events.specs.Effects.{begins, with_seen, empty_hold}
 use Rattle.dc_table.specs.Changes.{NothingNew, Rested}
-use Rattle.dc_table.specs.Passes.{Pass, view, share, IsIdle}
+use Rattle.dc_table.specs.Passes.{Pass, view, IsIdle}
 use Rattle.dc_table.specs.Shares.{Share}
 use Rattle.dc_walk.specs.Uses.{Use, facts_of}
 use Rattle.dc_walk.specs.Asking.{IsWalk, GoesOn}
@@ -84,8 +84,8 @@ module _ {f g : Rows} (s : SameRows f g) where
       record { own = ap (λ (b : Book). b.own) same; joined = ap (λ (b : Book). b.joined) same; later = omega arith }
 
   -- a row that was filled and read answers
-  pub answered_pins : (e : Rows) → SameRows e f → NothingNew (view e.pass.now) (view f.pass.now) → f.used.now ≡ e.used.now → (n : ℕ) (label : Label) (target : Option Target) → GoesOn (now_in f) (now_in g) → Answers f n label g target → g.why ≡ None → Pins e g
-  answered_pins e before nothing used n label target on a why = record {
+  pub answered_pins : (e : Rows) → SameRows e f → NothingNew (view e.pass.now) (view f.pass.now) → f.used.now ≡ e.used.now → (key : Key) → GoesOn (now_in f) (now_in g) → Answers f key g → g.why ≡ None → Pins e g
+  answered_pins e before nothing used key on a why = record {
     same = same_again before s;
     told = subst (λ u. Extends (told_in u.items) (said_in g)) used (subst (λ facts. Extends (said_in f) (told_by facts)) (sym (ap facts_of a.uses ∙ map-append (λ u. u.fact) (uses_in f) (a.use_of ∷ []))) (told_more (facts_of (uses_in f)) a.use_of.fact));
     nothing = nothing_again nothing (nothing_on on);

@@ -4,12 +4,12 @@ use Rattle.std.proofs.lemmas.List.{append-nil, append_assoc}
 use Rattle.std.specs.List.{Contains}
 use Rattle.std.proofs.lemmas.List.Elements.{Contains-append_left}
 use Rattle.dc_names.specs.Paths.{path_in}
-use Rattle.dc_plain.specs.Facts.{Fact, Label, Target, Teller}
-use Rattle.dc_plain.specs.Facts.Fact.{Leads}
+use Rattle.dc_plain.specs.Facts.{Fact, Key, Teller, key_of}
 use Rattle.dc_plain.specs.Places.{walk}
 use Rattle.dc_plain.specs.Resolution.{Outcome}
 use Rattle.dc_plain.specs.Requests.Request.{Look}
-use Rattle.dc_row.specs.Spelling.{Spells}
+use Rattle.dc_row.specs.Spelling.{Spells, TellsOf}
+use Rattle.dc_resolve.specs.Needs.{IsUntold}
 use Rattle.dc_events.specs.Views.{View, Fault}
 use Rattle.dc_events.specs.Views.Fault.{Busy}
 use Rattle.dc_events.specs.Effects.{faulted}
@@ -18,14 +18,14 @@ use Rattle.dc_walk.specs.declared.TheConstants.{BUCKET_ROWS}
 use Rattle.dc_walk.specs.Probes.{probed, fresh_note}
 use Rattle.dc_walk.specs.Uses.{Use}
 use Rattle.dc_walk.specs.Asking.{IsWalk, IsOther, GoesOn, SameWalk}
-use Rattle.dc_walk.specs.Finds.{use_shown, told_in, AllSpelled, AllInside}
+use Rattle.dc_walk.specs.Finds.{use_shown, told_in, AllSpelled, AllInside, IsStanding}
 use Rattle.dc_walk.specs.Findings.{SameRows, IsFinding, CanWalk, now_in, uses_in, outcome_in, request_in, said_in}
 use Rattle.dc_walk.specs.Sights.{Fails, Answers}
 use Rattle.dc_walk.specs.declared.finder.Rows.{Rows}
 use Rattle.dc_walk.specs.declared.used.Used.{Used}
 use Rattle.dc_walk.proofs.Told.{new_same}
 use Rattle.dc_walk.proofs.Walked.{passed, stumbled, answered, last_noted, last_fault, other_still}
-use Rattle.dc_walk.proofs.Seats.{same_pass, same_passes, fits_still}
+use Rattle.dc_walk.proofs.Seats.{same_pass, fits_still}
 use Rattle.dc_table.specs.Shares.{Share}
 use Rattle.dc_table.specs.Passes.{Pass, share, IsSamePass, IsIdle}
 use Rattle.dc_table.specs.declared.shared.Shared.{Shared}
@@ -68,11 +68,11 @@ module _ {f g : Rows} where
     inside = inside;
   }
 
-  module _ (row n : ℕ) (label : Label) (k : ℕ) (s : SameRows f g) (can : CanWalk g.shared.now g.pass.now) (is : IsFinding f k) where
+  module _ (row : ℕ) (key : Key) (k : ℕ) (s : SameRows f g) (can : CanWalk g.shared.now g.pass.now) (is : IsFinding f k) where
     inside_still : g.used.now ≡ f.used.now → AllInside (share g.pass.now).rows g.used.now.items
     inside_still used = subst (λ (z : Share × List Used). AllInside z.0.rows z.1) (λ i. (sym s.same_pass.same_share i, (sym used i).items)) is.inside
 
-    pub failed_odd : g.used.now ≡ f.used.now → g.made ≡ f.made → now_in g ≡ faulted (now_in f) (Busy row) → Fails f n label g k × Contains (now_in g).faults (Busy row)
+    pub failed_odd : g.used.now ≡ f.used.now → g.made ≡ f.made → now_in g ≡ faulted (now_in f) (Busy row) → Fails f key g k × Contains (now_in g).faults (Busy row)
     failed_odd used made now =
         let uses : uses_in g ≡ uses_in f = ap (λ u. map use_shown u.items) used in (
           record { finding = finds_on (faulted (now_in f) (Busy row)) (uses_in f) (k + 1) s can (subst (λ u. AllSpelled u.items) (sym used) is.spelled) (inside_still used) now (stumbled row is.walk) uses (made ∙ is.made) is.call; used = used },
@@ -85,26 +85,27 @@ module _ {f g : Rows} where
           let size : length ((now_in f).walk.notes ++ fresh_note row count words ∷ []) ≡ length (now_in f).walk.notes + 1 = length-append (now_in f).walk.notes (fresh_note row count words ∷ []) in
           let many = is.made in omega arith
 
-      pub failed_other : g.used.now ≡ f.used.now → length words + 1 ≡ ROW_WORDS → ((target : Option Target) → Spells (count ∷ words) (Some (Leads n label target)) → ⊥) → Fails f n label g k × IsOther (now_in g) row n label
+      pub failed_other : g.used.now ≡ f.used.now → length words + 1 ≡ ROW_WORDS → (TellsOf (count ∷ words) key → ⊥) → Fails f key g k × IsOther (now_in g) row key
       failed_other used whole other =
           let uses : uses_in g ≡ uses_in f = ap (λ u. map use_shown u.items) used in
           let x = fresh_note row count words in (
             record { finding = finds_on (probed (now_in f) row count words) (uses_in f) (k + 1) s can (subst (λ u. AllSpelled u.items) (sym used) is.spelled) (inside_still used) now (passed row count words whole is.walk) uses made_so is.call; used = used },
-            subst (λ (z : View). IsOther z row n label) (sym now) (record { note = x; noted = last_noted (now_in f).walk.notes x; is_of = refl; whole = whole; other = other }),
+            subst (λ (z : View). IsOther z row key) (sym now) (record { note = x; noted = last_noted (now_in f).walk.notes x; is_of = refl; whole = whole; other = other }),
           )
 
-      pub answers_so : (target : Option Target) (u : Use) → uses_in g ≡ uses_in f ++ u ∷ [] → AllSpelled g.used.now.items → AllInside (share f.pass.now).rows g.used.now.items → u.row ≡ row → u.count ≡ count → u.place ≡ f.made → u.fact ≡ Leads n label target → Spells (count ∷ words) (Some (Leads n label target))
-          → k < BUCKET_ROWS → outcome_in f (said_in f) ≡ None → (said_in f).entry n label ≡ None → Answers f n label g target
-      answers_so target u uses spelled inside row_is count_is place fact spells early none new =
+      pub answers_so : (fact : Fact) (u : Use) → uses_in g ≡ uses_in f ++ u ∷ [] → AllSpelled g.used.now.items → AllInside (share f.pass.now).rows g.used.now.items → u.row ≡ row → u.count ≡ count → u.place ≡ f.made → u.fact ≡ fact → Spells (count ∷ words) (Some fact)
+          → key_of fact ≡ key → k < BUCKET_ROWS → outcome_in f (said_in f) ≡ None → IsUntold (said_in f) key.number key.label
+          → IsStanding g.used.now.items key (length f.used.now.items) → Answers f key g
+      answers_so fact u uses spelled inside row_is count_is place fact_is spells about early none new standing =
           let many = is.made in
-          let said : Spells (u.count ∷ words) (Some u.fact) = subst (λ (z : ℕ × Fact). Spells (z.0 ∷ words) (Some z.1)) (λ i. (sym count_is i, sym fact i)) spells in
+          let said : Spells (u.count ∷ words) (Some u.fact) = subst (λ (z : ℕ × Fact). Spells (z.0 ∷ words) (Some z.1)) (λ i. (sym count_is i, sym fact_is i)) spells in
           record {
             finding = finds_on (probed (now_in f) row count words) (uses_in f ++ u ∷ []) 0 s can spelled (subst (λ (x : Share). AllInside x.rows g.used.now.items) (sym s.same_pass.same_share) inside) now
-                (subst (λ (z : ℕ × ℕ). IsWalk (outcome_in f) (probed (now_in f) z.0 z.1 words) (uses_in f ++ u ∷ []) 0) (λ i. (row_is i, count_is i)) (answered u words is.walk early (place ∙ many) said none (new_same n label target (said_in f) u.fact fact new)))
+                (subst (λ (z : ℕ × ℕ). IsWalk (outcome_in f) (probed (now_in f) z.0 z.1 words) (uses_in f ++ u ∷ []) 0) (λ i. (row_is i, count_is i)) (answered u words is.walk early (place ∙ many) said none (new_same key (said_in f) u.fact (ap key_of fact_is ∙ about) new)))
                 uses made_so is.call;
             use_of = u;
-            fact = fact;
             uses = uses;
+            standing = standing;
           }
 
 pub on_still : {v : View} → GoesOn v v
@@ -119,7 +120,7 @@ on_again {u = u} a b = record {
   same = record { call = b.same.call ∙ a.same.call; book = b.same.book ∙ a.same.book; first_load = b.same.first_load ∙ a.same.first_load };
 }
 
-pub other_on : {v w : View} {row n : ℕ} {label : Label} → GoesOn v w → IsOther v row n label → IsOther w row n label
+pub other_on : {v w : View} {row : ℕ} {key : Key} → GoesOn v w → IsOther v row key → IsOther w row key
 other_on {w = w} on o = other_still on.notes w on.noted o
 
 pub fault_on : {v w : View} {fault : Fault} → GoesOn v w → Contains v.faults fault → Contains w.faults fault

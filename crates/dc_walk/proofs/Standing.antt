@@ -1,16 +1,19 @@
 -- What the rows that were used tell of a key.
-use Rattle.std.proofs.Common.{◌≡◌, ℕ, zero, suc, ◌+◌, ◌<◌, ◌==◌, ◌&&◌, List, [], ◌∷◌, ◌++◌, length, get_or, drop, Bool, true, false, cond, Option, Some, map, refl, ap, ◌∙◌, subst, arith}
+use Rattle.std.proofs.Common.{◌≡◌, ◌≢◌, ℕ, zero, suc, ◌+◌, ◌<◌, ◌==◌, ◌&&◌, List, [], ◌∷◌, ◌++◌, length, get_or, Bool, true, false, cond, Option, Some, map, refl, ap, sym, ◌∙◌, subst, arith, length-append}
 use Rattle.std.proofs.lemmas.Bool.Decides.{nat_tests}
+use Rattle.std.proofs.lemmas.List.{map-append}
 use Rattle.std.proofs.lemmas.Slice.Eq.{bytes_eq-Decides}
-use Rattle.dc_plain.specs.Facts.{Fact, Label, Target, same_label, entry_told}
+use Rattle.std.proofs.Math.Seq.{get_or-append_seam}
+use Rattle.dc_plain.specs.Facts.{Fact, Key, Label, Target, key_of, told_by, same_label, entry_told, text_told}
 use Rattle.dc_plain.specs.Facts.Label.{Entry, Parent, Text}
 use Rattle.dc_plain.specs.Facts.Fact.{Leads, Reads}
 use Rattle.dc_row.specs.Decoding.{fact_in, SpelledIsRead}
-use Rattle.dc_row.specs.Spelling.{Spells}
+use Rattle.dc_row.specs.Spelling.{Spells, TellsOf, has_spelling}
+use Rattle.dc_resolve.specs.Needs.{IsUntold}
 use Rattle.dc_walk.specs.Uses.{facts_of}
-use Rattle.dc_walk.specs.Finds.{fact_or_none, fact_shown, use_shown, told_in, IsSpelled, AllSpelled, AllInside}
+use Rattle.dc_walk.specs.Finds.{fact_or_none, fact_shown, no_use, use_shown, told_in, IsSpelled, AllSpelled, AllInside, IsTold, IsStanding}
 use Rattle.dc_walk.specs.declared.used.Used.{Used}
-use Rattle.dc_walk.proofs.Told.{same_test, same_itself}
+use Rattle.dc_walk.proofs.Told.{same_test, same_itself, told_last, new_same}
 
 pub label-same : (a b : Label) → same_label a b ≡ true → a ≡ b
 label-same (Entry a) (Entry b) e = ap Entry ((bytes_eq-Decides a b).0 e)
@@ -34,26 +37,33 @@ both false b e = absurd cc
 pub shown_so : SpelledIsRead → (words : List ℕ) (fact : Fact) → Spells words (Some fact) → fact_or_none (fact_in words) ≡ fact
 shown_so read words fact s = ap fact_or_none (read words (Some fact) s)
 
-module _ (us : List Used) (n : ℕ) (label : Label) where
-  first_fact : (fact : Fact) (target : Option Target) → fact ≡ Leads n label target → entry_told (fact ∷ facts_of (map use_shown us)) n label ≡ Some target
-  first_fact fact target is = ap (λ f. entry_told (f ∷ facts_of (map use_shown us)) n label) is ∙ rw (same_test n, same_itself label) refl
+unless : {X : Type 0} (b : Bool) (target : X) (rest : Option X) → ((b ≡ true) → ⊥) → cond b (Some target) rest ≡ rest
+unless true target rest never = absurd (never refl)
+unless false target rest never = refl
 
-  -- the first row tells
-  pub told_here : SpelledIsRead → (u : Used) (target : Option Target) → Spells u.words (Some (Leads n label target)) → (told_in (u ∷ us)).entry n label ≡ Some target
-  told_here read u target s = first_fact (fact_shown u) target (shown_so read u.words (Leads n label target) s)
+-- a fact of another key is passed over
+entry_past : (fact : Fact) (facts : List Fact) (d : ℕ) (label : Label) → (key_of fact ≡ record { number = d; label = label } → ⊥) → entry_told (fact ∷ facts) d label ≡ entry_told facts d label
+entry_past (Leads m l target) facts d label other =
+    unless (m == d && same_label l label) target _ (λ e. let is = both (m == d) (same_label l label) e in other (λ i. record { number = number-same m d is.0 i; label = label-same l label is.1 i }))
+entry_past (Reads n text) facts d label other = refl
 
-  unless : (b : Bool) (target : Option Target) (rest : Option (Option Target)) → ((b ≡ true) → ⊥) → cond b (Some target) rest ≡ rest
-  unless true target rest never = absurd (never refl)
-  unless false target rest never = refl
+text_past : (fact : Fact) (facts : List Fact) (n : ℕ) → (key_of fact ≡ record { number = n; label = Text } → ⊥) → text_told (fact ∷ facts) n ≡ text_told facts n
+text_past (Leads m l target) facts n other = refl
+text_past (Reads m text) facts n other = unless (m == n) text _ (λ e. other (λ i. record { number = number-same m n e i; label = Text }))
 
-  other_fact : (fact : Fact) → ((target : Option Target) → fact ≡ Leads n label target → ⊥) → entry_told (fact ∷ facts_of (map use_shown us)) n label ≡ entry_told (facts_of (map use_shown us)) n label
-  other_fact (Reads m text) other = refl
-  other_fact (Leads m l target) other =
-      unless (m == n && same_label l label) target _ (λ e. other target (λ i. Leads (number-same m n (both (m == n) (same_label l label) e).0 i) (label-same l label (both (m == n) (same_label l label) e).1 i) target))
+told_past : (f : Fact) (facts : List Fact) (fact : Fact) → (key_of f ≡ key_of fact → ⊥) → IsTold (told_by facts) fact → IsTold (told_by (f ∷ facts)) fact
+told_past f facts (Leads d label target) other told = entry_past f facts d label other ∙ told
+told_past f facts (Reads n text) other told = text_past f facts n other ∙ told
 
-  -- the first row is of another key
-  pub told_later : (u : Used) → IsSpelled u → ((target : Option Target) → Spells u.words (Some (Leads n label target)) → ⊥) → (told_in (u ∷ us)).entry n label ≡ (told_in us).entry n label
-  told_later u spelled other = other_fact (fact_shown u) (λ target is. other target (subst (λ fact. Spells u.words (Some fact)) is spelled.0))
+untold_past : (f : Fact) (facts : List Fact) (n : ℕ) (label : Label) → (key_of f ≡ record { number = n; label = label } → ⊥) → IsUntold (told_by facts) n label → IsUntold (told_by (f ∷ facts)) n label
+untold_past f facts n (Entry name) other none = entry_past f facts n (Entry name) other ∙ none
+untold_past f facts n Parent other none = entry_past f facts n Parent other ∙ none
+untold_past f facts n Text other none = text_past f facts n other ∙ none
+
+-- the first fact is told
+told_first : (fact : Fact) (facts : List Fact) → IsTold (told_by (fact ∷ facts)) fact
+told_first (Leads d label target) facts = rw (same_test d, same_itself label) refl
+told_first (Reads n text) facts = rw (same_test n) refl
 
 pub spelled_more : (us : List Used) (u : Used) → AllSpelled us → IsSpelled u → AllSpelled (us ++ u ∷ [])
 spelled_more [] u all is = (is, tt)
@@ -68,22 +78,64 @@ inside_at rows [] i d l all = absurd (omega arith)
 inside_at rows (v ∷ us) zero d l all = all.0
 inside_at rows (v ∷ us) (suc i) d l all = inside_at rows us i d (omega arith) all.1
 
--- the rows from the i-th on
-from_here : (us : List Used) (i : ℕ) (d : Used) → i < length us → drop i us ≡ get_or us i d ∷ drop (suc i) us
-from_here [] i d l = absurd (omega arith)
-from_here (v ∷ us) zero d l = refl
-from_here (v ∷ us) (suc i) d l = from_here us i d (omega arith)
+-- no row up to the i-th tells of the key
+abbrev pub AreOthers : List Used → Key → ℕ → Type 0
+AreOthers us key i = (j : ℕ) → j < i → TellsOf (get_or us j no_use).words key → ⊥
 
-spelled_at : (us : List Used) (i : ℕ) (d : Used) → i < length us → AllSpelled us → IsSpelled (get_or us i d)
-spelled_at [] i d l all = absurd (omega arith)
-spelled_at (v ∷ us) zero d l all = all.0
-spelled_at (v ∷ us) (suc i) d l all = spelled_at us i d (omega arith) all.1
+-- what the first row that tells of a key spells is told
+first_told : SpelledIsRead → (us : List Used) (key : Key) (i : ℕ) → i < length us → AllSpelled us → AreOthers us key i → (fact : Fact) → key_of fact ≡ key → Spells (get_or us i no_use).words (Some fact) → IsTold (told_in us) fact
+first_told read [] key i l all others fact about s = absurd (omega arith)
+first_told read (u ∷ us) key zero l all others fact about s = subst (λ f. IsTold (told_by (f ∷ facts_of (map use_shown us))) fact) (sym (shown_so read u.words fact s)) (told_first fact (facts_of (map use_shown us)))
+first_told read (u ∷ us) key (suc i) l all others fact about s =
+    told_past (fact_shown u) (facts_of (map use_shown us)) fact (λ same. others 0 (omega arith) (record { fact = fact_shown u; about = same ∙ about; spelled = all.0 }))
+    (first_told read us key i (omega arith) all.1 (λ j h. others (suc j) (omega arith)) fact about s)
 
-module _ (us : List Used) (i : ℕ) (d : Used) (inside : i < length us) (n : ℕ) (label : Label) where
-  pub stands_here : SpelledIsRead → (target : Option Target) → Spells (get_or us i d).words (Some (Leads n label target)) → (told_in (drop i us)).entry n label ≡ Some target
-  stands_here read target s = ap (λ rows. (told_in rows).entry n label) (from_here us i d inside) ∙ told_here (drop (suc i) us) n label read (get_or us i d) target s
+pub stands_so : SpelledIsRead → (us : List Used) (key : Key) (i : ℕ) → i < length us → AllSpelled us → AreOthers us key i → TellsOf (get_or us i no_use).words key → IsStanding us key i
+stands_so read us key i l all others tells = record { inside = l; fact = tells.fact; about = tells.about; spelled = tells.spelled; told = first_told read us key i l all others tells.fact tells.about tells.spelled }
 
-  pub stands_later : AllSpelled us → ((target : Option Target) → Spells (get_or us i d).words (Some (Leads n label target)) → ⊥) → (told_in (drop i us)).entry n label ≡ (told_in (drop (i + 1) us)).entry n label
-  stands_later all other =
-      let next : suc i ≡ i + 1 = omega arith in
-      ap (λ rows. (told_in rows).entry n label) (from_here us i d inside) ∙ told_later (drop (suc i) us) n label (get_or us i d) (spelled_at us i d inside all) other ∙ ap (λ (k : ℕ). (told_in (drop k us)).entry n label) next
+pub none_stands : (us : List Used) (key : Key) → AllSpelled us → AreOthers us key (length us) → IsUntold (told_in us) key.number key.label
+none_stands [] key all others = untold_by_none key.number key.label
+  where
+    untold_by_none : (n : ℕ) (label : Label) → IsUntold (told_by []) n label
+    untold_by_none n (Entry name) = refl
+    untold_by_none n Parent = refl
+    untold_by_none n Text = refl
+none_stands (u ∷ us) key all others =
+    untold_past (fact_shown u) (facts_of (map use_shown us)) key.number key.label (λ same. others 0 (omega arith) (record { fact = fact_shown u; about = same; spelled = all.0 }))
+    (none_stands us key all.1 (λ j h. others (suc j) (omega arith)))
+
+-- a row that was just used tells of its key
+pub stands_last : (us : List Used) (new : Used) (key : Key) (fact : Fact) → fact_shown new ≡ fact → key_of fact ≡ key → Spells new.words (Some fact) → IsUntold (told_in us) key.number key.label → IsStanding (us ++ new ∷ []) key (length us)
+stands_last us new key fact shown about spells none =
+    let size : length (us ++ new ∷ []) ≡ length us + 1 = length-append us (new ∷ []) in
+    let facts : facts_of (map use_shown (us ++ new ∷ [])) ≡ facts_of (map use_shown us) ++ fact ∷ [] =
+    ap facts_of (map-append use_shown us (new ∷ [])) ∙ map-append (λ u. u.fact) (map use_shown us) (use_shown new ∷ []) ∙ ap (λ f. facts_of (map use_shown us) ++ f ∷ []) shown in
+    record {
+      inside = omega arith;
+      fact = fact;
+      about = about;
+      spelled = subst (λ (u : Used). Spells u.words (Some fact)) (sym (get_or-append_seam us new [] no_use)) spells;
+      told = subst (λ fs. IsTold (told_by fs) fact) (sym facts) (told_last (facts_of (map use_shown us)) fact spells.allowed (new_same key (told_in us) fact about none));
+    }
+
+-- what the row of a key tells
+pub stands_entry : (us : List Used) (n : ℕ) (label : Label) (i : ℕ) → label ≢ Text → IsStanding us (record { number = n; label = label }) i → (target : Option Target) × Spells (get_or us i no_use).words (Some (Leads n label target)) × ((told_in us).entry n label ≡ Some target)
+stands_entry us n label i entry s = leads s.fact s.about s.spelled s.told
+  where
+    leads : (fact : Fact) → key_of fact ≡ record { number = n; label = label } → Spells (get_or us i no_use).words (Some fact) → IsTold (told_in us) fact → (target : Option Target) × Spells (get_or us i no_use).words (Some (Leads n label target)) × ((told_in us).entry n label ≡ Some target)
+    leads (Leads d l target) is spelled told =
+        let here = subst (λ (k : Key). Spells (get_or us i no_use).words (Some (Leads k.number k.label target)) × ((told_in us).entry k.number k.label ≡ Some target)) is (spelled, told) in
+        (target, here.0, here.1)
+    leads (Reads m text) is spelled told = absurd (entry (sym (ap (λ (k : Key). k.label) is)))
+
+pub stands_text : (us : List Used) (n i : ℕ) → IsStanding us (record { number = n; label = Text }) i → (text : List ℕ) × Spells (get_or us i no_use).words (Some (Reads n text)) × ((told_in us).text n ≡ Some text)
+stands_text us n i s = reads s.fact s.about s.spelled s.told
+  where
+    no_entry : (d : ℕ) (l : Label) (target : Option Target) → l ≡ Text → has_spelling (Some (Leads d l target)) ≡ true → ⊥
+    no_entry d (Entry name) target is can = absurd cc
+    no_entry d Parent target is can = absurd cc
+    no_entry d Text target is can = absurd cc
+
+    reads : (fact : Fact) → key_of fact ≡ record { number = n; label = Text } → Spells (get_or us i no_use).words (Some fact) → IsTold (told_in us) fact → (text : List ℕ) × Spells (get_or us i no_use).words (Some (Reads n text)) × ((told_in us).text n ≡ Some text)
+    reads (Leads d l target) is spelled told = absurd (no_entry d l target (ap (λ (k : Key). k.label) is) spelled.allowed)
+    reads (Reads m text) is spelled told = let here = subst (λ (k : ℕ). Spells (get_or us i no_use).words (Some (Reads k text)) × ((told_in us).text k ≡ Some text)) (ap (λ (k : Key). k.number) is) (spelled, told) in (text, here.0, here.1)

@@ -5,7 +5,7 @@ use Rattle.std.proofs.lemmas.List.{get_or_append_left, take-append-le}
 use Rattle.std.proofs.Math.Seq.{take-append_seam}
 use Rattle.std.proofs.lemmas.Slice.Eq.{bytes_eq-Decides}
 use Rattle.dc_names.specs.Paths.{fault_of, path_in}
-use Rattle.dc_plain.specs.Facts.{Fact, Label, Target, Teller, told_by, same_label, entry_told, text_told}
+use Rattle.dc_plain.specs.Facts.{Fact, Key, Label, Target, Teller, key_of, told_by, same_label, entry_told, text_told}
 use Rattle.dc_plain.specs.Facts.Label.{Entry, Parent, Text}
 use Rattle.dc_plain.specs.Facts.Fact.{Leads, Reads}
 use Rattle.dc_plain.specs.declared.call.Follow.{Follow}
@@ -14,6 +14,9 @@ use Rattle.dc_plain.specs.Places.{walk}
 use Rattle.dc_plain.specs.Requests.Request.{Look}
 use Rattle.dc_plain.specs.Tellers.{Extends}
 use Rattle.dc_plain.specs.FactLaws.{outcome_answer, answer_told}
+use Rattle.dc_resolve.specs.Needs.{IsUntold}
+use Rattle.dc_row.specs.Spelling.{has_spelling}
+use Rattle.dc_walk.specs.Finds.{IsTold}
 use Rattle.dc_walk.specs.Uses.{NeedsEach, DiffersEach, IsNew}
 
 pub same_test : (n : ℕ) → (n == n) ≡ true
@@ -44,15 +47,26 @@ told_more facts fact = record { entry = entry_more facts fact; text = text_more 
 pub told_itself : (teller : Teller) → Extends teller teller
 told_itself teller = record { entry = λ d label found told. told; text = λ n bytes told. told }
 
-only : (b : Bool) (target found : Option Target) (rest more : Option (Option Target)) → (rest ≡ None → more ≡ Some found) → cond b (Some target) rest ≡ None → cond b (Some target) more ≡ Some found
+only : {X : Type 0} (b : Bool) (target found : X) (rest more : Option X) → (rest ≡ None → more ≡ Some found) → cond b (Some target) rest ≡ None → cond b (Some target) more ≡ Some found
 only true target found rest more so e = absurd cc
 only false target found rest more so e = so e
 
+entry_last : (facts : List Fact) (d : ℕ) (label : Label) (target : Option Target) → entry_told facts d label ≡ None → entry_told (facts ++ Leads d label target ∷ []) d label ≡ Some target
+entry_last [] d label target e = rw (same_test d, same_itself label) refl
+entry_last (Leads k l other ∷ facts) d label target e = only (k == d && same_label l label) other target _ _ (entry_last facts d label target) e
+entry_last (Reads n bytes ∷ facts) d label target e = entry_last facts d label target e
+
+text_last : (facts : List Fact) (n : ℕ) (text : List ℕ) → text_told facts n ≡ None → text_told (facts ++ Reads n text ∷ []) n ≡ Some text
+text_last [] n text e = rw same_test refl
+text_last (Leads k l other ∷ facts) n text e = text_last facts n text e
+text_last (Reads m bytes ∷ facts) n text e = only (m == n) bytes text _ _ (text_last facts n text) e
+
 -- of a key that wasn't told of, the last fact counts
-pub told_last : (facts : List Fact) (d : ℕ) (label : Label) (target : Option Target) → entry_told facts d label ≡ None → entry_told (facts ++ Leads d label target ∷ []) d label ≡ Some target
-told_last [] d label target e = rw (same_test d, same_itself label) refl
-told_last (Leads k l other ∷ facts) d label target e = only (k == d && same_label l label) other target _ _ (told_last facts d label target) e
-told_last (Reads n bytes ∷ facts) d label target e = told_last facts d label target e
+pub told_last : (facts : List Fact) (fact : Fact) → has_spelling (Some fact) ≡ true → IsNew (told_by facts) fact → IsTold (told_by (facts ++ fact ∷ [])) fact
+told_last facts (Leads d (Entry name) target) can new = entry_last facts d (Entry name) target new
+told_last facts (Leads d Parent target) can new = entry_last facts d Parent target new
+told_last facts (Leads d Text target) can new = absurd cc
+told_last facts (Reads n text) can new = text_last facts n text new
 
 -- the answer to a look-up whose path has no fault
 pub answer_is : (teller : Teller) (base : ℕ) (text : List ℕ) (how : Follow) → fault_of text ≡ None → answer_told teller (Look base text how) ≡ option_map outcome_answer (walk teller base (path_in text) how)
@@ -82,5 +96,5 @@ differs_more facts fact each now i l =
           (λ j. (sym (ap (λ (n : ℕ). take n (facts ++ fact ∷ [])) is ∙ take-append_seam facts (fact ∷ [])) j, sym (ap (λ (n : ℕ). get_or (facts ++ fact ∷ []) n (Reads 0 [])) is ∙ last_got facts fact (Reads 0 [])) j)) now
     ]
 
-pub new_same : (d : ℕ) (label : Label) (target : Option Target) (teller : Teller) (fact : Fact) → fact ≡ Leads d label target → teller.entry d label ≡ None → IsNew teller fact
-new_same d label target teller fact is none = subst (IsNew teller) (sym is) none
+pub new_same : (key : Key) (teller : Teller) (fact : Fact) → key_of fact ≡ key → IsUntold teller key.number key.label → IsNew teller fact
+new_same key teller fact is none = subst (λ (k : Key). IsUntold teller k.number k.label) (sym is) none

@@ -3,7 +3,7 @@ use Rattle.std.proofs.Common.{◌≡◌, ℕ, ◌+◌, ◌<◌, ◌≤◌, List,
 use Rattle.std.specs.List.{Contains}
 use Rattle.std.proofs.lemmas.List.{map-append}
 use Rattle.std.proofs.lemmas.List.Elements.{Contains-append_left, Contains-append_right}
-use Rattle.dc_plain.specs.Facts.{Label, Teller, told_by}
+use Rattle.dc_plain.specs.Facts.{Key, Teller, told_by}
 use Rattle.dc_plain.specs.Resolution.{Outcome}
 use Rattle.dc_row.specs.Spelling.{Spells}
 use Rattle.dc_events.specs.Views.{View, Note, Fault}
@@ -67,7 +67,7 @@ module _ {outcome : Teller → Option Outcome} {v : View} {us : List Use} {k : �
   rested n l w = let few = w.few in let loads = w.loads in record { busy = w.busy; early = w.early; marked = w.marked; few = omega arith; loads = omega arith; needed = w.needed; distinct = w.distinct }
 
 -- what a row told stays noted
-pub other_still : {v : View} {row n : ℕ} {label : Label} (more : List Note) (w : View) → w.walk.notes ≡ v.walk.notes ++ more → IsOther v row n label → IsOther w row n label
+pub other_still : {v : View} {row : ℕ} {key : Key} (more : List Note) (w : View) → w.walk.notes ≡ v.walk.notes ++ more → IsOther v row key → IsOther w row key
 other_still {v = v} more w is o = record {
   note = o.note;
   noted = subst (λ notes. Contains notes o.note) (sym is) (Contains-append_left v.walk.notes more o.note o.noted);

@@ -1,11 +1,9 @@
 -- The state of a walk, and the keys that it asks for.
-use Rattle.std.specs.Prelude.{◌≡◌, ◌≢◌, ℕ, ◌+◌, ◌*◌, ◌<◌, ◌≤◌, List, ◌++◌, true, false, Option, Some, length}
+use Rattle.std.specs.Prelude.{◌≡◌, ℕ, ◌+◌, ◌*◌, ◌<◌, ◌≤◌, List, ◌++◌, true, false, Option, Some, length}
 use Rattle.std.specs.List.{Contains}
-use Rattle.dc_plain.specs.Facts.{Fact, Label, Target, Teller, told_by}
-use Rattle.dc_plain.specs.Facts.Label.{Text}
-use Rattle.dc_plain.specs.Facts.Fact.{Leads}
+use Rattle.dc_plain.specs.Facts.{Fact, Key, Teller, told_by}
 use Rattle.dc_plain.specs.Resolution.{Outcome}
-use Rattle.dc_row.specs.Spelling.{Spells}
+use Rattle.dc_row.specs.Spelling.{Spells, TellsOf}
 use Rattle.dc_row.specs.declared.TheConstants.{ROW_WORDS}
 use Rattle.dc_resolve.specs.Needs.{IsNeeded, IsUntold}
 use Rattle.dc_index.specs.Slots.{bucket_of}
@@ -38,35 +36,26 @@ pub record GoesOn (v w : View) : Type 0 where
   pub faults : w.faults ≡ v.faults ++ more
   pub same : SameWalk v w
 
--- a whole note of the row doesn't spell an entry of the key
-pub record IsOther (v : View) (row n : ℕ) (label : Label) : Type 0 where
+-- a whole note of the row doesn't tell of the key
+pub record IsOther (v : View) (row : ℕ) (key : Key) : Type 0 where
   pub note : Note
   pub noted : Contains v.walk.notes note
   pub is_of : note.row ≡ row
   pub whole : IsWhole note
-  pub other : (target : Option Target) → Spells (note_words note) (Some (Leads n label target)) → ⊥
+  pub other : TellsOf (note_words note) key → ⊥
 
 -- the first row of a key's bucket, of so many
-abbrev pub first_row : ℕ → ℕ → Label → ℕ
-first_row buckets n label = BUCKET_ROWS * bucket_of (record { number = n; label = label }) buckets
+abbrev pub first_row : ℕ → Key → ℕ
+first_row buckets key = BUCKET_ROWS * bucket_of key buckets
 
 -- facts of some whole notes, by which the walk asks for this key
-pub record Asks (outcome : Teller → Option Outcome) (v : View) (n : ℕ) (label : Label) : Type 0 where
+pub record Asks (outcome : Teller → Option Outcome) (v : View) (key : Key) : Type 0 where
   pub facts : List Fact
   pub noted : (fact : Fact) → Contains facts fact → (note : Note) × Contains v.walk.notes note × Spells (note_words note) (Some fact)
-  pub untold : IsUntold (told_by facts) n label
-  pub needed : IsNeeded outcome (told_by facts) n label
+  pub untold : IsUntold (told_by facts) key.number key.label
+  pub needed : IsNeeded outcome (told_by facts) key.number key.label
 
--- no row of its bucket has an entry that is asked for
-pub record IsMissing (outcome : Teller → Option Outcome) (buckets : ℕ) (v : View) : Type 0 where
-  pub number : ℕ
-  pub label : Label
-  pub entry : label ≢ Text
-  pub asks : Asks outcome v number label
-  pub rows : (k : ℕ) → k < BUCKET_ROWS → IsOther v (first_row buckets number label + k) number label
-
--- a link's text is asked for
-pub record IsLinked (outcome : Teller → Option Outcome) (v : View) : Type 0 where
-  pub some_note : 0 < length v.walk.notes
-  pub number : ℕ
-  pub asks : Asks outcome v number Text
+-- a key is asked for, and no row of its bucket tells of it
+pub record IsMissing (outcome : Teller → Option Outcome) (buckets : ℕ) (v : View) (key : Key) : Type 0 where
+  pub asks : Asks outcome v key
+  pub rows : (k : ℕ) → k < BUCKET_ROWS → IsOther v (first_row buckets key + k) key

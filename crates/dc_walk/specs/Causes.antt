@@ -1,20 +1,21 @@
 -- Why a finder over rows gave up.
-use Rattle.std.specs.Prelude.{◌≡◌, ℕ, ◌+◌, ◌<◌, List, Option, IfSome, IfNone, length}
+use Rattle.std.specs.Prelude.{◌≡◌, ◌≢◌, ℕ, ◌+◌, ◌<◌, List, Option, IfSome, IfNone, length}
 use Rattle.std.specs.List.{Contains}
-use Rattle.dc_plain.specs.Facts.{Label, Teller}
+use Rattle.dc_plain.specs.Facts.{Key, Teller}
+use Rattle.dc_plain.specs.Facts.Label.{Text}
 use Rattle.dc_plain.specs.Resolution.{Outcome}
 use Rattle.dc_events.specs.Views.{View}
 use Rattle.dc_events.specs.Views.Fault.{Busy, Changed}
 use Rattle.dc_walk.specs.Uses.{Use, Marked, DiffersEach, facts_of}
-use Rattle.dc_walk.specs.Asking.{IsOther, IsMissing, IsLinked}
+use Rattle.dc_walk.specs.Asking.{IsOther, IsMissing}
 use Rattle.dc_walk.specs.declared.TheConstants.{MOST_USED}
 use Rattle.dc_walk.specs.declared.why.Why as rust_why
 use Rattle.dc_walk.specs.declared.why.Why.TheVariants as whys
 
 -- the first row that was odd, if one was; else no row has the key
-pub record Looked (v : View) (first n : ℕ) (label : Label) (odd : Option ℕ) (k : ℕ) : Type 0 where
+pub record Looked (v : View) (first : ℕ) (key : Key) (odd : Option ℕ) (k : ℕ) : Type 0 where
   pub odd_row : IfSome odd (λ row. Contains v.faults (Busy row))
-  pub others : IfNone odd ((j : ℕ) → j < k → IsOther v (first + j) n label)
+  pub others : IfNone odd ((j : ℕ) → j < k → IsOther v (first + j) key)
 
 -- as many rows as can be noted are used, no two of which have one key
 pub record IsFull (v : View) : Type 0 where
@@ -24,9 +25,13 @@ pub record IsFull (v : View) : Type 0 where
   pub distinct : DiffersEach (facts_of uses)
 
 abbrev pub HasCause : (Teller → Option Outcome) → ℕ → View → rust_why.Why → Type 0
-HasCause outcome buckets v (whys.Miss n) = IsMissing outcome buckets v
+HasCause outcome buckets v (whys.Miss n) = (key : Key) × (key.label ≢ Text) × IsMissing outcome buckets v key
 HasCause outcome buckets v (whys.Busy row) = Contains v.faults (Busy row)
 HasCause outcome buckets v (whys.Changed row noted found) = Contains v.faults (Changed row noted found) × (noted < found)
 HasCause outcome buckets v whys.Long = IsFull v
-HasCause outcome buckets v whys.Link = IsLinked outcome v
+HasCause outcome buckets v whys.Link = (key : Key) × (key.label ≡ Text) × IsMissing outcome buckets v key
 HasCause outcome buckets v whys.Memory = ⊥
+
+-- where no row tells of a key that is asked for, this is the cause
+abbrev pub TellsMissing : Key → rust_why.Why → Type 0
+TellsMissing key why = (outcome : Teller → Option Outcome) (buckets : ℕ) (v : View) → IsMissing outcome buckets v key → HasCause outcome buckets v why

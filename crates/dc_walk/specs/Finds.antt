@@ -1,7 +1,7 @@
 -- What the rows that a walk has used tell.
-use Rattle.std.specs.Prelude.{ℕ, ◌<◌, List, [], Option, Some, None, map, get_or}
+use Rattle.std.specs.Prelude.{◌≡◌, ℕ, ◌<◌, List, [], Option, Some, None, length, map, get_or}
 use Rattle.std.specs.List.{AllByRecursion}
-use Rattle.dc_plain.specs.Facts.{Fact, Teller, told_by}
+use Rattle.dc_plain.specs.Facts.{Fact, Key, Teller, key_of, told_by}
 use Rattle.dc_plain.specs.Facts.Fact.{Leads, Reads}
 use Rattle.dc_row.specs.Decoding.{fact_in}
 use Rattle.dc_row.specs.Spelling.{Spells}
@@ -20,13 +20,16 @@ fact_shown u = fact_or_none (fact_in u.words)
 abbrev pub use_shown : Used → Use
 use_shown u = record { row = u.row; count = get_or u.words 0 0; place = u.place; fact = fact_shown u }
 
-abbrev pub IsEntry : Fact → Type 0
-IsEntry (Leads n label target) = Unit {0}
-IsEntry (Reads n text) = ⊥
+abbrev pub no_use : Used
+no_use = record { row = 0; place = 0; words = [] }
 
--- the words of a row spell its fact, which is of an entry
+-- the words spell the text of a link
+abbrev pub SpellsText : List ℕ → Type 0
+SpellsText words = (n : ℕ) × (text : List ℕ) × Spells words (Some (Reads n text))
+
+-- the words of a row spell its fact
 abbrev pub IsSpelled : Used → Type 0
-IsSpelled u = Spells u.words (Some (fact_shown u)) × IsEntry (fact_shown u)
+IsSpelled u = Spells u.words (Some (fact_shown u))
 
 abbrev pub AllSpelled : List Used → Type 0
 AllSpelled used = AllByRecursion IsSpelled used
@@ -37,3 +40,16 @@ AllInside rows used = AllByRecursion (λ u. u.row < rows) used
 
 abbrev pub told_in : List Used → Teller
 told_in used = told_by (facts_of (map use_shown used))
+
+-- someone tells this fact
+abbrev pub IsTold : Teller → Fact → Type 0
+IsTold teller (Leads d label target) = teller.entry d label ≡ Some target
+IsTold teller (Reads n text) = teller.text n ≡ Some text
+
+-- the i-th of the rows that were used spells what they tell of a key
+pub record IsStanding (used : List Used) (key : Key) (i : ℕ) : Type 0 where
+  pub inside : i < length used
+  pub fact : Fact
+  pub about : key_of fact ≡ key
+  pub spelled : Spells (get_or used i no_use).words (Some fact)
+  pub told : IsTold (told_in used) fact

@@ -1,5 +1,5 @@
 -- What questions make of a finder over rows that it pins, and what a look-up by such rows promises.
-use Rattle.std.specs.Prelude.{ℕ, is_some}
+use Rattle.std.specs.Prelude.{ℕ}
 use Rattle.std.proofs.Common.{arith, refl, ◌∙◌}
 use Rattle.dc_plain.specs.Facts.{Label}
 use Rattle.dc_plain.specs.Tellers.{Extends}

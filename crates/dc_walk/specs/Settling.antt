@@ -1,5 +1,5 @@
 -- The pivot of a walk that came to an answer, and the checks of the notes that it used.
-use Rattle.std.specs.Prelude.{◌≡◌, ℕ, ◌+◌, ◌<◌, ◌≤◌, List, [], true, false, Option, Some, None, length}
+use Rattle.std.specs.Prelude.{◌≡◌, ℕ, ◌+◌, ◌<◌, ◌≤◌, List, true, false, Option, Some, length}
 use Rattle.std.specs.List.{Contains}
 use Rattle.dc_plain.specs.FactLaws.{outcome_answer}
 use Rattle.dc_plain.specs.Facts.{Teller, told_by}

@@ -1,8 +1,9 @@
 -- The notes that a walk uses.
 use Rattle.std.specs.Prelude.{◌≡◌, ℕ, zero, suc, ◌<◌, ◌⊎◌, List, [], ◌∷◌, Bool, true, false, Some, None, length, map, take, get_or, Option}
-use Rattle.dc_plain.specs.Facts.{Fact, told_by, Teller}
-use Rattle.dc_plain.specs.Facts.Fact.{Leads, Reads}
+use Rattle.dc_plain.specs.Facts.{Fact, key_of, told_by, Teller}
+use Rattle.dc_plain.specs.Facts.Fact.{Reads}
 use Rattle.dc_row.specs.Spelling.{Spells}
+use Rattle.dc_resolve.specs.Needs.{IsUntold}
 use Rattle.dc_events.specs.Views.{Note}
 use Rattle.dc_events.specs.Rows.{note_words}
 
@@ -39,8 +40,7 @@ Marked k c (x ∷ xs) (u ∷ us) = ((x.checked ≡ false) × Marked (suc k) c xs
 
 -- nothing is told of the key of a fact
 abbrev pub IsNew : Teller → Fact → Type 0
-IsNew teller (Leads d label target) = teller.entry d label ≡ None
-IsNew teller (Reads n text) = teller.text n ≡ None
+IsNew teller fact = IsUntold teller (key_of fact).number (key_of fact).label
 
 -- no two of these facts have one key
 abbrev pub DiffersEach : List Fact → Type 0

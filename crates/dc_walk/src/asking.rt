@@ -1,22 +1,27 @@
 //! The questions of a walk, answered by rows.
 
-ghost use Rattle.std.specs.Prelude.{◌≡◌, ◌≢◌, None, Some, true, is_some, IfOk, OnOk, OnErr, IsTrue};
+ghost use Rattle.std.specs.Prelude.{◌≡◌, ◌≢◌, None, true, is_some, IfOk, OnOk, OnErr};
+ghost use Rattle.dc_names.specs.Hash.{hash_of};
 ghost use Rattle.dc_names.specs.Names.{part_shown};
 ghost use Rattle.dc_names.specs.Paths.Part.{Dot};
+ghost use Rattle.dc_plain.specs.Facts.{label_bytes};
 ghost use Rattle.dc_plain.specs.Facts.Label.{Text};
 ghost use Rattle.dc_plain.specs.KeysShown.{key_shown};
-ghost use Rattle.dc_resolve.specs.Asked.{label_of, may_be_found};
-ghost use Rattle.dc_resolve.specs.Needs.{IsNeeded};
+ghost use Rattle.dc_resolve.specs.Asked.{label_of};
+ghost use Rattle.dc_resolve.specs.Needs.{IsNeeded, IsUntold};
 ghost use Rattle.dc_walk.specs.Becomings.{Becomes, IsGood, MayAskRows, stays_so, goes_so, keeps_so};
+ghost use Rattle.dc_walk.specs.Causes.{TellsMissing};
 ghost use Rattle.dc_walk.specs.Findings.{outcome_in, said_in};
+ghost use Rattle.dc_walk.specs.Finds.{IsStanding};
 
 use crate::BUCKET_ROWS;
 use crate::bucket::ask_rows;
 use crate::finder::Rows;
-use crate::used::standing;
+use crate::link::LinkText;
+use crate::used::{standing, target_at, text_at};
 use crate::why::Why;
-use dc_index::bucket_of;
-use dc_names::{Kind, Part};
+use dc_index::bucket_at;
+use dc_names::{Kind, Part, hash};
 use dc_plain::{Key, Label};
 use dc_resolve::{Finder, Stop};
 
@@ -34,17 +39,36 @@ pub(crate) fn key_of<'a>(number: u64, part: Part<'a>) -> Key<'a>
     Key { number, label }
 }
 
-/// Asks the rows of a key's bucket for a key of which nothing was told.
-fn ask(rows: &mut Rows<'_>, key: Key<'_>) -> Result<Option<(u64, Kind)>, Stop>
+/// The key of a link's text.
+pub(crate) fn text_key<'a>(number: u64) -> Key<'a>
+    ensures { key_shown result ≡ record { number = number; label = Text } }
+{
+    let label = Label::Text;
+    Key { number, label }
+}
+
+/// Why a walk ends where no row tells of a key. So many questions were answered before.
+pub(crate) fn missing(key: Key<'_>, answered: u64) -> Why
+    ensures { TellsMissing (key_shown key.entry) result }
+{
+    match key.label {
+        Label::Text => Why::Link,
+        Label::Name(_) | Label::DotDot => Why::Miss(answered),
+    }
+}
+
+/// Asks the rows of a key's bucket for a key of which nothing was told, by its hash, and answers which
+/// of the rows that were used tells of it.
+#[inline(always)]
+fn ask(rows: &mut Rows<'_>, key: Key<'_>, hash: u64) -> Result<usize, Stop>
     requires fresh { rows.old.why ≡ None }
     requires good { IsGood rows.old }
-    requires entry { (key_shown key).label ≢ Text }
+    requires hash { hash ≡ hash_of (key_shown key).number (label_bytes (key_shown key).label) }
     requires needed { IsNeeded (outcome_in rows.old) (said_in rows.old) (key_shown key).number
         (key_shown key).label }
-    requires untold { (said_in rows.old).entry (key_shown key).number (key_shown key).label ≡ None }
+    requires untold { IsUntold (said_in rows.old) (key_shown key).number (key_shown key).label }
     ensures becomes { Becomes rows.old rows.new }
-    ensures told { IfOk result (λ found. let key = key_shown key.entry in
-        (said_in rows.new).entry key.number key.label ≡ Some found) }
+    ensures told { IfOk result (IsStanding rows.new.used.now.items (key_shown key.entry)) }
     ensures same { OnOk result (rows.new.why ≡ None) }
     ensures stopped { OnErr result (is_some rows.new.why ≡ true) }
 {
@@ -52,24 +76,44 @@ fn ask(rows: &mut Rows<'_>, key: Key<'_>) -> Result<Option<(u64, Kind)>, Stop>
         rows.why = Some(Why::Long);
         return Err(Stop);
     }
-    let answered = rows.used.len() as u64;
+    let answered = rows.used.len();
     let buckets = rows.shared.limits.rows / BUCKET_ROWS;
-    let first = BUCKET_ROWS * bucket_of(&key, buckets);
+    let first = BUCKET_ROWS * bucket_at(hash, buckets);
     match ask_rows(rows, first, key) {
-        Ok(target) => Ok(target),
+        Ok(()) => Ok(answered),
         Err(Some(row)) => {
             rows.why = Some(Why::Busy(row));
             Err(Stop)
         }
         Err(None) => {
-            rows.why = Some(Why::Miss(answered));
+            rows.why = Some(missing(key, answered as u64));
             Err(Stop)
         }
     }
 }
 
+/// Which of the rows that were used tells of a key with this hash. Where none does yet, the rows of its
+/// bucket are asked.
+#[inline(always)]
+fn told(rows: &mut Rows<'_>, key: Key<'_>, hash: u64) -> Result<usize, Stop>
+    requires hash { hash ≡ hash_of (key_shown key).number (label_bytes (key_shown key).label) }
+    requires may { MayAskRows rows.old (key_shown key).number (key_shown key).label }
+    ensures becomes { Becomes rows.old rows.new }
+    ensures told { IfOk result (IsStanding rows.new.used.now.items (key_shown key.entry)) }
+    ensures same { OnOk result (is_some rows.new.why ≡ is_some rows.old.why) }
+    ensures stopped { OnErr result (is_some rows.new.why ≡ true) }
+{
+    if rows.why.is_some() {
+        return Err(Stop);
+    }
+    match standing(rows.used.as_slice(), key) {
+        Some(place) => Ok(place),
+        None => ask(rows, key, hash),
+    }
+}
+
 impl<'a> Finder for Rows<'a> {
-    type Text = &'a [u8];
+    type Text = LinkText;
 
     ghost said = { said_in };
 
@@ -80,21 +124,26 @@ impl<'a> Finder for Rows<'a> {
     ghost may_ask = { MayAskRows };
 
     fn find(&mut self, dir: u64, part: Part<'_>) -> Result<Option<(u64, Kind)>, Stop> {
-        if self.why.is_some() {
-            return Err(Stop);
-        }
         let key = key_of(dir, part);
-        if let Some(target) = standing(self.used.as_slice(), key) {
-            return Ok(target);
-        }
-        ask(self, key)
+        self.find_hashed(dir, part, hash(dir, key.label.bytes()))
     }
 
-    fn link_text(&mut self, number: u64) -> Result<&'a [u8], Stop> {
-        if self.why.is_none() {
-            self.why = Some(Why::Link);
-        }
-        Err(Stop)
+    #[inline(always)]
+    fn find_hashed(
+        &mut self,
+        dir: u64,
+        part: Part<'_>,
+        hash: u64,
+    ) -> Result<Option<(u64, Kind)>, Stop> {
+        let key = key_of(dir, part);
+        let place = told(self, key, hash)?;
+        Ok(target_at(self.used.as_slice(), place, key))
+    }
+
+    fn link_text(&mut self, number: u64) -> Result<LinkText, Stop> {
+        let key = text_key(number);
+        let place = told(self, key, hash(number, key.label.bytes()))?;
+        Ok(text_at(self.used.as_slice(), place, key))
     }
 
     ghost stays = { stays_so };

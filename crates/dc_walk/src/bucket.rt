@@ -1,8 +1,9 @@
 //! The rows of a key's bucket.
 
-ghost use Rattle.std.specs.Prelude.{◌≡◌, ◌≢◌, ◌≤◌, ◌<◌, ◌+◌, ◌^◌, None, IfOk, IfErr, OnErr};
+ghost use Rattle.std.specs.Prelude.{◌≡◌, ◌≤◌, ◌<◌, ◌+◌, ◌^◌, None, OnOk, IfErr, OnErr};
 ghost use Rattle.arrayvec.specs.ArrayVec.{array_vec_len};
 ghost use Rattle.dc_plain.specs.KeysShown.{key_shown};
+ghost use Rattle.dc_resolve.specs.Needs.{IsUntold};
 ghost use Rattle.dc_table.specs.Passes.{share};
 ghost use Rattle.dc_walk.specs.Asking.{GoesOn};
 ghost use Rattle.dc_walk.specs.Causes.{Looked};
@@ -13,36 +14,30 @@ ghost use Rattle.dc_walk.specs.declared.TheConstants.{BUCKET_ROWS, MOST_USED};
 use crate::BUCKET_ROWS;
 use crate::finder::Rows;
 use crate::looking::{Seen, look_at};
-use dc_names::Kind;
 use dc_plain::Key;
 
-/// Looks at the rows of a bucket for where the entry of a key leads, up to the first that tells. Else
-/// it answers the first of them that is odd.
-pub(crate) fn ask_rows(
-    rows: &mut Rows<'_>,
-    first: u64,
-    key: Key<'_>,
-) -> Result<Option<(u64, Kind)>, Option<u64>>
+/// Looks at the rows of a bucket up to the first that tells of a key, which is the last of the used
+/// ones then. Else it answers the first of them that is odd.
+#[inline(always)]
+pub(crate) fn ask_rows(rows: &mut Rows<'_>, first: u64, key: Key<'_>) -> Result<(), Option<u64>>
     requires finding { IsFinding rows.old 0 }
     requires within { first + BUCKET_ROWS ≤ (share rows.old.pass.now).rows }
     requires few { (share rows.old.pass.now).rows < 2 ^ 64 }
     requires room { array_vec_len rows.old.used.now < MOST_USED }
     requires needed { outcome_in rows.old (said_in rows.old) ≡ None }
-    requires untold { (said_in rows.old).entry (key_shown key).number (key_shown key).label ≡ None }
+    requires untold { IsUntold (said_in rows.old) (key_shown key).number (key_shown key).label }
     ensures same { SameRows rows.old rows.new }
     ensures why { rows.new.why ≡ rows.old.why }
     ensures on { GoesOn (now_in rows.old) (now_in rows.new) }
-    ensures tells { IfOk result (let key = key_shown key.entry in
-        Answers rows.old key.number key.label rows.new) }
-    ensures fails { OnErr result (let key = key_shown key.entry in
-        Fails rows.old key.number key.label rows.new 3) }
-    ensures looked { IfErr result (λ odd. let key = key_shown key.entry in
-        Looked (now_in rows.new) first key.number key.label odd BUCKET_ROWS) }
+    ensures tells { OnOk result (Answers rows.old (key_shown key.entry) rows.new) }
+    ensures fails { OnErr result (Fails rows.old (key_shown key.entry) rows.new 3) }
+    ensures looked { IfErr result (λ odd.
+        Looked (now_in rows.new) first (key_shown key.entry) odd BUCKET_ROWS) }
 {
     let mut odd = None;
     for k in 0..BUCKET_ROWS {
         match look_at(rows, first + k, key, k) {
-            Seen::Tells(target) => return Ok(target),
+            Seen::Tells => return Ok(()),
             Seen::Odd => odd = odd.or(Some(first + k)),
             Seen::Other => {}
         }

@@ -6,6 +6,7 @@ mod asking;
 mod bucket;
 mod counting;
 mod finder;
+mod link;
 mod locking;
 mod long;
 mod looking;

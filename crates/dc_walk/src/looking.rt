@@ -1,9 +1,9 @@
-//! A look at one row for where the entry of a key leads.
+//! A look at one row for what it tells of a key.
 
-ghost use Rattle.std.specs.Prelude.{◌≡◌, ◌≢◌, ◌<◌, None};
+ghost use Rattle.std.specs.Prelude.{◌≡◌, ◌<◌, None};
 ghost use Rattle.arrayvec.specs.ArrayVec.{array_vec_len};
-ghost use Rattle.dc_plain.specs.Facts.Label.{Text};
 ghost use Rattle.dc_plain.specs.KeysShown.{key_shown};
+ghost use Rattle.dc_resolve.specs.Needs.{IsUntold};
 ghost use Rattle.dc_table.specs.Passes.{share};
 ghost use Rattle.dc_walk.specs.Asking.{GoesOn};
 ghost use Rattle.dc_walk.specs.Findings.{SameRows, IsFinding, now_in, outcome_in, said_in};
@@ -13,9 +13,8 @@ ghost use Rattle.dc_walk.specs.declared.TheConstants.{BUCKET_ROWS, MOST_USED};
 use crate::finder::Rows;
 use crate::probing::probe;
 use crate::used::Used;
-use dc_names::Kind;
 use dc_plain::{Call, Key};
-use dc_row::{entry_in, words_have_the_fact_they_spell};
+use dc_row::{tells_of, words_have_the_fact_they_spell};
 
 /// What a row answers.
 pub(crate) enum Seen {
@@ -23,23 +22,24 @@ pub(crate) enum Seen {
     Odd,
     /// It tells of another key, or of none.
     Other,
-    /// Where the key leads.
-    Tells(Option<(u64, Kind)>),
+    /// It tells of the key.
+    Tells,
 }
 
-/// Looks at a row for where the entry of a key leads. So many rows were looked at before.
+/// Looks at a row for what it tells of a key. Where it does it is the last of the used ones. So many
+/// rows were looked at before.
+#[inline(always)]
 pub(crate) fn look_at(rows: &mut Rows<'_>, row: u64, key: Key<'_>, before: u64) -> Seen
     requires finding { IsFinding rows.old before }
     requires row { row < (share rows.old.pass.now).rows }
     requires few { before < BUCKET_ROWS }
     requires room { array_vec_len rows.old.used.now < MOST_USED }
     requires needed { outcome_in rows.old (said_in rows.old) ≡ None }
-    requires untold { (said_in rows.old).entry (key_shown key).number (key_shown key).label ≡ None }
+    requires untold { IsUntold (said_in rows.old) (key_shown key).number (key_shown key).label }
     ensures same { SameRows rows.old rows.new }
     ensures why { rows.new.why ≡ rows.old.why }
     ensures on { GoesOn (now_in rows.old) (now_in rows.new) }
-    ensures saw { let key = key_shown key.entry in
-        Saw rows.old key.number key.label rows.new row before result }
+    ensures saw { Saw rows.old (key_shown key.entry) rows.new row before result }
 {
     words_have_the_fact_they_spell();
     let path = rows.path;
@@ -55,9 +55,9 @@ pub(crate) fn look_at(rows: &mut Rows<'_>, row: u64, key: Key<'_>, before: u64) 
     };
     let place = rows.made;
     rows.made += 1;
-    let Some(target) = entry_in(&words, key) else {
+    if !tells_of(&words, key) {
         return Seen::Other;
-    };
+    }
     rows.used.push(Used { row, place, words });
-    Seen::Tells(target)
+    Seen::Tells
 }

@@ -1,18 +1,21 @@
 //! The questions of a walk, answered by rows that are filled and pinned for it.
 
 ghost use Rattle.std.specs.Prelude.{◌≡◌, ◌≢◌, None, Some, true, is_some, IfOk, OnOk, OnErr, IsTrue};
-ghost use Rattle.dc_names.specs.Names.{part_shown};
+ghost use Rattle.dc_names.specs.Paths.{fault_of};
+ghost use Rattle.dc_plain.specs.Facts.Fact.{Leads};
 ghost use Rattle.dc_plain.specs.Facts.Label.{Text};
 ghost use Rattle.dc_plain.specs.KeysShown.{key_shown};
-ghost use Rattle.dc_resolve.specs.Asked.{is_asked, label_of, may_be_found};
-ghost use Rattle.dc_resolve.specs.Needs.{IsNeeded};
+ghost use Rattle.dc_resolve.specs.Needs.{IsNeeded, IsUntold};
+ghost use Rattle.dc_row.specs.Spelling.{has_spelling};
 ghost use Rattle.dc_walk.specs.Findings.{IsFinding, outcome_in, said_in};
+ghost use Rattle.dc_walk.specs.Finds.{IsStanding};
 ghost use Rattle.dc_walk.specs.Pinned.{Pins, MayPin, pins_none, pins_more, pins_keep};
 
-use crate::asking::key_of;
+use crate::asking::{key_of, missing, text_key};
 use crate::finder::Rows;
+use crate::link::LinkText;
 use crate::looking::{Seen, look_at};
-use crate::used::standing;
+use crate::used::{standing, target_at, text_at};
 use crate::why::Why;
 use dc_names::{Kind, NoMemory, Part};
 use dc_plain::Key;
@@ -29,23 +32,21 @@ pub(crate) struct PinnedRows<'a, R> {
     pub rows: Rows<'a>,
 }
 
-/// Fills and pins the row of a key of which nothing was told, and reads it. A row that tells no more
-/// of the key is unpinned at once.
+/// Fills and pins the row of a key of which nothing was told, and reads it. It answers which of the
+/// rows that were used that is. A row that tells no more of the key is unpinned at once.
 fn ask_pinned<R: Wait>(
     rt: &R,
     alloc: Global,
     rows: &mut Rows<'_>,
     key: Key<'_>,
-) -> Result<Option<(u64, Kind)>, Stop>
+) -> Result<usize, Stop>
     requires fresh { rows.old.why ≡ None }
     requires finding { IsFinding rows.old 0 }
-    requires entry { (key_shown key).label ≢ Text }
     requires needed { IsNeeded (outcome_in rows.old) (said_in rows.old) (key_shown key).number
         (key_shown key).label }
-    requires untold { (said_in rows.old).entry (key_shown key).number (key_shown key).label ≡ None }
+    requires untold { IsUntold (said_in rows.old) (key_shown key).number (key_shown key).label }
     ensures pins { Pins rows.old rows.new }
-    ensures told { IfOk result (λ found. let key = key_shown key.entry in
-        (said_in rows.new).entry key.number key.label ≡ Some found) }
+    ensures told { IfOk result (IsStanding rows.new.used.now.items (key_shown key.entry)) }
     ensures same { OnOk result (rows.new.why ≡ None) }
     ensures stopped { OnErr result (is_some rows.new.why ≡ true) }
 {
@@ -53,11 +54,11 @@ fn ask_pinned<R: Wait>(
         rows.why = Some(Why::Long);
         return Err(Stop);
     }
-    let answered = rows.used.len() as u64;
+    let answered = rows.used.len();
     let row = match rows.shared.hold(rt, alloc, rows.pass, &key) {
         Ok(Some(row)) => row,
         Ok(None) => {
-            rows.why = Some(Why::Miss(answered));
+            rows.why = Some(missing(key, answered as u64));
             return Err(Stop);
         }
         Err(NoMemory) => {
@@ -66,45 +67,80 @@ fn ask_pinned<R: Wait>(
         }
     };
     let why = match look_at(rows, row, key, 0) {
-        Seen::Tells(target) => return Ok(target),
+        Seen::Tells => return Ok(answered),
         Seen::Odd => Why::Busy(row),
-        Seen::Other => Why::Miss(answered),
+        Seen::Other => missing(key, answered as u64),
     };
     rows.shared.release(rt, rows.pass, row);
     rows.why = Some(why);
     Err(Stop)
 }
 
-/// Where a part of a path leads in a directory, by what was told before, or else by a row that is
-/// filled and pinned.
-fn find_pinned<R: Wait>(
+/// Which of the rows that were used tells of a key. Where none does yet, the key's row is filled and
+/// pinned.
+fn told_pinned<R: Wait>(
     rt: &R,
     alloc: Global,
     rows: &mut Rows<'_>,
-    dir: u64,
-    part: Part<'_>,
-) -> Result<Option<(u64, Kind)>, Stop>
-    requires asked { IsTrue (is_asked dir (part_shown part)) }
-    requires may { MayPin rows.old dir (label_of (part_shown part)) }
+    key: Key<'_>,
+) -> Result<usize, Stop>
+    requires may { MayPin rows.old (key_shown key).number (key_shown key).label }
     ensures pins { Pins rows.old rows.new }
-    ensures told { IfOk result (λ found.
-        (said_in rows.new).entry dir (label_of (part_shown part.entry)) ≡ Some found) }
-    ensures kind { IfOk result (λ found. IsTrue (may_be_found (part_shown part.entry) found)) }
+    ensures told { IfOk result (IsStanding rows.new.used.now.items (key_shown key.entry)) }
     ensures same { OnOk result (is_some rows.new.why ≡ is_some rows.old.why) }
     ensures stopped { OnErr result (is_some rows.new.why ≡ true) }
 {
     if rows.why.is_some() {
         return Err(Stop);
     }
-    let key = key_of(dir, part);
-    if let Some(target) = standing(rows.used.as_slice(), key) {
-        return Ok(target);
+    match standing(rows.used.as_slice(), key) {
+        Some(place) => Ok(place),
+        None => ask_pinned(rt, alloc, rows, key),
     }
-    ask_pinned(rt, alloc, rows, key)
+}
+
+/// Where the entry of a key leads, by the row that was used for it.
+fn find_pinned<R: Wait>(
+    rt: &R,
+    alloc: Global,
+    rows: &mut Rows<'_>,
+    key: Key<'_>,
+) -> Result<Option<(u64, Kind)>, Stop>
+    requires entry { (key_shown key).label ≢ Text }
+    requires may { MayPin rows.old (key_shown key).number (key_shown key).label }
+    ensures pins { Pins rows.old rows.new }
+    ensures told { IfOk result (λ found. let key = key_shown key.entry in
+        (said_in rows.new).entry key.number key.label ≡ Some found) }
+    ensures spelled { IfOk result (λ found. let key = key_shown key.entry in
+        IsTrue (has_spelling (Some (Leads key.number key.label found)))) }
+    ensures same { OnOk result (is_some rows.new.why ≡ is_some rows.old.why) }
+    ensures stopped { OnErr result (is_some rows.new.why ≡ true) }
+{
+    let place = told_pinned(rt, alloc, rows, key)?;
+    Ok(target_at(rows.used.as_slice(), place, key))
+}
+
+/// The text of a link, by the row that was used for its key.
+fn text_pinned<R: Wait>(
+    rt: &R,
+    alloc: Global,
+    rows: &mut Rows<'_>,
+    key: Key<'_>,
+) -> Result<LinkText, Stop>
+    requires text { (key_shown key).label ≡ Text }
+    requires may { MayPin rows.old (key_shown key).number (key_shown key).label }
+    ensures pins { Pins rows.old rows.new }
+    ensures told { IfOk result (λ link. (said_in rows.new).text key.entry.number ≡ Some link.text) }
+    ensures path { IfOk result (λ link. fault_of link.text ≡ None) }
+    ensures same { OnOk result (is_some rows.new.why ≡ is_some rows.old.why) }
+    ensures stopped { OnErr result (is_some rows.new.why ≡ true) }
+{
+    let place = told_pinned(rt, alloc, rows, key)?;
+    Ok(text_at(rows.used.as_slice(), place, key))
 }
 
 impl<'a, R: Wait> Finder for PinnedRows<'a, R> {
-    type Text = &'a [u8];
+    type Text = LinkText;
 
     ghost said = { λ f. said_in f.rows };
 
@@ -115,14 +151,11 @@ impl<'a, R: Wait> Finder for PinnedRows<'a, R> {
     ghost may_ask = { λ f. MayPin f.rows };
 
     fn find(&mut self, dir: u64, part: Part<'_>) -> Result<Option<(u64, Kind)>, Stop> {
-        find_pinned(self.rt, self.alloc, &mut self.rows, dir, part)
+        find_pinned(self.rt, self.alloc, &mut self.rows, key_of(dir, part))
     }
 
-    fn link_text(&mut self, number: u64) -> Result<&'a [u8], Stop> {
-        if self.rows.why.is_none() {
-            self.rows.why = Some(Why::Link);
-        }
-        Err(Stop)
+    fn link_text(&mut self, number: u64) -> Result<LinkText, Stop> {
+        text_pinned(self.rt, self.alloc, &mut self.rows, text_key(number))
     }
 
     ghost stays = { λ f. pins_none f.rows };

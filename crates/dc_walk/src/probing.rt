@@ -14,6 +14,7 @@ use dc_table::{Pass, Shared};
 
 /// Notes a row and reads it whole, its count first. `first` begins the walk of the call. An odd
 /// count is an `Err`: then nothing more is read.
+#[inline(always)]
 pub fn probe(
     shared: &Shared,
     pass: &mut Pass,

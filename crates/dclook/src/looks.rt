@@ -1,8 +1,8 @@
-//! Look-ups of the files of a tree in a random order, and how long they take.
+//! Look-ups of paths of a tree in a random order, and how long they take.
 
 ghost use Rattle.dc_walk.specs.Findings.{CanWalk};
 
-use crate::tree::{Notes, make, number_of};
+use crate::tree::{Notes, make_filled, number_of};
 use dc_names::{PathText, parse};
 use dc_table::{Pass, Shared};
 use std::alloc::Global;
@@ -33,16 +33,16 @@ fn next(seed: u64) -> u64 {
 }
 
 /// So many of some paths in a random order.
-fn shuffled<'a>(alloc: Global, files: &[PathText<'a>], looks: u64) -> Option<Vec<PathText<'a>>> {
+fn shuffled<'a>(alloc: Global, paths: &[PathText<'a>], looks: u64) -> Option<Vec<PathText<'a>>> {
     let mut order = Vec::new(alloc);
     let mut seed = 1;
-    if files.is_empty() {
+    if paths.is_empty() {
         return None;
     }
     for _ in 0..looks {
         seed = next(seed);
-        let at = (seed >> 33) as usize % files.len();
-        order.push(files[at]).ok()?;
+        let at = (seed >> 33) as usize % paths.len();
+        order.push(paths[at]).ok()?;
     }
     Some(order)
 }
@@ -138,8 +138,8 @@ fn lines_in(alloc: Global, bytes: &[u8]) -> Option<Vec<&[u8]>> {
     Some(lines)
 }
 
-/// Makes the tree of some lines, fills a row for each of its names, and answers the paths of its
-/// files.
+/// Makes the tree of some lines, fills the rows of its paths, and answers the paths that are looked
+/// up.
 fn plant<'a, R: Wait>(
     rt: &R,
     alloc: Global,
@@ -151,18 +151,18 @@ fn plant<'a, R: Wait>(
     requires { CanWalk shared.now pass.old }
     ensures { CanWalk shared.now pass.new }
 {
-    let mut files = Vec::new(alloc);
+    let mut paths = Vec::new(alloc);
     'lines: for line in lines {
-        make(rt, alloc, shared, pass, notes, line)?;
-        if let [b'f', b' ', path @ ..] = line {
-            files.push(parse(path).ok()?).ok()?;
+        make_filled(rt, alloc, shared, pass, notes, line)?;
+        if let [b'f' | b'p', b' ', path @ ..] = line {
+            paths.push(parse(path).ok()?).ok()?;
         }
     }
-    Some(files)
+    Some(paths)
 }
 
-/// Makes the tree of some lines on a table of 1,024 buckets, with a row for each name, and looks files
-/// up. `None` where memory or the clock is refused, or a line is none of a tree.
+/// Makes the tree of some lines on a table of 1,024 buckets, fills the rows of its paths, and looks
+/// some up. `None` where memory or the clock is refused, or a line is none of a tree.
 pub fn look_all<R: Wait + Clock>(
     rt: &R,
     alloc: Global,
@@ -172,8 +172,8 @@ pub fn look_all<R: Wait + Clock>(
     let (shared, mut pass) = Shared::new(alloc, 1024, 65_536).ok()?;
     let mut notes = Notes::new();
     let lines = lines_in(alloc, lines)?;
-    let files = plant(rt, alloc, &shared, &mut pass, &mut notes, lines.as_slice())?;
-    let paths = shuffled(alloc, files.as_slice(), sizes.looks)?;
+    let paths = plant(rt, alloc, &shared, &mut pass, &mut notes, lines.as_slice())?;
+    let paths = shuffled(alloc, paths.as_slice(), sizes.looks)?;
     best_turn(
         rt,
         &shared,

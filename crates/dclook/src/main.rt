@@ -11,8 +11,9 @@ use std::{env, io};
 
 const USAGE: &str = "usage: dclook [TURNS LOOKS] < TREE
 
-TREE has a line for each directory (`d PATH`) and each file (`f PATH`), in the order in which they are made. It looks
-up LOOKS files in a random order, in each of so many TURNS, and prints how many were found and how long the best turn
+TREE has a line for each directory (`d PATH`), file (`c PATH`) and symbolic link (`l TEXT PATH`), in the order in which
+they are made, and for each path that is looked up (`p PATH`); `f PATH` makes a file and looks it up. It looks up LOOKS
+of the paths in a random order, in each of so many TURNS, and prints how many were found and how long the best turn
 took, without the test of the paths' texts and with it. Without words it makes 1 turn of 100 look-ups, untimed.";
 
 /// The words after the program's name.

@@ -1,12 +1,12 @@
-//! A tree on a table, with a row filled for each of its names.
+//! A tree on a table, with a row filled for each key that its paths ask for.
 
 ghost use Rattle.dc_walk.specs.Findings.{CanWalk};
 
 use arrayvec::ArrayVec;
-use dc_names::{Name, PathText, parse};
-use dc_plain::{Call, Follow, Key, Label, Reply};
+use dc_names::{PathText, parse};
+use dc_plain::{Call, Follow, Reply};
 use dc_table::{Pass, Shared};
-use dc_walk::{MOST_USED, Quick, Used, fast};
+use dc_walk::{MOST_USED, Quick, Used, counted, fast};
 use std::alloc::Global;
 use std::sync::Wait;
 
@@ -32,35 +32,47 @@ pub fn number_of(
     }
 }
 
-/// The bytes before the last slash, and those after it.
-fn cut(path: &[u8]) -> Option<(&[u8], &[u8])> {
-    let at = path.iter().rposition(|b| *b == b'/')?;
-    let (front, last) = path.split_at(at);
-    Some((front, last.get(1..)?))
-}
-
-/// The directory and the name in it that a path ends in, where rows tell the directory.
-fn key_of<'a>(
-    shared: &Shared,
-    pass: &mut Pass,
-    notes: &mut Notes,
-    path: &'a [u8],
-) -> Option<Key<'a>>
+/// Makes what a line stands for.
+fn make<R: Wait>(rt: &R, alloc: Global, shared: &Shared, pass: &mut Pass, line: &[u8]) -> Option<()>
     requires { CanWalk shared.now pass.old }
     ensures { CanWalk shared.now pass.new }
 {
-    let (front, last) = cut(path)?;
-    let number = if front.is_empty() {
-        1
-    } else {
-        number_of(shared, pass, notes, parse(front).ok()?)?
+    let base = 1;
+    let made = match line {
+        [b'd', b' ', path @ ..] => shared.change(rt, alloc, pass, &Call::Mkdir { base, path }),
+        [b'f' | b'c', b' ', path @ ..] => {
+            shared.change(rt, alloc, pass, &Call::Create { base, path })
+        }
+        [b'l', b' ', rest @ ..] => {
+            let (text, path) = words_of(rest)?;
+            shared.change(rt, alloc, pass, &Call::Symlink { base, text, path })
+        }
+        [b'p', b' ', ..] => return Some(()),
+        _ => return None,
     };
-    let label = Label::Name(Name::new(last)?);
-    Some(Key { number, label })
+    made.ok()?;
+    Some(())
 }
 
-/// Makes what a line stands for, and fills the row of its name.
-pub fn make<R: Wait>(
+/// The bytes before the first space, and those after it.
+fn words_of(bytes: &[u8]) -> Option<(&[u8], &[u8])> {
+    let at = bytes.iter().position(|b| *b == b' ')?;
+    let (first, rest) = bytes.split_at(at);
+    Some((first, rest.get(1..)?))
+}
+
+/// The path that a line speaks of.
+fn path_of(line: &[u8]) -> Option<PathText<'_>> {
+    let rest = line.get(2..)?;
+    let path = match line {
+        [b'l', ..] => words_of(rest)?.1,
+        _ => rest,
+    };
+    parse(path).ok()
+}
+
+/// Makes what a line stands for, and fills the rows of its path.
+pub fn make_filled<R: Wait>(
     rt: &R,
     alloc: Global,
     shared: &Shared,
@@ -71,17 +83,10 @@ pub fn make<R: Wait>(
     requires { CanWalk shared.now pass.old }
     ensures { CanWalk shared.now pass.new }
 {
-    let path = line.get(2..)?;
-    let key = key_of(shared, pass, notes, path)?;
-    let made = match line {
-        [b'd', b' ', ..] => shared.change(rt, alloc, pass, &Call::Mkdir { base: 1, path }),
-        [b'f', b' ', ..] => shared.change(rt, alloc, pass, &Call::Create { base: 1, path }),
-        _ => return None,
-    };
-    if made.is_err() {
-        return None;
+    make(rt, alloc, shared, pass, line)?;
+    let path = path_of(line)?;
+    match counted(shared, rt, alloc, pass, notes, 1, path, Follow::Yes) {
+        Quick::Done(_) => Some(()),
+        Quick::Again(_) => None,
     }
-    let row = shared.hold(rt, alloc, pass, &key).ok()??;
-    shared.release(rt, pass, row);
-    Some(())
 }

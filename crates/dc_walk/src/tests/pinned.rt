@@ -1,6 +1,6 @@
 //! Walks that fill and pin rows, and walks under the lock.
 
-use crate::tests::{change, count, create, is_answered, look, mkdir};
+use crate::tests::{change, count, create, in_root, is_answered, look, mkdir};
 use crate::{Quick, Why, locked};
 use dc_names::Kind;
 use dc_plain::{Call, Follow, Reply, Stamped};
@@ -24,6 +24,20 @@ fn a_pinned_row_is_not_taken(rt: HostRuntime) -> Result<(), Fail> {
     let found = look(&shared, &mut p, b"/a/b/c/d");
     assert!(rt; is_answered(&found, &Reply::Found(5, Kind::Dir), 4));
     assert!(rt; shared.shrink(&rt, &mut p, 5) == 4);
+    Ok(())
+}
+
+/// A row that is pinned for somebody else stays pinned.
+#[test]
+fn the_pins_of_others_stay(rt: HostRuntime) -> Result<(), Fail> {
+    let (shared, mut p) = Shared::new(rt.alloc(), 1, 16).expect(&rt, "memory");
+    let a = in_root(b"a").expect(&rt, "a name");
+    assert!(rt; matches!(shared.hold(&rt, rt.alloc(), &mut p, &a), Ok(Some(0))));
+    let found = count(&rt, rt.alloc(), &shared, &mut p, b"/a");
+    assert!(rt; is_answered(&found, &Reply::Refused(2), 0));
+    assert!(rt; shared.shrink(&rt, &mut p, 4) == 0);
+    shared.release(&rt, &mut p, 0);
+    assert!(rt; shared.shrink(&rt, &mut p, 4) == 1);
     Ok(())
 }
 
@@ -51,7 +65,27 @@ fn rows_are_filled_one_by_one(rt: HostRuntime) -> Result<(), Fail> {
     Ok(())
 }
 
-/// A walk under the lock follows links and fills no row; one by rows ends at a link.
+/// A name without room in a row is why a walk gives up only where the walk comes to it.
+#[test]
+fn a_walk_may_end_before_a_name_without_room(rt: HostRuntime) -> Result<(), Fail> {
+    let (shared, mut p) = Shared::new(rt.alloc(), 1, 16).expect(&rt, "memory");
+    let mut text = [b'n'; 36];
+    text[..3].copy_from_slice(b"/z/");
+    let found = count(&rt, rt.alloc(), &shared, &mut p, &text);
+    assert!(rt; is_answered(&found, &Reply::Refused(2), 0));
+    let found = look(&shared, &mut p, &text);
+    assert!(rt; is_answered(&found, &Reply::Refused(2), 0));
+    assert!(rt;
+        change(&rt, rt.alloc(), &shared, &mut p, &mkdir(b"/z")) == Some((Reply::Done(2), 0))
+    );
+    let found = count(&rt, rt.alloc(), &shared, &mut p, &text);
+    assert!(rt; matches!(found, Some(Quick::Again(Why::Long))));
+    let found = look(&shared, &mut p, &text);
+    assert!(rt; matches!(found, Some(Quick::Again(Why::Long))));
+    Ok(())
+}
+
+/// A walk under the lock follows links and fills no row; one that fills rows follows them too.
 #[test]
 fn the_tree_itself_is_asked(rt: HostRuntime) -> Result<(), Fail> {
     let (shared, mut p) = Shared::new(rt.alloc(), 1, 16).expect(&rt, "memory");
@@ -76,9 +110,10 @@ fn the_tree_itself_is_asked(rt: HostRuntime) -> Result<(), Fail> {
     assert!(rt; locked(&shared, &rt, &mut p, &call) == told);
     assert!(rt; shared.shrink(&rt, &mut p, 4) == 0);
     let found = count(&rt, rt.alloc(), &shared, &mut p, b"/l");
-    assert!(rt; matches!(found, Some(Quick::Again(Why::Link))));
+    assert!(rt; is_answered(&found, &Reply::Found(2, Kind::Dir), 2));
     let found = look(&shared, &mut p, b"/l");
-    assert!(rt; matches!(found, Some(Quick::Again(Why::Link))));
+    assert!(rt; is_answered(&found, &Reply::Found(2, Kind::Dir), 2));
+    assert!(rt; shared.shrink(&rt, &mut p, 4) == 3);
     let stat = Call::Stat {
         base: 1,
         path: b"/l/",

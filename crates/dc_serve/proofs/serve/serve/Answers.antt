@@ -5,8 +5,8 @@ use Rattle.dc_cache.specs.Passes.{known, share}
 use Rattle.dc_lang.specs.Commands.{Order, meaning_of}
 use Rattle.dc_lang.specs.declared.line.Line.{Line}
 use Rattle.dc_table.specs.Shares.{Known}
-use Rattle.dc_table.specs.declared.fault.MakeFault.{MakeFault}
-use Rattle.dc_table.specs.declared.fault.MakeFault.TheVariants.{BadSize}
+use Rattle.dc_events.specs.declared.sizes.MakeFault.{MakeFault}
+use Rattle.dc_events.specs.declared.sizes.MakeFault.TheVariants.{BadSize}
 use Rattle.dc_serve.specs.Endings.{ServesFront}
 use Rattle.dc_serve.specs.Faults.{from_making}
 use Rattle.dc_serve.specs.declared.fault.ServeFault.{ServeFault}

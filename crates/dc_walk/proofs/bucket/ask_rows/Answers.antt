@@ -1,7 +1,8 @@
-use Rattle.std.proofs.Common.{arith, ◌+◌, ◌<◌, refl, ap, sym, ◌∙◌, subst}
+use Rattle.std.proofs.Common.{arith, ◌+◌, ◌<◌, refl, sym, ◌∙◌, subst}
 use Rattle.arrayvec.specs.ArrayVec.{array_vec_len}
-use Rattle.dc_plain.specs.KeysShown.{label_shown}
+use Rattle.dc_plain.specs.KeysShown.{key_shown}
 use Rattle.dc_table.specs.Passes.{share}
+use Rattle.dc_resolve.specs.Needs.{IsUntold}
 use Rattle.dc_walk.specs.Causes.{Looked}
 use Rattle.dc_walk.specs.Findings.{now_in}
 use Rattle.dc_walk.specs.Finds.{told_in}
@@ -21,7 +22,7 @@ loop-k-init c = record {
   used = refl;
   on = on_still;
   finding = c.requires.finding;
-  looked = looked_none (now_in c.args.rows.now) c.args.first c.args.key.number (label_shown c.args.key.label);
+  looked = looked_none (now_in c.args.rows.now) c.args.first (key_shown c.args.key);
 }
 
 pub look_at-requires-clause-row : goal.look_at-requires-clause-row
@@ -36,17 +37,17 @@ pub look_at-requires-clause-needed : goal.look_at-requires-clause-needed
 look_at-requires-clause-needed c = still_needed c.loop-k.invariant.same c.loop-k.invariant.used c.requires.needed
 
 pub look_at-requires-clause-untold : goal.look_at-requires-clause-untold
-look_at-requires-clause-untold c = ap (λ used. (told_in used.items).entry c.args.key.number (label_shown c.args.key.label)) c.loop-k.invariant.used ∙ c.requires.untold
+look_at-requires-clause-untold c = subst (λ used. IsUntold (told_in used.items) c.args.key.number (key_shown c.args.key).label) (sym c.loop-k.invariant.used) c.requires.untold
 
 pub loop-k-preserved : goal.loop-k-preserved
 loop-k-preserved c =
     let i = c.loop-k.invariant in let e = c.look_at.ensures in
-    let n = c.args.key.number in let label = label_shown c.args.key.label in
+    let key = key_shown c.args.key in
     let now = now_in c.look_at.new.rows in
-    let more : Fails c.loop-k.rows n label c.look_at.new.rows c.loop-k.k × Looked now c.args.first n label c.match-look_at.odd (c.loop-k.k + 1)
+    let more : Fails c.loop-k.rows key c.look_at.new.rows c.loop-k.k × Looked now c.args.first key c.match-look_at.odd (c.loop-k.k + 1)
     = elim c.match-look_at.branch [
-      | in-Odd w ↦ let saw = w.in-Odd.ensures.saw in (saw.0, subst (λ o. Looked now c.args.first n label o (c.loop-k.k + 1)) (sym (w.odd-is ∙ w.or-odd.ensures)) (looked_odd c.loop-k.odd (c.args.first + c.loop-k.k) c.loop-k.k i.looked e.on saw.1))
-      | in-Other w ↦ let saw = w.in-Other.ensures.saw in (saw.0, subst (λ o. Looked now c.args.first n label o (c.loop-k.k + 1)) (sym w.odd-is) (looked_other c.loop-k.odd c.loop-k.k i.looked e.on saw.1))
+      | in-Odd w ↦ let saw = w.in-Odd.ensures.saw in (saw.0, subst (λ o. Looked now c.args.first key o (c.loop-k.k + 1)) (sym (w.odd-is ∙ w.or-odd.ensures)) (looked_odd c.loop-k.odd (c.args.first + c.loop-k.k) c.loop-k.k i.looked e.on saw.1))
+      | in-Other w ↦ let saw = w.in-Other.ensures.saw in (saw.0, subst (λ o. Looked now c.args.first key o (c.loop-k.k + 1)) (sym w.odd-is) (looked_other c.loop-k.odd c.loop-k.k i.looked e.on saw.1))
     ] in
     record {
       same = same_again i.same e.same;

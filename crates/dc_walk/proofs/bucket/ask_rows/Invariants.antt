@@ -1,5 +1,5 @@
 use Rattle.std.proofs.Common.{◌≡◌}
-use Rattle.dc_plain.specs.KeysShown.{label_shown}
+use Rattle.dc_plain.specs.KeysShown.{key_shown}
 use Rattle.dc_walk.specs.Asking.{GoesOn}
 use Rattle.dc_walk.specs.Causes.{Looked}
 use Rattle.dc_walk.specs.Findings.{SameRows, IsFinding, now_in}
@@ -12,5 +12,5 @@ invariant-loop-k l = record {
   used : l.rows.used.now ≡ l.fn.rows.used.now;
   on : GoesOn (now_in l.fn.rows) (now_in l.rows);
   finding : IsFinding l.rows l.k;
-  looked : Looked (now_in l.rows) l.fn.first l.fn.key.number (label_shown l.fn.key.label) l.odd l.k;
+  looked : Looked (now_in l.rows) l.fn.first (key_shown l.fn.key) l.odd l.k;
 }

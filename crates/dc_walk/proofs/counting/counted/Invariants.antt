@@ -1,5 +1,4 @@
 use Rattle.std.proofs.Common.{◌≡◌}
-use Rattle.dc_plain.specs.Requests.Request.{Look}
 use Rattle.dc_table.specs.Changes.{NothingNew}
 use Rattle.dc_table.specs.Passes.{view, Fits, IsSamePass, IsIdle}
 use Rattle.dc_walk.proofs.counting.counted.Given as goal

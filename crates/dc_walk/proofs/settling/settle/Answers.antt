@@ -1,10 +1,9 @@
-use Rattle.std.proofs.Common.{arith, refl, ap, sym, ◌≡◌, ◌∙◌, ◌<◌, ◌≤◌, ◌+◌, [], not, suc, ℕ, get_or, length, map, subst}
+use Rattle.std.proofs.Common.{arith, refl, ap, sym, ◌≡◌, ◌∙◌, ◌<◌, ◌+◌, [], not, suc, ℕ, get_or, length, map, subst}
 use Rattle.std.proofs.lemmas.List.{length-map}
 use Rattle.dc_plain.specs.Requests.Request.{Look}
 use Rattle.dc_plain.specs.Requests.{answer_of}
 use Rattle.dc_events.specs.Effects.{begins, checked, faulted, pivoted}
 use Rattle.dc_events.specs.Views.Fault.{Changed}
-use Rattle.dc_events.specs.Views.{View}
 use Rattle.dc_table.specs.Passes.{view}
 use Rattle.dc_walk.specs.Settling.{IsChecking}
 use Rattle.dc_walk.specs.Finds.{use_shown}

@@ -1,4 +1,4 @@
-use Rattle.std.proofs.Common.{rules, ◌∙◌, sym}
+use Rattle.std.proofs.Common.{rules}
 use Rattle.dc_table.proofs.Moves.{count_place}
 use Rattle.dc_table.proofs.Walks.{checks_note, check_place}
 use Rattle.dc_table.proofs.shared.Shared.check_as.Goals as goal

@@ -1,4 +1,4 @@
-use Rattle.std.proofs.Common.{ap, refl}
+use Rattle.std.proofs.Common.{ap}
 use Rattle.dc_table.proofs.shared.Shared.fill.Goals as goal
 
 pub tell-requires-clause-given : goal.tell-requires-clause-given

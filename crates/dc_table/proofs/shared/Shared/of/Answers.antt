@@ -1,4 +1,4 @@
-use Rattle.std.proofs.Common.{rules, ◌∙◌, sym, refl}
+use Rattle.std.proofs.Common.{rules, ◌∙◌, sym}
 use Rattle.dc_table.proofs.Ending.{opening_kept, zeros_open}
 use Rattle.dc_table.proofs.shared.Shared.of.Goals as goal
 

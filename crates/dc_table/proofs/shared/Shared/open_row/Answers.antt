@@ -1,8 +1,4 @@
-use Rattle.std.proofs.Common.{rules, ◌+◌, ◌<◌, ◌%◌, sym, subst, ◌∙◌}
-use Rattle.atomic_table.specs.Table.{Allows, step}
-use mathlib.Core.Option.{none}
-use Rattle.dc_table.specs.Kept.{Kept}
-use Rattle.dc_table.specs.Plays.{raised}
+use Rattle.std.proofs.Common.{rules}
 use Rattle.dc_table.proofs.Moves.{opens_row, at_place}
 use Rattle.dc_table.proofs.shared.Shared.open_row.Goals as goal
 

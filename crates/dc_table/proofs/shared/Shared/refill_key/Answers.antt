@@ -1,9 +1,9 @@
-use Rattle.std.proofs.Common.{refl, ◌+◌, map, ap, sym, subst, length, ◌<◌}
+use Rattle.std.proofs.Common.{refl, ◌+◌, map, ap, subst, length}
 use Rattle.dc_plain.specs.KeysShown.{key_shown}
 use Rattle.dc_plain.specs.Trees.{Tree}
 use Rattle.dc_table.specs.Rows.{IsOf}
 use Rattle.dc_table.proofs.Shuts.{key_at}
-use Rattle.dc_table.proofs.Refills.{none_less, inside, can_write, low_row, may_tell, may_clear, filled, emptied}
+use Rattle.dc_table.proofs.Refills.{none_less, inside, can_write, low_row, may_tell, filled, emptied}
 use Rattle.dc_table.proofs.Stages.{on_pass}
 use Rattle.dc_table.proofs.shared.Shared.refill_key.Goals as goal
 

@@ -1,6 +1,6 @@
-use Rattle.dc_table.specs.Changes.{OnlyWrites, KeepsTree, RestAt, with_words, words_of}
+use Rattle.dc_table.specs.Changes.{KeepsTree, RestAt, with_words, words_of}
 use Rattle.std.proofs.Common.{◌≡◌}
-use Rattle.dc_table.specs.Passes.{view, Fits, IsSamePass, IsHolder}
+use Rattle.dc_table.specs.Passes.{view, IsSamePass, IsHolder}
 use Rattle.dc_table.proofs.shared.Shared.shrink.Given as goal
 
 abbrev pub invariant-loop-emptied : goal.invariant-loop-emptied

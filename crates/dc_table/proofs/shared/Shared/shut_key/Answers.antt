@@ -1,8 +1,6 @@
-use Rattle.std.proofs.Common.{refl, arith, ◌+◌, map, ap, sym, subst, ◌∙◌, ◌<◌}
+use Rattle.std.proofs.Common.{refl, arith, ◌+◌, map, ap}
 use Rattle.dc_plain.specs.KeysShown.{key_shown}
-use Rattle.dc_table.specs.Changes.{words_of, tree_now}
-use Rattle.dc_table.specs.Passes.{share}
-use Rattle.dc_table.proofs.Shuts.{key_at, none_more, within, even_now, low_now, odd_now, shut_more, low_odd, sized, may_empty, retired}
+use Rattle.dc_table.proofs.Shuts.{key_at, none_more, within, even_now, low_now, odd_now, shut_more, low_odd, retired}
 use Rattle.dc_table.proofs.Stages.{wrote_only, shut_words, then_only, on_pass}
 use Rattle.dc_table.proofs.shared.Shared.shut_key.Goals as goal
 

@@ -1,6 +1,6 @@
-use Rattle.std.proofs.Common.{◌≡◌, map, length}
+use Rattle.std.proofs.Common.{◌≡◌, map}
 use Rattle.dc_plain.specs.KeysShown.{key_shown}
-use Rattle.dc_table.specs.Changes.{OnlyWrites, KeepsTree, StageAt, tree_now, with_words, words_of}
+use Rattle.dc_table.specs.Changes.{KeepsTree, StageAt, with_words, words_of}
 use Rattle.dc_table.specs.Passes.{view, IsSamePass, IsHolder}
 use Rattle.dc_table.proofs.shared.Shared.shut_keys.Given as goal
 

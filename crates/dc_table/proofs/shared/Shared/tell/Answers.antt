@@ -1,4 +1,4 @@
-use Rattle.std.proofs.Common.{ap, subst, false, true, Bool, ◌∙◌}
+use Rattle.std.proofs.Common.{ap, subst, Bool, ◌∙◌}
 use Rattle.dc_plain.specs.KeysShown.{key_shown}
 use Rattle.dc_table.specs.Changes.{words_of}
 use Rattle.dc_table.specs.Filling.{Redone}

@@ -1,4 +1,4 @@
-use Rattle.std.proofs.Common.{rules, ◌<◌, sym, subst}
+use Rattle.std.proofs.Common.{rules}
 use Rattle.dc_table.proofs.Moves.{writes_word, put_place}
 use Rattle.dc_table.proofs.shared.Shared.write_word.Goals as goal
 

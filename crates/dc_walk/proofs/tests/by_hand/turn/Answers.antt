@@ -1,4 +1,4 @@
-use Rattle.std.proofs.Common.{arith, ℕ, ◌<◌, get_or, drop}
+use Rattle.std.proofs.Common.{arith, get_or, drop}
 use Rattle.dc_table.specs.Passes.{view}
 use Rattle.dc_walk.specs.Probes.{note_of}
 use Rattle.dc_walk.proofs.ByHand.{by_hand, after_check, can_third}

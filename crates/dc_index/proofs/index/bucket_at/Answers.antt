@@ -2,7 +2,7 @@ use Rattle.std.proofs.Common.{◌≡◌, ℕ, ◌-◌, ◌*◌, ◌%◌, ◌^◌
 use Rattle.std.proofs.Math.Nat.{mod-eq_of_lt, one-mul}
 use Rattle.std.proofs.Math.Pow.{pow-lt}
 use Rattle.std.proofs.lemmas.Nat.{and_mask}
-use Rattle.dc_index.proofs.index.remainder.Goals as goal
+use Rattle.dc_index.proofs.index.bucket_at.Goals as goal
 
 -- a bit of a word, shifted there
 shifted : (k : ℕ) → k < 64 → 1 * 2 ^ k % 2 ^ 64 ≡ 2 ^ k

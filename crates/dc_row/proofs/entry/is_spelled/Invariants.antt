@@ -1,6 +1,6 @@
 use Rattle.std.proofs.Common.{◌≡◌, ℕ, ◌-◌, ◌<◌, ◌≤◌, get_or}
 use Rattle.dc_row.specs.Spelling.{text_word}
-use Rattle.dc_row.proofs.entry.is_entry.Given as goal
+use Rattle.dc_row.proofs.entry.is_spelled.Given as goal
 
 -- the words before i have the text's
 abbrev pub invariant-text : goal.invariant-text

@@ -1,0 +1,47 @@
+//! The sizes that a table may have, and why none was made.
+
+ghost use Rattle.std.specs.Prelude.{◌≡◌};
+ghost use Rattle.dc_events.specs.Sizes.{are_right};
+ghost use Rattle.dc_events.specs.declared.sizes.MakeFault.TheVariants.{NoMemory as WantOfMemory};
+
+use dc_names::NoMemory;
+use dc_plain::MOST_INODES;
+use std::alloc::AllocError;
+
+/// The most buckets that a table has.
+pub const MOST_BUCKETS: u64 = 1024;
+
+/// Whether a table may have so many buckets, and so many inodes live in it.
+pub fn are_right(buckets: u64, max_inodes: u64) -> bool
+    ensures { result ≡ are_right buckets max_inodes }
+{
+    (1..=MOST_BUCKETS).contains(&buckets)
+        && buckets.is_power_of_two()
+        && (1..=MOST_INODES).contains(&max_inodes)
+}
+
+/// Why no table was made.
+#[derive(Clone, Copy, Debug, PartialEq, Eq)]
+pub enum MakeFault {
+    /// A number of buckets that is no power of two from 1 to 1,024, or a limit of inodes that isn't
+    /// from 1 to 1,048,576.
+    BadSize,
+    /// No memory.
+    NoMemory,
+}
+
+impl From<NoMemory> for MakeFault {
+    ghost from_gives = { λ fault made. made ≡ WantOfMemory };
+
+    fn from(_fault: NoMemory) -> MakeFault {
+        MakeFault::NoMemory
+    }
+}
+
+impl From<AllocError> for MakeFault {
+    ghost from_gives = { λ fault made. made ≡ WantOfMemory };
+
+    fn from(_fault: AllocError) -> MakeFault {
+        MakeFault::NoMemory
+    }
+}
