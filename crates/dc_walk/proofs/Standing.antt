@@ -1,5 +1,5 @@
 -- What the rows that were used tell of a key.
-use Rattle.std.proofs.Common.{◌≡◌, ◌≢◌, ℕ, zero, suc, ◌+◌, ◌<◌, ◌==◌, ◌&&◌, List, [], ◌∷◌, ◌++◌, length, get_or, Bool, true, false, cond, Option, Some, map, refl, ap, sym, ◌∙◌, subst, arith, length-append}
+use Rattle.std.proofs.Common.{◌≡◌, ◌≢◌, ℕ, zero, suc, ◌+◌, ◌<◌, ◌≤◌, ◌==◌, ◌&&◌, List, [], ◌∷◌, ◌++◌, length, get_or, Bool, true, false, cond, Option, Some, map, refl, ap, sym, ◌∙◌, subst, arith, length-append}
 use Rattle.std.proofs.lemmas.Bool.Decides.{nat_tests}
 use Rattle.std.proofs.lemmas.List.{map-append}
 use Rattle.std.proofs.lemmas.Slice.Eq.{bytes_eq-Decides}
@@ -11,7 +11,7 @@ use Rattle.dc_row.specs.Decoding.{fact_in, SpelledIsRead}
 use Rattle.dc_row.specs.Spelling.{Spells, TellsOf, has_spelling}
 use Rattle.dc_resolve.specs.Needs.{IsUntold}
 use Rattle.dc_walk.specs.Uses.{facts_of}
-use Rattle.dc_walk.specs.Finds.{fact_or_none, fact_shown, no_use, use_shown, told_in, IsSpelled, AllSpelled, AllInside, IsTold, IsStanding}
+use Rattle.dc_walk.specs.Finds.{fact_or_none, fact_shown, no_use, use_shown, told_in, IsSpelled, AllSpelled, AllInside, AllBelow, IsTold, IsStanding}
 use Rattle.dc_walk.specs.declared.used.Used.{Used}
 use Rattle.dc_walk.proofs.Told.{same_test, same_itself, told_last, new_same}
 
@@ -103,6 +103,26 @@ none_stands [] key all others = untold_by_none key.number key.label
 none_stands (u ∷ us) key all others =
     untold_past (fact_shown u) (facts_of (map use_shown us)) key.number key.label (λ same. others 0 (omega arith) (record { fact = fact_shown u; about = same; spelled = all.0 }))
     (none_stands us key all.1 (λ j h. others (suc j) (omega arith)))
+
+-- a number above those that the used rows tell of
+below_at : (highest : ℕ) (us : List Used) (j : ℕ) → j < length us → AllBelow highest us → get_or (get_or us j no_use).words 2 0 ≤ highest
+below_at highest [] j l all = absurd (omega arith)
+below_at highest (v ∷ us) zero l all = all.0
+below_at highest (v ∷ us) (suc j) l all = below_at highest us j (omega arith) all.1
+
+number_of : (words : List ℕ) (fact : Fact) → Spells words (Some fact) → get_or words 2 0 ≡ (key_of fact).number
+number_of words (Leads d label target) s = s.spelled 2 (omega arith) (omega arith)
+number_of words (Reads n text) s = s.spelled 2 (omega arith) (omega arith)
+
+pub none_above : (us : List Used) (key : Key) (highest : ℕ) → AllSpelled us → AllBelow highest us → highest < key.number → IsUntold (told_in us) key.number key.label
+none_above us key highest all below above = none_stands us key all (λ j l tells.
+    let is : get_or (get_or us j no_use).words 2 0 ≡ key.number = number_of _ tells.fact tells.spelled ∙ ap (λ (k : Key). k.number) tells.about in
+    let within = below_at highest us j l below in
+    absurd (omega arith))
+
+pub below_more : (highest h : ℕ) (us : List Used) (u : Used) → AllBelow highest us → highest ≤ h → get_or u.words 2 0 ≤ h → AllBelow h (us ++ u ∷ [])
+below_more highest h [] u all up is = (is, tt)
+below_more highest h (v ∷ us) u all up is = let first = all.0 in (omega arith, below_more highest h us u all.1 up is)
 
 -- a row that was just used tells of its key
 pub stands_last : (us : List Used) (new : Used) (key : Key) (fact : Fact) → fact_shown new ≡ fact → key_of fact ≡ key → Spells new.words (Some fact) → IsUntold (told_in us) key.number key.label → IsStanding (us ++ new ∷ []) key (length us)

@@ -1,5 +1,5 @@
 -- What the rows that a walk has used tell.
-use Rattle.std.specs.Prelude.{◌≡◌, ℕ, ◌<◌, List, [], Option, Some, None, length, map, get_or}
+use Rattle.std.specs.Prelude.{◌≡◌, ℕ, ◌<◌, ◌≤◌, List, [], Option, Some, None, length, map, get_or}
 use Rattle.std.specs.List.{AllByRecursion}
 use Rattle.dc_plain.specs.Facts.{Fact, Key, Teller, key_of, told_by}
 use Rattle.dc_plain.specs.Facts.Fact.{Leads, Reads}
@@ -37,6 +37,10 @@ AllSpelled used = AllByRecursion IsSpelled used
 -- the rows are some of so many
 abbrev pub AllInside : ℕ → List Used → Type 0
 AllInside rows used = AllByRecursion (λ u. u.row < rows) used
+
+-- no row that was used tells of a number above
+abbrev pub AllBelow : ℕ → List Used → Type 0
+AllBelow highest used = AllByRecursion (λ u. get_or u.words 2 0 ≤ highest) used
 
 abbrev pub told_in : List Used → Teller
 told_in used = told_by (facts_of (map use_shown used))

@@ -106,6 +106,10 @@ fn told(rows: &mut Rows<'_>, key: Key<'_>, hash: u64) -> Result<usize, Stop>
     if rows.why.is_some() {
         return Err(Stop);
     }
+    // Most paths go down to directories that were made later: no row was used for one of these.
+    if key.number > rows.highest {
+        return ask(rows, key, hash);
+    }
     match standing(rows.used.as_slice(), key) {
         Some(place) => Ok(place),
         None => ask(rows, key, hash),

@@ -57,6 +57,7 @@ fn go_pinned<'x, R: Wait>(
         follow,
         begun: false,
         made: 0,
+        highest: 0,
         why: None,
     };
     let mut finder = PinnedRows { rt, alloc, rows };

@@ -9,7 +9,7 @@ use dc_plain::Follow;
 use dc_table::{Pass, Shared};
 
 /// Answers the questions of a look-up from the rows of the table. It knows whether a step was made,
-/// how many rows were noted, and why it gave up.
+/// how many rows were noted, the highest number that a used row tells of, and why it gave up.
 #[derive(Drop)]
 pub(crate) struct Rows<'a> {
     pub shared: &'a Shared,
@@ -20,5 +20,6 @@ pub(crate) struct Rows<'a> {
     pub follow: Follow,
     pub begun: bool,
     pub made: u64,
+    pub highest: u64,
     pub why: Option<Why>,
 }

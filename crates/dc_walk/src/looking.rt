@@ -14,7 +14,7 @@ use crate::finder::Rows;
 use crate::probing::probe;
 use crate::used::Used;
 use dc_plain::{Call, Key};
-use dc_row::{tells_of, words_have_the_fact_they_spell};
+use dc_row::{number, tells_of, words_have_the_fact_they_spell};
 
 /// What a row answers.
 pub(crate) enum Seen {
@@ -58,6 +58,7 @@ pub(crate) fn look_at(rows: &mut Rows<'_>, row: u64, key: Key<'_>, before: u64) 
     if !tells_of(&words, key) {
         return Seen::Other;
     }
+    rows.highest = rows.highest.max(number(&words));
     rows.used.push(Used { row, place, words });
     Seen::Tells
 }

@@ -53,6 +53,7 @@ fn go(
         follow,
         begun: false,
         made: 0,
+        highest: 0,
         why: None,
     };
     let walked = walk(&mut rows, base, path, follow);
@@ -67,6 +68,7 @@ fn go(
         follow: _,
         begun: _,
         made: _,
+        highest: _,
         why: _,
     } = rows;
     let _used = used.len();

@@ -1,4 +1,4 @@
-use Rattle.std.proofs.Common.{Some, List, length, not, get_or, drop, map, refl, ap, sym, ◌∙◌, subst}
+use Rattle.std.proofs.Common.{arith, Some, List, length, not, get_or, drop, map, refl, ap, sym, ◌∙◌, subst}
 use Rattle.std.proofs.lemmas.List.{map-append}
 use Rattle.dc_plain.specs.KeysShown.{key_shown}
 use Rattle.dc_plain.specs.Requests.Request.{Look}
@@ -6,11 +6,11 @@ use Rattle.dc_row.specs.Spelling.{Spells, TellsOf}
 use Rattle.dc_events.specs.Effects.{begins, faulted}
 use Rattle.dc_events.specs.Views.Fault.{Busy}
 use Rattle.dc_table.specs.Passes.{view, share}
-use Rattle.dc_walk.specs.Finds.{use_shown, AllSpelled, AllInside, IsStanding}
+use Rattle.dc_walk.specs.Finds.{use_shown, AllSpelled, AllInside, AllBelow, IsStanding}
 use Rattle.dc_walk.specs.declared.used.Used.{Used}
 use Rattle.dc_walk.specs.Probes.{probed}
 use Rattle.dc_walk.proofs.Sighted.{on_odd, failed_odd, failed_other, answers_so, can_still}
-use Rattle.dc_walk.proofs.Standing.{shown_so, spelled_more, inside_more, stands_last}
+use Rattle.dc_walk.proofs.Standing.{shown_so, spelled_more, inside_more, below_more, stands_last}
 use Rattle.dc_walk.proofs.Probed.{rest_size, count_first}
 use Rattle.dc_walk.proofs.looking.look_at.Goals as goal
 
@@ -21,7 +21,7 @@ returns-in_default-clause-on c = let f = c.args.rows.now in
 pub returns-in_default-clause-saw : goal.returns-in_default-clause-saw
 returns-in_default-clause-saw c = let f = c.args.rows.now in let same = c.in_default.ensures.same in
     failed_odd c.args.row (key_shown c.args.key) c.args.before
-    (record { shared = refl; pass = refl; used = refl; base = refl; path = refl; follow = refl; same_pass = same.0 }) (can_still refl same.0 same.1 c.requires.finding.can) c.requires.finding refl refl
+    (record { shared = refl; pass = refl; used = refl; base = refl; path = refl; follow = refl; same_pass = same.0 }) (can_still refl same.0 same.1 c.requires.finding.can) c.requires.finding refl refl refl
     (c.in_default.ensures.odd ∙ ap (λ bytes. faulted (begins (not f.begun) (view f.pass.now) (Look f.base bytes f.follow)) (Busy c.args.row)) c.bytes.ensures.bytes)
 
 pub returns-then-not-tells_of-clause-saw : goal.returns-then-not-tells_of-clause-saw
@@ -30,7 +30,7 @@ returns-then-not-tells_of-clause-saw c = let f = c.args.rows.now in let e = c.in
     (record { shared = refl; pass = refl; used = refl; base = refl; path = refl; follow = refl; same_pass = e.same.0 }) (can_still refl e.same.0 e.same.1 c.requires.finding.can) c.requires.finding
     (get_or words 0 0) (drop 1 words) refl
     (e.read ∙ ap (λ bytes. probed (begins (not f.begun) (view f.pass.now) (Look f.base bytes f.follow)) c.args.row (get_or words 0 0) (drop 1 words)) c.bytes.ensures.bytes)
-    refl (rest_size words e.whole)
+    refl refl (rest_size words e.whole)
     (λ tells. let yes = c.tells_of.ensures.1 (subst (λ ws. TellsOf ws (key_shown c.args.key)) (count_first words e.whole) tells) in absurd (cc))
 
 pub returns-clause-saw : goal.returns-clause-saw
@@ -48,5 +48,6 @@ returns-clause-saw c = let f = c.args.rows.now in let e = c.in-Ok.ensures in let
     tells.fact (use_shown new) (ap (map use_shown) items ∙ map-append use_shown f.used.now.items _)
     (subst (λ items. AllSpelled items) (sym items) (spelled_more f.used.now.items new c.requires.finding.spelled spells))
     (subst (AllInside (share f.pass.now).rows) (sym items) (inside_more (share f.pass.now).rows f.used.now.items new c.requires.finding.inside c.requires.row))
+    (subst (AllBelow _) (sym items) (below_more f.highest _ f.used.now.items new c.requires.finding.below (omega (arith, c.max-rows.ensures)) (omega (arith, c.max-rows.ensures, c.number.ensures))))
     refl refl refl shown (subst (λ ws. Spells ws (Some tells.fact)) (sym (count_first words e.whole)) tells.spelled) tells.about c.requires.few c.requires.needed c.requires.untold
     (subst (λ (us : List Used). IsStanding us key (length f.used.now.items)) (sym items) (stands_last f.used.now.items new key tells.fact shown tells.about tells.spelled c.requires.untold))
