@@ -12,4 +12,5 @@ pub mod Checks
 pub mod Fasted
 pub mod Pinnings
 pub mod ByHand
+pub mod Unasked
 pub mod Runs

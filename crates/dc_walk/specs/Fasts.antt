@@ -38,12 +38,11 @@ pub record GaveUp (outcome : Teller → Option Outcome) (buckets : ℕ) (before 
   pub first_load : now.first_load ≡ before.loads
   pub loads : now.loads ≤ before.loads + MOST_LOADS
 
--- it gave up, since a name has no room in a row
+-- a name has no room in a row, and no step was made
 pub record IsTooLong (text : List ℕ) (before now : View) (why : rust_why.Why) : Type 0 where
   pub is_long : why ≡ whys.Long
   pub name : has_long_name text ≡ true
-  pub nothing : NothingNew before now
-  pub loads : now.loads ≤ before.loads + MOST_LOADS
+  pub same : now ≡ before
 
 -- exactly this record was made
 pub record Recorded (call : Request) (answer : Answer) (at : ℕ) (before now : View) : Type 0 where
@@ -55,10 +54,9 @@ abbrev pub Keeps : (base : ℕ) (text : List ℕ) (how : Follow) (buckets : ℕ)
 Keeps base text how buckets before now (fasts.Done stamped) = Recorded (Look base text how) (reply_shown stamped.reply) stamped.at before now
 Keeps base text how buckets before now (fasts.Again why) = GaveUp (outcome_by base text how) buckets before now why ⊎ IsTooLong text before now why
 
--- where a walk was not answered, and no row that it used changed, this is the cause
+-- a name that has no room is the cause, whatever else would be
 abbrev pub IsLongAgain : rust_fast.Quick → Type 0
-IsLongAgain (fasts.Done stamped) = Unit {0}
-IsLongAgain (fasts.Again (whys.Changed row noted found)) = Unit {0}
+IsLongAgain (fasts.Done stamped) = ⊥
 IsLongAgain (fasts.Again why) = why ≡ whys.Long
 
 -- only a walk that asks something gives up

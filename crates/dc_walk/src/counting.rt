@@ -93,11 +93,13 @@ pub fn counted<R: Wait>(
     ensures tried { Tried (Look base path.entry.bytes.now follow) (view pass.old) (view pass.new)
         result }
 {
+    if has_long_name(path) {
+        return Quick::Again(Why::Long);
+    }
     let went = go_pinned(shared, rt, alloc, pass, used, base, path, follow);
     let used = used.as_slice();
     let quick = match went {
         Ok((reply, begun)) => settle(shared, pass, used, base, path, follow, reply, begun),
-        Err(_) if has_long_name(path) => Quick::Again(Why::Long),
         Err(why) => Quick::Again(why),
     };
     // A pin that stayed would keep the row from every other key. The answer stands without its pins,

@@ -100,13 +100,14 @@ pub fn fast(
     ensures long { has_long_name path.entry.bytes.now ≡ true → IsLongAgain result }
     ensures loads { (view pass.new).loads ≤ (view pass.old).loads + MOST_LOADS }
 {
+    if has_long_name(path) {
+        return Quick::Again(Why::Long);
+    }
     match go(shared, pass, used, base, path, follow) {
         Ok((reply, begun)) => {
             let used = used.as_slice();
             settle(shared, pass, used, base, path, follow, reply, begun)
         }
-        // The walk that fills rows comes no further than to that name either.
-        Err(_) if has_long_name(path) => Quick::Again(Why::Long),
         Err(why) => Quick::Again(why),
     }
 }

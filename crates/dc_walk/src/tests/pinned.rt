@@ -65,26 +65,6 @@ fn rows_are_filled_one_by_one(rt: HostRuntime) -> Result<(), Fail> {
     Ok(())
 }
 
-/// A name without room in a row is why a walk gives up only where the walk comes to it.
-#[test]
-fn a_walk_may_end_before_a_name_without_room(rt: HostRuntime) -> Result<(), Fail> {
-    let (shared, mut p) = Shared::new(rt.alloc(), 1, 16).expect(&rt, "memory");
-    let mut text = [b'n'; 36];
-    text[..3].copy_from_slice(b"/z/");
-    let found = count(&rt, rt.alloc(), &shared, &mut p, &text);
-    assert!(rt; is_answered(&found, &Reply::Refused(2), 0));
-    let found = look(&shared, &mut p, &text);
-    assert!(rt; is_answered(&found, &Reply::Refused(2), 0));
-    assert!(rt;
-        change(&rt, rt.alloc(), &shared, &mut p, &mkdir(b"/z")) == Some((Reply::Done(2), 0))
-    );
-    let found = count(&rt, rt.alloc(), &shared, &mut p, &text);
-    assert!(rt; matches!(found, Some(Quick::Again(Why::Long))));
-    let found = look(&shared, &mut p, &text);
-    assert!(rt; matches!(found, Some(Quick::Again(Why::Long))));
-    Ok(())
-}
-
 /// A walk under the lock follows links and fills no row; one that fills rows follows them too.
 #[test]
 fn the_tree_itself_is_asked(rt: HostRuntime) -> Result<(), Fail> {
