@@ -38,6 +38,9 @@ pub(crate) fn hash_number(number: u64) -> u64
     }
 }
 
+/// The hash of some bytes, taken on from a start. It is a call of its own: written into `hash_number`,
+/// the hash of all eight bytes would be worked out beside the short way, whatever the number is.
+#[inline(never)]
 fn hash_from(start: u64, bytes: &[u8]) -> u64
     ensures { result ≡ hash_from start bytes.now }
 {

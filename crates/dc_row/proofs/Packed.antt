@@ -1,7 +1,8 @@
 -- The bytes of a word that were packed into it.
-use Rattle.std.proofs.Common.{◌≡◌, ℕ, zero, suc, ◌-◌, ◌≤◌, ◌∷◌, [], ◌++◌, List, length, replicate, get_or, refl, sym, arith}
+use Rattle.std.proofs.Common.{◌≡◌, ℕ, zero, suc, ◌+◌, ◌-◌, ◌*◌, ◌/◌, ◌^◌, ◌≤◌, ◌∷◌, [], ◌++◌, List, length, replicate, get_or, drop, refl, sym, ap, ◌∙◌, arith}
 use Rattle.std.specs.Int.{sum_through, byte_worth}
-use Rattle.std.proofs.lemmas.Nat.{le_bytes_8}
+use Rattle.std.proofs.Math.Nat.{zero-div}
+use Rattle.std.proofs.lemmas.Nat.{le_bytes_8, shr_high, shr-shr}
 use Rattle.std.proofs.lemmas.Grind.{common_steps}
 use Rattle.dc_names.specs.Words.{AreBytes, word_of, bytes_in, padded}
 
@@ -24,3 +25,22 @@ unfolding word_of bytes_in
 bytes_in-word_of bs short are =
     let len : length (padded bs) ≡ 8 = grind (arith, common_steps) in
     le_bytes_8 (padded bs) (word_of bs) len (λ i. rw (get_or-padded bs (8 - length bs) i) (are i)) (sym (word_of-padded bs))
+
+-- one byte more before the others
+word_of-cons : (b : ℕ) (bs : List ℕ) → length bs ≤ 7 → word_of (b ∷ bs) ≡ word_of bs * 2 ^ 8 + b
+unfolding word_of
+word_of-cons b bs short = let past : get_or bs 7 0 ≡ 0 = grind (arith, common_steps) in omega arith
+
+word_of-none : word_of [] ≡ 0
+unfolding word_of
+word_of-none = refl
+
+-- a shift by so many bytes loses the first ones
+pub word_of-drop : (k : ℕ) (bs : List ℕ) → length bs ≤ 8 → AreBytes bs → word_of bs / 2 ^ (8 * k) ≡ word_of (drop k bs)
+word_of-drop zero bs short are = omega arith
+word_of-drop (suc k) [] short are = ap (λ (n : ℕ). n / 2 ^ (8 * suc k)) word_of-none ∙ zero-div (2 ^ (8 * suc k)) ∙ sym word_of-none
+word_of-drop (suc k) (b ∷ bs) short are =
+    let first : word_of (b ∷ bs) / 2 ^ 8 ≡ word_of bs = ap (λ (n : ℕ). n / 2 ^ 8) (word_of-cons b bs (omega arith)) ∙ shr_high (word_of bs) 8 b (are 0) in
+    let more : 8 * suc k ≡ 8 + 8 * k = omega arith in
+    ap (λ (n : ℕ). word_of (b ∷ bs) / 2 ^ n) more ∙ sym (shr-shr (word_of (b ∷ bs)) 8 (8 * k)) ∙ ap (λ (n : ℕ). n / 2 ^ (8 * k)) first
+    ∙ word_of-drop k bs (omega arith) (λ i. are (suc i))

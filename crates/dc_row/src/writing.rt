@@ -1,5 +1,5 @@
-ghost use Rattle.std.specs.Prelude.{◌≡◌, ◌≤◌, ◌<◌, ◌↔◌, length, slice_index, Some, IfSome, IsSome, IsTrue};
-ghost use Rattle.dc_names.specs.Words.{AreBytes};
+ghost use Rattle.std.specs.Prelude.{◌≡◌, ◌≤◌, ◌<◌, ◌↔◌, ◌+◌, length, drop, slice_index, Some, IfSome, IsSome, IsTrue};
+ghost use Rattle.dc_names.specs.Words.{AreBytes, word_of};
 ghost use Rattle.dc_plain.specs.Facts.Fact.{Reads};
 ghost use Rattle.dc_row.specs.Rows.{row_shown};
 ghost use Rattle.dc_row.specs.Spelling.{Spells, has_spelling, is_numbered, kind_code, target_number, text_word, fields, IsSpelled};
@@ -116,12 +116,26 @@ pub(crate) fn text_word(text: &[u8], at: usize) -> u64
     requires { at < ROW_WORDS }
     ensures { result ≡ text_word text.now at }
 {
-    if text.len() <= 8 * at {
+    let from = 8 * at;
+    if text.len() <= from {
         return 0;
     }
-    let rest = &text[8 * at..];
-    match rest.first_chunk::<8>() {
+    match text[from..].first_chunk::<8>() {
         Some(block) => u64::from_le_bytes(*block),
-        None => pack(rest),
+        None => last_word(text, from),
+    }
+}
+
+/// The bytes of a text from one of its last eight on, in one word.
+#[inline(always)]
+fn last_word(text: &[u8], from: usize) -> u64
+    requires some { from < length text.now }
+    requires few { length text.now ≤ from + 8 }
+    ensures { result ≡ word_of (drop from text.now) }
+{
+    match text.last_chunk::<8>() {
+        // The bytes before are shifted out: the end of a loop over so few is often guessed wrong.
+        Some(block) => u64::from_le_bytes(*block) >> (8 * (from + 8 - text.len())),
+        None => pack(&text[from..]),
     }
 }
