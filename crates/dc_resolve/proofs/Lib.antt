@@ -4,5 +4,6 @@ pub mod Placing
 pub mod Answering
 pub mod Fronts
 pub mod Going
+pub mod Passing
 pub mod Following
 pub mod Needed

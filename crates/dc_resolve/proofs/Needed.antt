@@ -1,5 +1,5 @@
 -- Questions that an outcome needs.
-use Rattle.std.proofs.Common.{◌≡◌, ℕ, zero, suc, ◌<◌, ◌-◌, List, ◌∷◌, ◌++◌, ◌&&◌, ◌||◌, ◌==◌, not, Bool, true, false, cond, Option, Some, None, IsTrue, Break, refl, ap, ◌∙◌, arith, option_map}
+use Rattle.std.proofs.Common.{◌≡◌, ℕ, zero, suc, ◌<◌, ◌-◌, List, ◌∷◌, ◌++◌, ◌&&◌, ◌||◌, ◌==◌, not, Bool, true, false, cond, Option, Some, None, IsTrue, Break, Continue, refl, ap, ◌∙◌, arith, option_map}
 use Rattle.dc_names.specs.Paths.{Part, Path}
 use Rattle.dc_names.specs.Paths.Part.{Name, Dot, DotDot}
 use Rattle.dc_names.specs.declared.kind.Kind.TheVariants.{Dir}
@@ -18,7 +18,7 @@ use Rattle.dc_resolve.specs.declared.finder.Finder.{Ghosts}
 use Rattle.dc_resolve.specs.declared.outcome.Step.{Step}
 use Rattle.dc_resolve.specs.declared.outcome.Step.TheVariants.{AtLink}
 use Rattle.dc_resolve.proofs.Following.{following, over_link, resolve_is, up_to}
-use Rattle.dc_resolve.proofs.Going.{told_still}
+use Rattle.dc_resolve.proofs.Going.{then_on, told_still}
 
 both : (a b : Bool) → (a && b) ≡ true → (a ≡ true) × (b ≡ true)
 both true b e = (refl, e)
@@ -81,6 +81,13 @@ module _ {F T : Type 0} (g : Ghosts F T) where
       ∙ ap (λ ps. over_parts teller how (following teller how links) at ps slash) is
       ∙ unmet_first teller how (following teller how links) at part more slash (unmet teller at part asked none)
 
+  -- and over those that are left
+  pub each_on : {finder f : F} {how : Follow} {slash : Bool} {place at : Target} {parts rest : List Part}
+      → ((a b c : F) → g.becomes a b → g.becomes b c → g.becomes a c) → ((a b : F) → g.becomes a b → Extends (g.said a) (g.said b))
+      → MayAskEach g finder how slash place parts → g.becomes finder f → GoesOn (g.said f) how slash place parts (Continue at) rest → MayAskEach g f how slash at rest
+  each_on {finder = finder} {f = f} goes_on keeps may on goes h later next left more =
+      may h (goes_on finder f h on later) next left (then_on goes (keeps f h later) more refl)
+
   -- the text of a link that must be followed
   pub text_of : {finder f : F} {how : Follow} (links : ℕ) {place at : Target} {link : ℕ} {before after : List Part} {slash : Bool} {step : Step}
       → MayAsk g finder (λ teller. resolve teller how links place before slash) → g.becomes finder f → GoesOn (g.said f) how slash place before (Break step) after → step ≡ AtLink at link → 0 < links → g.may_ask f link Text
@@ -110,10 +117,6 @@ module _ {F T : Type 0} (g : Ghosts F T) where
       ap (λ s. with_start s (go teller)) (start_still (told_still (keeps f h later) told) base path (Some place) begun) ∙ need teller told none
 
 module _ (may : ℕ → Label → Type 0) (place : Target) {all parts : List Part} where
-  -- the same parts, otherwise made
-  pub first_as : MayAskFirst may place all → all ≡ parts → MayAskFirst may place parts
-  first_as ok same part rest is asked = ok part rest (same ∙ is) asked
-
   -- of what stands above more parts
   pub first_above : (below : List Part) → MayAskFirst may place all → all ≡ parts ++ below → MayAskFirst may place parts
   first_above below ok same part rest is asked = ok part (rest ++ below) (same ∙ ap (λ ps. ps ++ below) is) asked

@@ -1,27 +1,12 @@
 -- The first part is taken.
-use Rattle.std.proofs.Common.{◌≡◌, ℕ, ◌-◌, ◌≤◌, List, ◌∷◌, ◌++◌, Option, Some, length, drop, ap, sym, subst, ◌∙◌, arith, length-drop}
+use Rattle.std.proofs.Common.{◌≡◌, ℕ, ◌-◌, ◌≤◌, List, Option, Some, length, drop, ap, subst, ◌∙◌, arith, length-drop}
 use Rattle.std.specs.Borrow.{Bor}
 use Rattle.std.proofs.lemmas.List.{drop-drop}
 use Rattle.dc_names.specs.Bytes.{IsRest}
-use Rattle.dc_names.specs.Paths.{Part}
 use Rattle.dc_plain.specs.Facts.{Target, Teller}
 use Rattle.dc_resolve.specs.Cuts.{last_bytes}
-use Rattle.dc_resolve.specs.Steps.{IsTaken, IsTakenFrom, TakesFirst}
+use Rattle.dc_resolve.specs.Steps.{IsTakenFrom, TakesFirst}
 use Rattle.dc_resolve.specs.declared.outcome.Reached.{Reached}
-
-module _ {said : Teller} {place : Target} {reached : Reached} where
-  -- the same parts, otherwise made
-  pub taken_as : {before after old new : List Part} → IsTaken said place old new reached → before ≡ old → after ≡ new → IsTaken said place before after reached
-  taken_as taken from to = record {
-    part = taken.part;
-    first = from ∙ taken.first ∙ ap (λ parts. taken.part ∷ parts) (sym to);
-    leads = taken.leads;
-    link = taken.link;
-  }
-
-  -- with more below them
-  pub taken_above : {before after : List Part} (below : List Part) → IsTaken said place before after reached → IsTaken said place (before ++ below) (after ++ below) reached
-  taken_above below taken = record { part = taken.part; first = ap (λ parts. parts ++ below) taken.first; leads = taken.leads; link = taken.link }
 
 module _ {said : Teller} {place : Target} {bytes : List ℕ} where
   pub from_first : {met : Option (Reached × Bor (List ℕ))} {reached : Reached} {after : Bor (List ℕ)} → TakesFirst said place bytes met → met ≡ Some (reached, after) → IsTakenFrom said place bytes after.now reached
@@ -37,3 +22,12 @@ rest_is text bytes after left fits is rest =
     let within = rest.within in
     rest.bytes ∙ ap (drop (length bytes - length after)) is ∙ drop-drop (length bytes - length after) (length text - left) text
     ∙ ap (λ n. drop n text) (omega arith)
+
+-- the rest of a rest
+pub rest_again : {first rest more : List ℕ} → IsRest rest first → IsRest more rest → IsRest more first
+rest_again {first = first} {rest = rest} {more = more} a b =
+    let a_within = a.within in let b_within = b.within in
+    record {
+      within = omega arith;
+      bytes = b.bytes ∙ ap (drop (length rest - length more)) a.bytes ∙ drop-drop (length rest - length more) (length first - length rest) first ∙ ap (λ n. drop n first) (omega arith);
+    }

@@ -1,7 +1,8 @@
 -- Which questions a walk needs answered.
-use Rattle.std.specs.Prelude.{◌≡◌, ℕ, ◌∷◌, List, Bool, ◌&&◌, Option, None, IsTrue}
+use Rattle.std.specs.Prelude.{◌≡◌, ℕ, ◌∷◌, ◌++◌, List, Bool, ◌&&◌, Option, None, IsTrue}
 use Rattle.std.specs.declared.ops.ControlFlow.TheVariants.{Continue}
-use Rattle.dc_names.specs.Paths.{Part}
+use Rattle.dc_names.specs.Bytes.{is_empty}
+use Rattle.dc_names.specs.Paths.{Part, parts_of}
 use Rattle.dc_plain.specs.declared.call.Follow.{Follow}
 use Rattle.dc_plain.specs.Facts.{Target, Label, Teller}
 use Rattle.dc_plain.specs.Facts.Label.{Entry, Parent, Text}
@@ -37,3 +38,7 @@ module _ {F T : Type 0} (g : Ghosts F T) (finder : F) where
   -- the parts of a walk may be asked one after the other
   abbrev pub MayAskEach : Follow → Bool → Target → List Part → Type 0
   MayAskEach how slash place parts = (f : F) → g.becomes finder f → (at : Target) (rest : List Part) → GoesOn (g.said f) how slash place parts (Continue at) rest → MayAskFirst (g.may_ask f) at rest
+
+  -- the parts of some bytes may be asked one after the other, above something that is nothing or not
+  abbrev pub MayAskOver : Follow → Bool → Target → List ℕ → Bool → Type 0
+  MayAskOver how slash place bytes is_last = (below : List Part) × (is_empty below ≡ is_last) × MayAskEach how slash place (parts_of bytes ++ below)

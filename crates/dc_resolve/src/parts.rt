@@ -1,6 +1,6 @@
 //! The parts that are left, taken one after the other. Each is split from its text once, as it is asked for.
 
-ghost use Rattle.std.specs.Prelude.{◌≡◌, ◌==◌, ◌+◌, ◌<◌, ◌≤◌, not, length, [], ◌++◌, IfOk, OnOk, IfSome, IfNone, OnSome, IsTrue};
+ghost use Rattle.std.specs.Prelude.{◌≡◌, ◌==◌, ◌+◌, ◌<◌, ◌≤◌, not, length, [], ◌++◌, IfOk, IfSome, IfNone, OnSome, IsTrue};
 ghost use Rattle.std.specs.List.{list_any};
 ghost use Rattle.arrayvec.specs.ArrayVec.{array_vec_len};
 ghost use Rattle.dc_names.specs.Bytes.{has_parts, is_empty};
@@ -9,7 +9,7 @@ ghost use Rattle.dc_resolve.specs.Cuts.{last_bytes};
 ghost use Rattle.dc_resolve.specs.Finders.{KeepsAnswering};
 ghost use Rattle.dc_resolve.specs.Needs.{MayAskFirst};
 ghost use Rattle.dc_resolve.specs.Remainders.{parts_in, parts_left};
-ghost use Rattle.dc_resolve.specs.Steps.{Takes, TakesFirst};
+ghost use Rattle.dc_resolve.specs.Steps.{TakesFirst};
 
 use crate::outcome::Reached;
 use crate::remaining::{Remaining, Rest};
@@ -21,7 +21,7 @@ use dc_plain::{MOST_LINKS, Target};
 
 /// Whether a part is left in some bytes: it looks no further than the first byte of it.
 #[tactic(auto, using(crate::proofs::Fronts::beyond_slashes))]
-fn has_part(bytes: &[u8]) -> bool
+pub(crate) fn has_part(bytes: &[u8]) -> bool
     ensures { result ≡ not (is_empty (parts_of bytes.now)) }
 {
     is_beyond_slashes(bytes)
@@ -36,7 +36,7 @@ fn is_beyond_slashes(bytes: &[u8]) -> bool
 
 impl<T: Bytes> Rest<T> {
     /// What is left of the text.
-    fn bytes(&self) -> &[u8]
+    pub(crate) fn bytes(&self) -> &[u8]
         ensures { result.now ≡ last_bytes self.now.left (T.bytes self.now.text) }
     {
         let bytes = self.text.bytes();
@@ -76,7 +76,7 @@ impl<'p, T: Bytes + Drop> Remaining<'p, T> {
     }
 
     /// Puts the last bytes of a text before what is left.
-    fn push(&mut self, text: T, left: usize)
+    pub(crate) fn push(&mut self, text: T, left: usize)
         requires room { array_vec_len self.old.texts < MOST_LINKS }
         requires fits { left ≤ length (T.bytes text) }
         requires valid { IsTrue (has_parts (last_bytes left (T.bytes text))) }
@@ -92,8 +92,7 @@ impl<'p, T: Bytes + Drop> Remaining<'p, T> {
     }
 
     /// Takes the text off that comes first.
-    #[inline(always)]
-    fn pop(&mut self) -> Option<Rest<T>>
+    pub(crate) fn pop(&mut self) -> Option<Rest<T>>
         ensures none { IfNone result (parts_left self.old ≡ parts_of self.new.path.now) }
         ensures some { IfSome result (λ rest.
             parts_left self.old ≡ parts_in rest ++ parts_left self.new) }
@@ -107,7 +106,7 @@ impl<'p, T: Bytes + Drop> Remaining<'p, T> {
 
 /// Asks at the first part of some bytes, if there is one, and answers the bytes after it too.
 #[inline(always)]
-fn ask_first<'b, F: Finder>(
+pub(crate) fn ask_first<'b, F: Finder>(
     finder: &mut F,
     place: Target,
     bytes: &'b [u8],
@@ -121,34 +120,4 @@ fn ask_first<'b, F: Finder>(
         return Ok(None);
     };
     Ok(Some((step_on(finder, place, part, hash)?, after)))
-}
-
-/// Asks at the first part that is left, if one is.
-#[inline(always)]
-pub(crate) fn ask_next<F: Finder>(
-    finder: &mut F,
-    place: Target,
-    left: &mut Remaining<'_, F::Text>,
-) -> Result<Option<Reached>, Stop>
-    requires { MayAskFirst (F.may_ask finder.old) place (parts_left left.old) }
-    ensures taken { IfOk result (Takes (F.said finder.new) place
-        (parts_left left.old) (parts_left left.new)) }
-    ensures room { OnOk result (array_vec_len left.new.texts ≤ array_vec_len left.old.texts) }
-    ensures kept { KeepsAnswering F.Finder finder.old finder.new result }
-{
-    let Some(rest) = left.pop() else {
-        let Some((reached, after)) = ask_first(finder, place, left.path)? else {
-            return Ok(None);
-        };
-        left.path = after;
-        return Ok(Some(reached));
-    };
-    let Some((reached, after)) = ask_first(finder, place, rest.bytes())? else {
-        // A text without a part would come here, but is never put on the others.
-        unreachable!();
-    };
-    let after = after.len();
-    let Rest { text, left: _ } = rest;
-    left.push(text, after);
-    Ok(Some(reached))
 }

@@ -1,9 +1,9 @@
 //! A whole resolution: part after part, link after link.
 
-ghost use Rattle.std.specs.Prelude.{◌≡◌, ◌≤◌, ◌<◌, ◌+◌, ◌||◌, ◌&&◌, ◌==◌, false, length, Some, IfOk, OnOk, IsTrue, if◌then◌else◌};
+ghost use Rattle.std.specs.Prelude.{◌≡◌, ◌≤◌, ◌<◌, ◌+◌, ◌++◌, ◌||◌, ◌&&◌, ◌==◌, [], false, Some, IfOk, OnOk, IsTrue, if◌then◌else◌};
 ghost use Rattle.std.specs.declared.ops.ControlFlow.TheVariants.{Break};
 ghost use Rattle.arrayvec.specs.ArrayVec.{array_vec_len};
-ghost use Rattle.dc_names.specs.Bytes.{has_parts};
+ghost use Rattle.dc_names.specs.Bytes.{has_parts, IsRest};
 ghost use Rattle.dc_names.specs.Paths.{begins_with_slash, has_end_slash, parts_of, path_in};
 ghost use Rattle.dc_plain.specs.Facts.{Teller};
 ghost use Rattle.dc_plain.specs.Facts.Label.{Parent, Text};
@@ -13,46 +13,108 @@ ghost use Rattle.dc_plain.specs.Tellers.{Extends};
 ghost use Rattle.dc_resolve.specs.Asked.{IsSaidLink};
 ghost use Rattle.dc_resolve.specs.Finders.{KeepsAnswering};
 ghost use Rattle.dc_resolve.specs.Fits.{TextsFit};
-ghost use Rattle.dc_resolve.specs.Needs.{MayAsk, MayAskEach, MayAskFirst};
-ghost use Rattle.dc_resolve.specs.Remainders.{parts_left};
+ghost use Rattle.dc_resolve.specs.Needs.{MayAsk, MayAskEach, MayAskOver};
+ghost use Rattle.dc_resolve.specs.Remainders.{parts_in, parts_left};
 ghost use Rattle.dc_resolve.specs.Steps.{end_shown, IfContinue, IsSaidFlow, IsSaidStep};
-ghost use Rattle.dc_resolve.specs.Walks.{GoesOn, IsReplaced, LeadsTo};
+ghost use Rattle.dc_resolve.specs.Walks.{GoesOn, GoesOver, IsReplaced, LeadsTo};
 
 use crate::outcome::{End, Step};
-use crate::parts::ask_next;
-use crate::remaining::Remaining;
+use crate::parts::ask_first;
+use crate::remaining::{Remaining, Rest};
 use crate::step::{after, ending};
 use crate::{Bytes, Finder, Stop};
 use dc_names::{Kind, Part, PathText, Refusal};
 use dc_plain::{Follow, MOST_LINKS, ROOT, Target};
 use std::ops::ControlFlow;
 
-/// One part on from a place, over the parts that are left, or to the end where none is.
-#[inline(always)]
-fn go_on<F: Finder>(
+/// Goes over some bytes, part after part, up to the end of the resolution, a link that must be followed,
+/// or the end of the bytes. It answers the bytes that are left too. `is_last` says that nothing is left
+/// below them.
+fn walk_bytes<'b, F: Finder>(
     finder: &mut F,
-    place: Target,
+    start: Target,
+    bytes: &'b [u8],
+    is_last: bool,
+    slash: bool,
+    follow: Follow,
+) -> Result<(ControlFlow<Step, Target>, &'b [u8]), Stop>
+    requires valid { IsTrue (has_parts bytes.now) }
+    requires may { MayAskOver F.Finder finder.old follow slash start bytes.now is_last }
+    ensures goes { IfOk result (λ went. GoesOver (F.said finder.new) follow slash
+        start bytes.entry.now is_last went.0 went.1.now) }
+    ensures link { IfOk result (λ went. IsSaidFlow (F.said finder.new) went.0) }
+    ensures over { IfOk result (λ went. IfContinue went.0 (parts_of went.1.now ≡ [])) }
+    ensures rest { IfOk result (λ went. IsRest went.1.now bytes.entry.now) }
+    ensures valid { IfOk result (λ went. IsTrue (has_parts went.1.now)) }
+    ensures kept { KeepsAnswering F.Finder finder.old finder.new result }
+{
+    let mut place = start;
+    let mut rest = bytes;
+    'parts: loop {
+        let Some((reached, more)) = ask_first(finder, place, rest)? else {
+            return Ok((ControlFlow::Continue(place), rest));
+        };
+        rest = more;
+        match after(place, reached, rest, is_last, slash, follow) {
+            ControlFlow::Continue(next) => place = next,
+            ControlFlow::Break(step) => return Ok((ControlFlow::Break(step), rest)),
+        }
+    }
+}
+
+/// Goes over the last bytes of a path, up to the end or a link that must be followed. It answers the
+/// bytes that are left too.
+fn walk_path<'b, F: Finder>(
+    finder: &mut F,
+    start: Target,
+    path: &'b [u8],
+    slash: bool,
+    follow: Follow,
+) -> Result<(Step, &'b [u8]), Stop>
+    requires valid { IsTrue (has_parts path.now) }
+    requires may { MayAskEach F.Finder finder.old follow slash start (parts_of path.now) }
+    ensures goes { IfOk result (λ went. GoesOn (F.said finder.new) follow slash
+        start (parts_of path.entry.now) (Break went.0) (parts_of went.1.now)) }
+    ensures link { IfOk result (λ went. IsSaidStep (F.said finder.new) went.0) }
+    ensures valid { IfOk result (λ went. IsTrue (has_parts went.1.now)) }
+    ensures kept { KeepsAnswering F.Finder finder.old finder.new result }
+{
+    let (flow, rest) = walk_bytes(finder, start, path, true, slash, follow)?;
+    let step = match flow {
+        ControlFlow::Continue(place) => Step::Ended(ending(follow, place, slash)),
+        ControlFlow::Break(step) => step,
+    };
+    Ok((step, rest))
+}
+
+/// Goes over what is left of a text, which was taken off from what is left, and puts back what is left
+/// of it then.
+fn walk_text<F: Finder>(
+    finder: &mut F,
+    start: Target,
+    rest: Rest<F::Text>,
     left: &mut Remaining<'_, F::Text>,
     slash: bool,
     follow: Follow,
 ) -> Result<ControlFlow<Step, Target>, Stop>
-    requires { MayAskFirst (F.may_ask finder.old) place (parts_left left.old) }
+    requires room { array_vec_len left.old.texts < MOST_LINKS }
+    requires may { MayAskEach F.Finder finder.old follow slash
+        start (parts_in rest ++ parts_left left.old) }
     ensures goes { IfOk result (λ flow. GoesOn (F.said finder.new) follow slash
-        place (parts_left left.old) flow (parts_left left.new)) }
+        start (parts_in rest ++ parts_left left.old) flow (parts_left left.new)) }
     ensures link { IfOk result (IsSaidFlow (F.said finder.new)) }
-    ensures room { OnOk result (array_vec_len left.new.texts ≤ array_vec_len left.old.texts) }
-    ensures fewer { IfOk result (λ flow. IfContinue flow
-        (length (parts_left left.new) < length (parts_left left.old))) }
+    ensures over { IfOk result (λ flow. IfContinue flow (parts_left left.new ≡ parts_left left.old)) }
+    ensures room { OnOk result (array_vec_len left.new.texts ≤ array_vec_len left.old.texts + 1) }
     ensures kept { KeepsAnswering F.Finder finder.old finder.new result }
 {
-    match ask_next(finder, place, left)? {
-        Some(reached) => Ok(after(place, reached, left, slash, follow)),
-        None => Ok(ControlFlow::Break(Step::Ended(ending(follow, place, slash)))),
-    }
+    let (flow, more) = walk_bytes(finder, start, rest.bytes(), left.is_done(), slash, follow)?;
+    let more = more.len();
+    let Rest { text, left: _ } = rest;
+    left.push(text, more);
+    Ok(flow)
 }
 
 /// Goes over the parts that are left, up to their end or a link that must be followed.
-#[inline(always)]
 fn walk_parts<F: Finder>(
     finder: &mut F,
     start: Target,
@@ -68,8 +130,13 @@ fn walk_parts<F: Finder>(
     ensures kept { KeepsAnswering F.Finder finder.old finder.new result }
 {
     let mut place = start;
-    'parts: loop {
-        match go_on(finder, place, left, slash, follow)? {
+    'texts: loop {
+        let Some(rest) = left.pop() else {
+            let (step, rest) = walk_path(finder, place, left.path, slash, follow)?;
+            left.path = rest;
+            return Ok(step);
+        };
+        match walk_text(finder, place, rest, left, slash, follow)? {
             ControlFlow::Continue(next) => place = next,
             ControlFlow::Break(step) => return Ok(step),
         }
@@ -159,8 +226,16 @@ fn resolve_parts<F: Finder>(
         place (parts_of parts.entry.now) slash) }
     ensures kept { KeepsAnswering F.Finder finder.old finder.new result }
 {
-    let mut left: Remaining<'_, F::Text> = Remaining::new(parts);
-    resolve(finder, place, &mut left, slash, follow, MOST_LINKS)
+    let (step, rest) = walk_path(finder, place, parts, slash, follow)?;
+    match step {
+        Step::Ended(end) => Ok(end),
+        Step::AtLink(at, link) => {
+            // Room for the texts is made where the first link is met: most paths meet none.
+            let mut left: Remaining<'_, F::Text> = Remaining::new(rest);
+            let (base, slash) = put_text(finder, at, link, &mut left, slash)?;
+            resolve(finder, base, &mut left, slash, follow, MOST_LINKS - 1)
+        }
+    }
 }
 
 /// Where a path begins, if its starting directory is live.

@@ -1,23 +1,22 @@
 //! One part on: what it leads to, and how a resolution goes on from there.
 
-ghost use Rattle.std.specs.Prelude.{◌≡◌, ◌&&◌, ℕ, not, Bool, Option, Some, IfOk, IsTrue, if◌then◌else◌};
+ghost use Rattle.std.specs.Prelude.{◌≡◌, ◌&&◌, ℕ, not, Option, Some, IfOk, IsTrue, if◌then◌else◌};
 ghost use Rattle.dc_names.specs.Bytes.{is_empty};
 ghost use Rattle.dc_names.specs.Hash.{hash_of};
 ghost use Rattle.dc_names.specs.Names.{part_shown};
-ghost use Rattle.dc_names.specs.Paths.{bytes_of};
+ghost use Rattle.dc_names.specs.Paths.{bytes_of, parts_of};
 ghost use Rattle.dc_names.specs.declared.kind.Kind.TheVariants.{Link};
 ghost use Rattle.dc_plain.specs.Facts.{Teller, Target as SpecTarget};
-ghost use Rattle.dc_plain.specs.Resolution.{Outcome, at_part, ending, keeps_link, met_by, with_met};
+ghost use Rattle.dc_plain.specs.Resolution.{Outcome, ending, keeps_link, met_by, with_met};
 ghost use Rattle.dc_plain.specs.Resolution.Outcome.{Found};
 ghost use Rattle.dc_resolve.specs.Asked.{label_of};
 ghost use Rattle.dc_resolve.specs.Finders.{KeepsAnswering};
 ghost use Rattle.dc_resolve.specs.Needs.{asks};
-ghost use Rattle.dc_resolve.specs.Remainders.{parts_left};
 ghost use Rattle.dc_resolve.specs.Steps.{met_shown, end_shown, goes_on, Leads, IfMeets, IsSaidMet, IsSaidFlow};
 
 use crate::outcome::{End, Reached, Step};
-use crate::remaining::Remaining;
-use crate::{Bytes, Finder, Stop};
+use crate::parts::has_part;
+use crate::{Finder, Stop};
 use dc_names::{Kind, Part, Refusal};
 use dc_plain::{Follow, Target, is_directory};
 use std::ops::ControlFlow;
@@ -78,19 +77,20 @@ fn is_kept(follow: Follow, is_last: bool, slash: bool) -> bool
     is_last && !slash && follow == Follow::No
 }
 
-/// Where a walk goes from a place by what its next part leads to, with these parts left. A link is
-/// kept, or stops the walk.
+/// Where a walk goes from a place by what its next part leads to, with these bytes left, and nothing
+/// below them or something. A link is kept, or stops the walk.
 #[inline(always)]
-pub(crate) fn after<T: Bytes + Drop>(
+pub(crate) fn after(
     place: Target,
     reached: Reached,
-    left: &Remaining<'_, T>,
+    rest: &[u8],
+    is_last: bool,
     slash: bool,
     follow: Follow,
 ) -> ControlFlow<Step, Target>
     ensures goes { (go : SpecTarget → Option Outcome) → (at_link : SpecTarget → ℕ → Option Outcome) →
         with_met (Some (met_shown reached)) go (λ link.
-        if is_empty (parts_left left.now) && not slash && keeps_link follow
+        if (is_last && is_empty (parts_of rest.now)) && not slash && keeps_link follow
         then Some (Found link) else at_link place link.0) ≡ goes_on result go at_link }
     ensures link { (said : Teller) → IsSaidMet said reached → IsSaidFlow said result }
 {
@@ -99,7 +99,7 @@ pub(crate) fn after<T: Bytes + Drop>(
         Reached::File(number) => ControlFlow::Continue((number, Kind::File)),
         Reached::Stops(refusal) => ControlFlow::Break(Step::Ended(End::Refused(refusal))),
         // Only at a link does it matter whether it is the last, so only here it is looked for.
-        Reached::Meets(link) if is_kept(follow, left.is_done(), slash) => {
+        Reached::Meets(link) if is_kept(follow, is_last && !has_part(rest), slash) => {
             ControlFlow::Break(Step::Ended(End::Found((link, Kind::Link))))
         }
         Reached::Meets(link) => ControlFlow::Break(Step::AtLink(place, link)),

@@ -4,8 +4,8 @@ use Rattle.dc_resolve.specs.Remainders.{parts_left}
 use Rattle.dc_resolve.specs.Walks.{GoesOn}
 use Rattle.dc_resolve.proofs.resolution.walk_parts.Given as goal
 
-abbrev pub invariant-parts : goal.invariant-parts
-invariant-parts g l =
+abbrev pub invariant-texts : goal.invariant-texts
+invariant-texts g l =
     let finder = g.F.Finder in
     record {
       kept : finder.becomes l.fn.finder l.finder;
@@ -14,5 +14,5 @@ invariant-parts g l =
       goes : GoesOn (finder.said l.finder) l.follow l.slash l.fn.start (parts_left l.initial.left) (Continue l.place) (parts_left l.left);
     }
 
-abbrev pub decreases-parts : goal.decreases-parts
-decreases-parts g l = length (parts_left l.left)
+abbrev pub decreases-texts : goal.decreases-texts
+decreases-texts g l = length (parts_left l.left)
