@@ -14,3 +14,4 @@ pub mod Pinnings
 pub mod ByHand
 pub mod Unasked
 pub mod Runs
+pub mod Blocks

@@ -11,7 +11,7 @@ use Rattle.dc_names.specs.Paths.{part_of}
 use Rattle.dc_row.specs.declared.TheConstants.{ROW_TEXT}
 use Rattle.dc_walk.specs.Long.{is_long, has_long_name}
 
-abbrev is_long_piece : List ℕ → Bool
+abbrev pub is_long_piece : List ℕ → Bool
 is_long_piece piece = nat_lt ROW_TEXT (length piece)
 
 -- a piece of the bytes is too long
@@ -97,7 +97,7 @@ short_pieces (b ∷ bs) =
       | false ↦ onto_short (length bs) b (pieces bs) more
     ]
 
-none_long : (n : ℕ) (ps : List (List ℕ)) → n ≤ ROW_TEXT → AllByRecursion (λ p. length p ≤ n) ps → list_any is_long_piece ps ≡ false
+pub none_long : (n : ℕ) (ps : List (List ℕ)) → n ≤ ROW_TEXT → AllByRecursion (λ p. length p ≤ n) ps → list_any is_long_piece ps ≡ false
 none_long n [] le all = refl
 none_long n (p ∷ ps) le all =
     let here : length p ≤ n = all.0 in
@@ -126,7 +126,7 @@ past_there text at soon within is =
     ap has_long_piece (sym whole) ∙ past_slash (take at text) (drop (at + 1) text) short ∙ ap has_long_piece (sym (ap (λ (n : ℕ). take n (drop (at + 1) text)) size ∙ take-length (drop (at + 1) text)))
 
 -- the length of the first piece
-abbrev first_length : List (List ℕ) → ℕ
+abbrev pub first_length : List (List ℕ) → ℕ
 first_length [] = 0
 first_length (p ∷ ps) = length p
 

@@ -1,24 +1,14 @@
-use Rattle.std.proofs.Common.{ap, sym, ◌∙◌, arith}
-use Rattle.dc_walk.proofs.Runs.{has_long_piece, by_pieces, short_bytes, window, past_there, long_run}
+use Rattle.std.proofs.Common.{◌≡◌, false, ap, sym, ◌∙◌, arith}
+use Rattle.dc_walk.specs.Long.{has_long_name}
+use Rattle.dc_walk.proofs.Runs.{by_pieces, short_bytes}
+use Rattle.dc_walk.proofs.Blocks.{no_long_name}
+use Rattle.dc_walk.proofs.long.has_long_name.Goals.{then-bytes-gt-ROW_TEXT, else-bytes-gt-ROW_TEXT}
 use Rattle.dc_walk.proofs.long.has_long_name.Goals as goal
 
-pub names-init : goal.names-init
-names-init c = by_pieces c.args.path.bytes.now ∙ ap has_long_piece (sym c.bytes-rest.ensures.bytes)
-
-pub slice_bounds-rest-count : goal.slice_bounds-rest-count
-slice_bounds-rest-count c = let size = window c.names.rest.now c.names-test.true in let at = c.in-Some.ensures.at in omega arith
-
-pub slice_bounds-rest-start : goal.slice_bounds-rest-start
-slice_bounds-rest-start c = let size = window c.names.rest.now c.names-test.true in let at = c.in-Some.ensures.at in omega arith
-
-pub names-preserved : goal.names-preserved
-names-preserved c =
-    let size = window c.names.rest.now c.names-test.true in
-    let at = c.in-Some.ensures.at in
-    c.names.invariant ∙ past_there c.names.rest.now c.in-Some.at (omega arith) (omega arith) c.in-Some.ensures.some
-
-pub returns-in-None : goal.returns-in-None
-returns-in-None c = sym (c.names.invariant ∙ long_run c.names.rest.now c.names-test.true c.in-None.ensures.none)
-
-pub returns : goal.returns
-returns c = sym (c.names.invariant ∙ short_bytes c.names.rest.now (omega arith))
+pub returns-else-has_block_within_name : goal.returns-else-has_block_within_name
+returns-else-has_block_within_name c =
+    let none = c.if-has_block_within_name.false in
+    none ∙ sym (ap has_long_name (sym c.bytes-bytes.ensures.bytes) ∙ elim c.if-bytes-gt-ROW_TEXT.branch as (λ _. has_long_name c.bytes-bytes.result.now ≡ false) [
+      | then-bytes-gt-ROW_TEXT w ↦ no_long_name c.bytes-bytes.result.now (sym w.has_block_within_name.ensures ∙ sym w.value-is ∙ none)
+      | else-bytes-gt-ROW_TEXT w ↦ by_pieces c.bytes-bytes.result.now ∙ short_bytes c.bytes-bytes.result.now (omega arith)
+    ])
