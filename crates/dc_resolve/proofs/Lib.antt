@@ -1,7 +1,4 @@
-pub mod Stacks
-pub mod Takes
 pub mod Placing
-pub mod Answering
 pub mod Fronts
 pub mod Going
 pub mod Passing

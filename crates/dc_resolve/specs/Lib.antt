@@ -1,12 +1,9 @@
 -- What a walk asks, and where it ends.
 pub mod Asked
-pub mod Cuts
 pub mod Fronts
-pub mod Remainders
 pub mod Steps
 pub mod Walks
 pub mod Ends
-pub mod Fits
 pub mod Tables
 pub mod Finders
 pub mod Needs

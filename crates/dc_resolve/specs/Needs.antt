@@ -1,15 +1,14 @@
 -- Which questions a walk needs answered.
 use Rattle.std.specs.Prelude.{◌≡◌, ℕ, ◌∷◌, ◌++◌, List, Bool, ◌&&◌, Option, None, IsTrue}
-use Rattle.std.specs.declared.ops.ControlFlow.TheVariants.{Continue}
 use Rattle.dc_names.specs.Bytes.{is_empty}
 use Rattle.dc_names.specs.Paths.{Part, parts_of}
 use Rattle.dc_plain.specs.declared.call.Follow.{Follow}
 use Rattle.dc_plain.specs.Facts.{Target, Label, Teller}
 use Rattle.dc_plain.specs.Facts.Label.{Entry, Parent, Text}
-use Rattle.dc_plain.specs.Resolution.{is_directory}
+use Rattle.dc_plain.specs.Resolution.{is_directory, resolve}
 use Rattle.dc_plain.specs.Tellers.{Extends}
 use Rattle.dc_resolve.specs.Asked.{is_asked, label_of}
-use Rattle.dc_resolve.specs.Walks.{GoesOn}
+use Rattle.dc_resolve.specs.Walks.{following}
 use Rattle.dc_resolve.specs.declared.finder.Finder.{Ghosts}
 
 -- of this key nothing is told
@@ -35,10 +34,10 @@ module _ {F T : Type 0} (g : Ghosts F T) (finder : F) where
   abbrev pub MayAsk : {A : Type 0} → (Teller → Option A) → Type 0
   MayAsk outcome = (f : F) → g.becomes finder f → (n : ℕ) (label : Label) → IsNeeded outcome (g.said f) n label → g.may_ask f n label
 
-  -- the parts of a walk may be asked one after the other
-  abbrev pub MayAskEach : Follow → Bool → Target → List Part → Type 0
-  MayAskEach how slash place parts = (f : F) → g.becomes finder f → (at : Target) (rest : List Part) → GoesOn (g.said f) how slash place parts (Continue at) rest → MayAskFirst (g.may_ask f) at rest
+  -- what the resolution of some bytes needs may be asked, with so many links to follow, above something that is nothing or not
+  abbrev pub MayAskOver : Follow → ℕ → Bool → Target → List ℕ → Bool → Type 0
+  MayAskOver how links slash place bytes is_last = (below : List Part) × (is_empty below ≡ is_last) × MayAsk (λ teller. resolve teller how links place (parts_of bytes ++ below) slash)
 
-  -- the parts of some bytes may be asked one after the other, above something that is nothing or not
-  abbrev pub MayAskOver : Follow → Bool → Target → List ℕ → Bool → Type 0
-  MayAskOver how slash place bytes is_last = (below : List Part) × (is_empty below ≡ is_last) × MayAskEach how slash place (parts_of bytes ++ below)
+  -- and what a link in a directory needs
+  abbrev pub MayAskThrough : Follow → ℕ → Bool → Target → ℕ → Bool → Type 0
+  MayAskThrough how links slash at link is_last = (below : List Part) × (is_empty below ≡ is_last) × MayAsk (λ teller. following teller how links at link below slash)

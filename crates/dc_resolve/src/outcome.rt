@@ -9,10 +9,17 @@ pub(crate) enum End {
     Refused(Refusal),
 }
 
-/// A walk over parts, up to its end or a link that must be followed.
+/// One part on: the end of a resolution, or a link that must be followed.
 pub(crate) enum Step {
     Ended(End),
     AtLink(Target, u64),
+}
+
+/// Where a walk over some bytes comes to.
+pub(crate) enum Way {
+    Ended(End),
+    /// The place after the last of them, and how many links may be followed from there.
+    Through(Target, u64),
 }
 
 /// What a part leads to, by its number.

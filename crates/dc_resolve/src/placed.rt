@@ -6,7 +6,6 @@ ghost use Rattle.dc_plain.specs.Facts.{Teller};
 ghost use Rattle.dc_plain.specs.Places.{place};
 ghost use Rattle.dc_plain.specs.Tellers.{Extends};
 ghost use Rattle.dc_resolve.specs.Ends.{placed_shown, stopped_after};
-ghost use Rattle.dc_resolve.specs.Fits.{TextsFit};
 ghost use Rattle.dc_resolve.specs.Needs.{MayAsk};
 
 use crate::front::split_last;
@@ -31,7 +30,6 @@ pub enum Placed<'p> {
 /// asked for nor followed. It is refused as by `walk`, and asks only for what its answer can't be told
 /// without.
 pub fn place<'p, F: Finder>(finder: &mut F, base: u64, path: PathText<'p>) -> Placed<'p>
-    requires fits { TextsFit F.Text.row F.Text.Bytes }
     requires may { MayAsk F.Finder finder.old (λ teller.
         place teller base (path_in path.bytes.now)) }
     // Whatever else may be learnt later, the answer stays.

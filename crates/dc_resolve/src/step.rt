@@ -15,7 +15,7 @@ ghost use Rattle.dc_resolve.specs.Needs.{asks};
 ghost use Rattle.dc_resolve.specs.Steps.{met_shown, end_shown, goes_on, Leads, IfMeets, IsSaidMet, IsSaidFlow};
 
 use crate::outcome::{End, Reached, Step};
-use crate::parts::has_part;
+use crate::parts::is_end;
 use crate::{Finder, Stop};
 use dc_names::{Kind, Part, Refusal};
 use dc_plain::{Follow, Target, is_directory};
@@ -99,7 +99,7 @@ pub(crate) fn after(
         Reached::File(number) => ControlFlow::Continue((number, Kind::File)),
         Reached::Stops(refusal) => ControlFlow::Break(Step::Ended(End::Refused(refusal))),
         // Only at a link does it matter whether it is the last, so only here it is looked for.
-        Reached::Meets(link) if is_kept(follow, is_last && !has_part(rest), slash) => {
+        Reached::Meets(link) if is_kept(follow, is_end(rest, is_last), slash) => {
             ControlFlow::Break(Step::Ended(End::Found((link, Kind::Link))))
         }
         Reached::Meets(link) => ControlFlow::Break(Step::AtLink(place, link)),

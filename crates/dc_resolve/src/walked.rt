@@ -6,7 +6,6 @@ ghost use Rattle.dc_plain.specs.Facts.{Teller};
 ghost use Rattle.dc_plain.specs.Places.{walk};
 ghost use Rattle.dc_plain.specs.Tellers.{Extends};
 ghost use Rattle.dc_resolve.specs.Ends.{outcome_shown, stopped_after};
-ghost use Rattle.dc_resolve.specs.Fits.{TextsFit};
 ghost use Rattle.dc_resolve.specs.Needs.{MayAsk};
 
 use crate::outcome::End;
@@ -32,7 +31,6 @@ pub enum Walked {
 /// It is refused with `NotFound`, `NotDirectory` or `TooManyLinks`, the last where more than `MOST_LINKS`
 /// links would be followed, and with nothing else: see `dc_plain::resolution_refuses_by_a_list`.
 pub fn walk<F: Finder>(finder: &mut F, base: u64, path: PathText<'_>, follow: Follow) -> Walked
-    requires fits { TextsFit F.Text.row F.Text.Bytes }
     requires may { MayAsk F.Finder finder.old (λ teller.
         walk teller base (path_in path.bytes.now) follow) }
     // Whatever else may be learnt later, the outcome stays.

@@ -19,7 +19,7 @@ spells_too {ws} {vs} {fact} n m s size long wide same = record {
       sym (from_second ws m i pos (omega arith)) ∙ ap (λ (l : List ℕ). get_or l (i - 1) 0) (sym same) ∙ from_second vs n i pos (omega arith) ∙ s.spelled i pos lt;
 }
 
-all_same : (xs ys : List ℕ) → length xs ≡ length ys → ((k : ℕ) → k < length xs → get_or xs k 0 ≡ get_or ys k 0) → xs ≡ ys
+pub all_same : (xs ys : List ℕ) → length xs ≡ length ys → ((k : ℕ) → k < length xs → get_or xs k 0 ≡ get_or ys k 0) → xs ≡ ys
 all_same [] [] size same = refl
 all_same [] (y ∷ ys) size same = absurd (omega arith)
 all_same (x ∷ xs) [] size same = absurd (omega arith)

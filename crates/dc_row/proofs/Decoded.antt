@@ -20,7 +20,7 @@ from_is byte (x ∷ xs) k is =
     let rest = from_is byte xs (suc k) (λ i l. let next : suc k + i ≡ k + suc i = omega arith in ap byte next ∙ is (suc i) (omega arith)) in
     λ i. first i ∷ rest i
 
-byte_so : {words : List ℕ} {fact : Option Fact} → Spells words fact → (i : ℕ) → i < ROW_TEXT → byte_in words i ≡ get_or (fields_of fact).text i 0
+pub byte_so : {words : List ℕ} {fact : Option Fact} → Spells words fact → (i : ℕ) → i < ROW_TEXT → byte_in words i ≡ get_or (fields_of fact).text i 0
 byte_so {words} {fact} s i within =
     byte_is s i (byte_in words i) within (λ bytes short are is.
     ap (λ (word : ℕ). get_or (bytes_in word) (i % 8) 0) is ∙ ap (λ (bs : List ℕ). get_or bs (i % 8) 0) (bytes_in-word_of bytes short are) ∙ get_or-padded bytes _ (i % 8))

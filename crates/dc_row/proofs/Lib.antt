@@ -5,3 +5,5 @@ pub mod Compared
 pub mod Filled
 pub mod Packed
 pub mod Decoded
+pub mod Paths
+pub mod Texts

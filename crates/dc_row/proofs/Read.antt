@@ -49,7 +49,7 @@ length_is {words} {fact} s = let few = small fact s.allowed in rw (head_is s) (o
 pub text_fits : {words : List ℕ} {fact : Option Fact} → Spells words fact → length (fields_of fact).text ≤ ROW_TEXT
 text_fits {words} {fact} s = (small fact s.allowed).text
 
-take_bytes : (xs : List ℕ) (n i : ℕ) → AreBytes xs → get_or (take n xs) i 0 < 256
+pub take_bytes : (xs : List ℕ) (n i : ℕ) → AreBytes xs → get_or (take n xs) i 0 < 256
 take_bytes xs zero i are = omega arith
 take_bytes [] (suc n) i are = omega arith
 take_bytes (x ∷ xs) (suc n) zero are = are 0
@@ -58,10 +58,10 @@ take_bytes (x ∷ xs) (suc n) (suc i) are = take_bytes xs n i (λ k. are (suc k)
 part_bytes : (text : List ℕ) (n m : ℕ) → AreBytes text → AreBytes (take n (drop m text))
 part_bytes text n m are = λ i. take_bytes (drop m text) n i (λ k. rw (get_or-drop m text k 0) (are (m + k)))
 
-part_short : (text : List ℕ) (m : ℕ) → length (take 8 (drop m text)) ≤ 8
+pub part_short : (text : List ℕ) (m : ℕ) → length (take 8 (drop m text)) ≤ 8
 part_short text m = grind (arith, common_steps)
 
-part_at : (text : List ℕ) (n m i : ℕ) → i < n → get_or (take n (drop m text)) i 0 ≡ get_or text (m + i) 0
+pub part_at : (text : List ℕ) (n m i : ℕ) → i < n → get_or (take n (drop m text)) i 0 ≡ get_or text (m + i) 0
 part_at text n m i within = get_or-take n (drop m text) i 0 within ∙ get_or-drop m text i 0
 
 pub byte_is : {words : List ℕ} {fact : Option Fact} → Spells words fact → (i b : ℕ) → i < ROW_TEXT → ((bytes : List ℕ) → length bytes ≤ 8 → AreBytes bytes → get_or words (4 + i / 8) 0 ≡ word_of bytes → b ≡ get_or bytes (i % 8) 0) → b ≡ get_or (fields_of fact).text i 0
@@ -81,7 +81,7 @@ set_text text room i v within is before =
 pub next_byte : {words : List ℕ} {fact : Option Fact} → Spells words fact → (room : List ℕ) (i b : ℕ) → length room ≡ ROW_TEXT → i < ROW_TEXT → TellsByte words i b → ((k : ℕ) → k < i → get_or room k 0 ≡ get_or (fields_of fact).text k 0) → (k : ℕ) → k < i + 1 → get_or (set room i b) k 0 ≡ get_or (fields_of fact).text k 0
 next_byte {fact = fact} s room i b size within tells before = set_text (fields_of fact).text room i b (omega arith) (byte_is s i b within tells) before
 
-front_is : (text room : List ℕ) → length text ≤ length room → ((k : ℕ) → k < length text → get_or room k 0 ≡ get_or text k 0) → take (length text) room ≡ text
+pub front_is : (text room : List ℕ) → length text ≤ length room → ((k : ℕ) → k < length text → get_or room k 0 ≡ get_or text k 0) → take (length text) room ≡ text
 front_is [] room within same = refl
 front_is (x ∷ xs) [] within same = absurd (omega arith)
 front_is (x ∷ xs) (y ∷ ys) within same =

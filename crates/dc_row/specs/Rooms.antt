@@ -1,5 +1,5 @@
 -- A text in a room of fixed size, with zeros after it.
-use Rattle.std.specs.Prelude.{ℕ, List, ◌≡◌, ◌-◌, ◌≤◌, ◌++◌, length, take, replicate}
+use Rattle.std.specs.Prelude.{ℕ, List, ◌≡◌, ◌≢◌, ◌-◌, ◌<◌, ◌≤◌, ◌↔◌, ◌++◌, length, take, replicate, slice_index}
 use Rattle.std.proofs.Common.{length-take-le, subst, sym}
 use Rattle.dc_row.specs.declared.text.RowText.TheInside.{Inside}
 use Rattle.dc_row.specs.declared.TheConstants.{ROW_TEXT}
@@ -23,3 +23,7 @@ in_room-text_in t p = λ i. record {
   room = p.zeros i;
   len = length-take-le t.len t.room (subst (λ (n : ℕ). t.len ≤ n) (sym p.size) p.fits) i;
 }
+
+-- the bytes before a place, and only they, aren't zero
+abbrev pub EndsAt : List ℕ → ℕ → Type 0
+EndsAt room len = (i : ℕ) → i < ROW_TEXT → (i < len) ↔ (slice_index room i ≢ 0)

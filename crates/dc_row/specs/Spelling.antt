@@ -75,6 +75,10 @@ pub record Spells (words : List ℕ) (fact : Option Fact) : Type 0 where
   pub bytes : AreBytes (fields_of fact).text
   pub spelled : IsSpelled words (fields_of fact)
 
+-- the words spell the text of a link
+abbrev pub SpellsText : List ℕ → Type 0
+SpellsText words = (n : ℕ) × (text : List ℕ) × Spells words (Some (Reads n text))
+
 -- whatever row the words spell
 abbrev pub TellsRow : List ℕ → Option (Option Fact) → Type 0
 TellsRow words result = (fact : Option Fact) → Spells words fact → result ≡ Some fact

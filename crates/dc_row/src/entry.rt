@@ -5,11 +5,12 @@ ghost use Rattle.dc_names.specs.Words.{AreBytes};
 ghost use Rattle.dc_plain.specs.Facts.{Target};
 ghost use Rattle.dc_plain.specs.Facts.Fact.{Leads, Reads};
 ghost use Rattle.dc_plain.specs.KeysShown.{key_shown};
-ghost use Rattle.dc_row.specs.Spelling.{Spells, TellsOf, TellsText, has_spelling, fields, IsSpelled};
+ghost use Rattle.dc_row.specs.Rooms.{EndsAt};
+ghost use Rattle.dc_row.specs.Spelling.{Spells, SpellsText, TellsOf, TellsText, has_spelling, fields, IsSpelled};
 ghost use Rattle.dc_row.specs.declared.TheConstants.{ROW_WORDS, ROW_TEXT};
 
-use crate::reading::text_in;
-use crate::writing::{can_be_text, is_numbered, kind_code, target_number, text_word};
+use crate::reading::{room_of, spelled_text};
+use crate::writing::{is_numbered, kind_code, target_number, text_word};
 use crate::{ROW_TEXT, ROW_WORDS, RowText, number, target};
 use dc_names::Kind;
 use dc_plain::{Key, Label};
@@ -25,7 +26,7 @@ pub fn tells_of(words: &[u64], key: Key<'_>) -> bool
         return false;
     }
     match key.label {
-        Label::Text => text_of(words).is_some(),
+        Label::Text => is_text(words),
         Label::Name(_) | Label::DotDot => is_entry_of(words, key),
     }
 }
@@ -37,16 +38,38 @@ pub fn text_of(words: &[u64]) -> Option<RowText>
         Spells words.now (Some (Reads (slice_index words.now 2) text))) }
     ensures any { TellsText words.now result }
 {
-    if words.len() != ROW_WORDS {
-        return None;
-    }
-    let text = text_in(words)?;
-    let number = number(words);
-    if can_be_text(number, &text) && is_spelled(words, 2, 0, number, 0, text.bytes()) {
-        Some(text)
+    if words.len() == ROW_WORDS && is_text(words) {
+        Some(spelled_text(words))
     } else {
         None
     }
+}
+
+/// Whether the words spell the text of a link.
+#[inline(always)]
+fn is_text(words: &[u64]) -> bool
+    requires size { length words.now ≡ ROW_WORDS }
+    ensures { IsTrue result ↔ SpellsText words.now }
+{
+    let len = words[1] / 256;
+    if words[1] % 256 != 2 || len == 0 || len > ROW_TEXT as u64 || words[2] == 0 || words[3] != 0 {
+        return false;
+    }
+    // No component of so short a text is too long, and so no other fault than a zero byte is left.
+    ends_at(&room_of(words), len as u8)
+}
+
+/// Whether the bytes of a room are a text of this length, without a zero byte, and zeros after it. It
+/// looks at all bytes, so that many are looked at at a time.
+#[inline(never)]
+fn ends_at(room: &[u8; ROW_TEXT], len: u8) -> bool
+    ensures { IsTrue result ↔ EndsAt room.now len }
+{
+    let mut wrong = false;
+    for i in 0..ROW_TEXT {
+        wrong |= ((i as u8) < len) == (room[i] == 0);
+    }
+    !wrong
 }
 
 /// Whether the words spell an entry of a key, wherever it leads.

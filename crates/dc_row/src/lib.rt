@@ -17,7 +17,7 @@ pub use laws::{
     counts_tell_nothing, empty_row_spells_nothing, rows_have_one_spelling,
     words_have_the_fact_they_spell, words_spell_one_row,
 };
-pub use reading::{decode, target, text_in};
+pub use reading::{decode, spelled_text, target, text_in};
 pub use row::{Row, RowLabel};
 pub use text::RowText;
 pub use writing::encode;

@@ -1,9 +1,10 @@
-ghost use Rattle.std.specs.Prelude.{◌≡◌, ◌<◌, Option, Some, IfSome};
+ghost use Rattle.std.specs.Prelude.{◌≡◌, ◌<◌, length, Option, Some, IfSome};
 ghost use Rattle.std.specs.Option.{option_map};
 ghost use Rattle.dc_plain.specs.Facts.{Fact};
+ghost use Rattle.dc_row.specs.Decoding.{IsRoomOf};
 ghost use Rattle.dc_row.specs.Rows.{row_shown, label_shown};
-ghost use Rattle.dc_row.specs.Spelling.{Spells, TellsRow, TellsLabel, TellsTarget, TellsByte, fields_of};
-ghost use Rattle.dc_row.specs.declared.TheConstants.{ROW_TEXT};
+ghost use Rattle.dc_row.specs.Spelling.{Spells, SpellsText, TellsRow, TellsLabel, TellsTarget, TellsText, TellsByte, fields_of};
+ghost use Rattle.dc_row.specs.declared.TheConstants.{ROW_WORDS, ROW_TEXT};
 
 use crate::fields::word;
 use crate::{
@@ -86,4 +87,26 @@ fn byte(words: &[u64], at: usize) -> u8
     ensures { TellsByte words.now at result }
 {
     unpack(word(words, 4 + at / 8))[at % 8]
+}
+
+/// The text of the link that the words spell.
+#[inline(always)]
+pub fn spelled_text(words: &[u64]) -> RowText
+    requires spelled { SpellsText words.now }
+    ensures told { TellsText words.now (Some result) }
+{
+    RowText::from_room(room_of(words), length(words) as usize)
+}
+
+/// All the bytes that the words have for a text.
+#[inline(always)]
+pub(crate) fn room_of(words: &[u64]) -> [u8; ROW_TEXT]
+    requires size { length words.now ≡ ROW_WORDS }
+    ensures { IsRoomOf words.now result }
+{
+    let mut room = [0; ROW_TEXT];
+    for i in 0..ROW_TEXT / 8 {
+        room[8 * i..8 * i + 8].copy_from_slice(&unpack(words[4 + i]));
+    }
+    room
 }

@@ -1,7 +1,8 @@
 use crate::{
     EMPTY_ROW, ROW_WORDS, Row, RowLabel, RowText, counts_tell_nothing, decode,
-    empty_row_spells_nothing, encode, kind, length, number, rows_have_one_spelling, tag, target,
-    tells_of, text_in, text_of, value, words_have_the_fact_they_spell, words_spell_one_row,
+    empty_row_spells_nothing, encode, kind, length, number, rows_have_one_spelling, spelled_text,
+    tag, target, tells_of, text_in, text_of, value, words_have_the_fact_they_spell,
+    words_spell_one_row,
 };
 use dc_names::{Kind, Name};
 use dc_plain::{Key, Label};
@@ -107,15 +108,48 @@ fn finds_texts_by_their_words(rt: HostRuntime) {
         let label = Label::Text;
         assert_eq!(rt; tells_of(&EXAMPLES[at], Key { number, label }), want);
     }
-    assert_eq!(rt; text_of(&EXAMPLES[3]), RowText::of(b"./d"));
     assert_eq!(rt; text_in(&EXAMPLES[0]), RowText::of(b"usr"));
+    assert_eq!(rt; text_sought(&EXAMPLES[3][..7]), None);
     assert_eq!(rt; text_of(&EXAMPLES[3][..7]), None);
-    for at in [0, 1, 2, 4] {
-        assert_eq!(rt; text_of(&EXAMPLES[at]), None);
+}
+
+/// The text of link 4, if the words spell it.
+fn text_sought(words: &[u64]) -> Option<RowText> {
+    let label = Label::Text;
+    if tells_of(words, Key { number: 4, label }) {
+        Some(spelled_text(words))
+    } else {
+        None
     }
-    let mut words = EXAMPLES[3];
-    words[5] = 1;
-    assert_eq!(rt; text_of(&words), None);
+}
+
+#[test]
+fn reads_texts_from_their_words(rt: HostRuntime) {
+    const FULL: u64 = 0x6161616161616161;
+    let cases: [([u64; 5], Option<&[u8]>); 13] = [
+        ([2 + 256 * 3, 6565678, 0, 0, 0], Some(b"./d")),
+        ([2 + 256, 47, 0, 0, 0], Some(b"/")),
+        ([2 + 256 * 9, FULL, 97, 0, 0], Some(&[b'a'; 9])),
+        ([2 + 256 * 32, FULL, FULL, FULL, FULL], Some(&[b'a'; 32])),
+        // No byte, more than a row has room for, a zero byte in the text.
+        ([2, 0, 0, 0, 0], None),
+        ([2 + 256 * 33, FULL, FULL, FULL, FULL], None),
+        ([2 + 256 * 3, 6553646, 0, 0, 0], None),
+        ([2 + 256 * 32, FULL, FULL, FULL, FULL >> 8], None),
+        // A byte after the text, at once or later.
+        ([2 + 256 * 2, 6565678, 0, 0, 0], None),
+        ([2 + 256 * 3, 6565678, 0, 0, 1 << 56], None),
+        // An entry, a text of some kind, and one with a higher byte in its head.
+        ([1 + 256 * 3, 6565678, 0, 0, 0], None),
+        ([2 + 256 * 3 + (1 << 24), 6565678, 0, 0, 0], None),
+        ([2 + 256 * 3 + (1 << 63), 6565678, 0, 0, 0], None),
+    ];
+    for ([head, a, b, c, d], want) in cases {
+        let text = text_sought(&[7, head, 4, 0, a, b, c, d]);
+        assert_eq!(rt; text, want.and_then(RowText::of), "at {head}");
+        assert_eq!(rt; text_of(&[7, head, 4, 0, a, b, c, d]), text, "at {head}");
+        assert_eq!(rt; text_sought(&[7, head, 4, 1, a, b, c, d]), None);
+    }
 }
 
 #[test]

@@ -1,4 +1,5 @@
-ghost use Rattle.std.specs.Prelude.{◌≡◌, ◌≤◌, ◌<◌, ℕ, List, length, IfSome, IfNone};
+ghost use Rattle.std.specs.Prelude.{◌≡◌, ◌≤◌, ◌<◌, ℕ, List, length, take, IfSome, IfNone};
+ghost use Rattle.dc_row.specs.Rooms.{padded};
 ghost use Rattle.dc_row.specs.declared.TheConstants.{ROW_TEXT};
 
 use crate::ROW_TEXT;
@@ -42,6 +43,16 @@ impl RowText {
             room,
             len: bytes.len(),
         })
+    }
+
+    /// The first bytes of a room that has zeros after them.
+    #[inline(always)]
+    pub(crate) fn from_room(room: [u8; ROW_TEXT], len: usize) -> RowText
+        requires fits { len ≤ ROW_TEXT }
+        requires zeros { padded (take len room) ≡ room }
+        ensures { result ≡ take len room }
+    {
+        RowText { room, len }
     }
 
     /// The bytes that stand in the room.

@@ -56,7 +56,7 @@ fn has_spelling(row: &Row) -> bool
 }
 
 /// Whether a text can stand in a row as that of a link.
-pub(crate) fn can_be_text(number: u64, text: &RowText) -> bool
+fn can_be_text(number: u64, text: &RowText) -> bool
     ensures { result ≡ has_spelling (Some (Reads number text.now)) }
 {
     number != 0 && parse(text.bytes()).is_ok()

@@ -11,7 +11,7 @@ use Rattle.dc_row.specs.Decoding.{fact_in, SpelledIsRead}
 use Rattle.dc_row.specs.Spelling.{Spells, TellsOf, has_spelling}
 use Rattle.dc_resolve.specs.Needs.{IsUntold}
 use Rattle.dc_walk.specs.Uses.{facts_of}
-use Rattle.dc_walk.specs.Finds.{fact_or_none, fact_shown, no_use, use_shown, told_in, IsSpelled, AllSpelled, AllInside, AllBelow, IsTold, IsStanding}
+use Rattle.dc_walk.specs.Finds.{fact_or_none, fact_shown, no_use, use_shown, told_in, IsSpelled, AllSpelled, AllInside, AllBelow, IsBelow, IsTold, IsStanding}
 use Rattle.dc_walk.specs.declared.used.Used.{Used}
 use Rattle.dc_walk.proofs.Told.{same_test, same_itself, told_last, new_same}
 
@@ -104,25 +104,43 @@ none_stands (u ∷ us) key all others =
     untold_past (fact_shown u) (facts_of (map use_shown us)) key.number key.label (λ same. others 0 (omega arith) (record { fact = fact_shown u; about = same; spelled = all.0 }))
     (none_stands us key all.1 (λ j h. others (suc j) (omega arith)))
 
--- a number above those that the used rows tell of
-below_at : (highest : ℕ) (us : List Used) (j : ℕ) → j < length us → AllBelow highest us → get_or (get_or us j no_use).words 2 0 ≤ highest
+-- an entry of a directory above those that the used rows tell of
+below_at : (highest : ℕ) (us : List Used) (j : ℕ) → j < length us → AllBelow highest us → IsBelow highest (fact_shown (get_or us j no_use))
 below_at highest [] j l all = absurd (omega arith)
 below_at highest (v ∷ us) zero l all = all.0
 below_at highest (v ∷ us) (suc j) l all = below_at highest us j (omega arith) all.1
 
-number_of : (words : List ℕ) (fact : Fact) → Spells words (Some fact) → get_or words 2 0 ≡ (key_of fact).number
-number_of words (Leads d label target) s = s.spelled 2 (omega arith) (omega arith)
-number_of words (Reads n text) s = s.spelled 2 (omega arith) (omega arith)
+no_fact_above : (key : Key) (highest : ℕ) (fact : Fact) → key_of fact ≡ key → IsBelow highest fact → highest < key.number → key.label ≢ Text → ⊥
+no_fact_above key highest (Leads d label target) about below above entry =
+    let is : d ≡ key.number = ap (λ (k : Key). k.number) about in absurd (omega arith)
+no_fact_above key highest (Reads n text) about below above entry = entry (sym (ap (λ (k : Key). k.label) about))
 
-pub none_above : (us : List Used) (key : Key) (highest : ℕ) → AllSpelled us → AllBelow highest us → highest < key.number → IsUntold (told_in us) key.number key.label
-none_above us key highest all below above = none_stands us key all (λ j l tells.
-    let is : get_or (get_or us j no_use).words 2 0 ≡ key.number = number_of _ tells.fact tells.spelled ∙ ap (λ (k : Key). k.number) tells.about in
-    let within = below_at highest us j l below in
-    absurd (omega arith))
+pub none_above : SpelledIsRead → (us : List Used) (key : Key) (highest : ℕ) → AllSpelled us → AllBelow highest us → highest < key.number → key.label ≢ Text → IsUntold (told_in us) key.number key.label
+none_above read us key highest all below above entry = none_stands us key all (λ j l tells.
+    no_fact_above key highest tells.fact tells.about (subst (IsBelow highest) (shown_so read (get_or us j no_use).words tells.fact tells.spelled) (below_at highest us j l below)) above entry)
 
-pub below_more : (highest h : ℕ) (us : List Used) (u : Used) → AllBelow highest us → highest ≤ h → get_or u.words 2 0 ≤ h → AllBelow h (us ++ u ∷ [])
+higher : (highest h : ℕ) (fact : Fact) → highest ≤ h → IsBelow highest fact → IsBelow h fact
+higher highest h (Leads d label target) up is = omega arith
+higher highest h (Reads n text) up is = tt
+
+pub below_more : (highest h : ℕ) (us : List Used) (u : Used) → AllBelow highest us → highest ≤ h → IsBelow h (fact_shown u) → AllBelow h (us ++ u ∷ [])
 below_more highest h [] u all up is = (is, tt)
-below_more highest h (v ∷ us) u all up is = let first = all.0 in (omega arith, below_more highest h us u all.1 up is)
+below_more highest h (v ∷ us) u all up is = (higher highest h (fact_shown v) up all.0, below_more highest h us u all.1 up is)
+
+-- the fact of a key is below what is as high as the key, if it is one of an entry
+pub key_below : (key : Key) (h : ℕ) (shown fact : Fact) → shown ≡ fact → key_of fact ≡ key → (key.label ≢ Text → key.number ≤ h) → has_spelling (Some fact) ≡ true → IsBelow h shown
+key_below key h shown fact same about up can = subst (IsBelow h) (sym same) (fact_below fact about can)
+  where
+    not_text : (d : ℕ) (l : Label) (target : Option Target) → has_spelling (Some (Leads d l target)) ≡ true → l ≢ Text
+    not_text d (Entry name) target can = λ e. absurd cc
+    not_text d Parent target can = λ e. absurd cc
+    not_text d Text target can = λ e. absurd cc
+
+    fact_below : (fact : Fact) → key_of fact ≡ key → has_spelling (Some fact) ≡ true → IsBelow h fact
+    fact_below (Leads d label target) about can =
+        let is : d ≡ key.number = ap (λ (k : Key). k.number) about in
+        let within = up (λ e. not_text d label target can (ap (λ (k : Key). k.label) about ∙ e)) in omega arith
+    fact_below (Reads n text) about can = tt
 
 -- a row that was just used tells of its key
 pub stands_last : (us : List Used) (new : Used) (key : Key) (fact : Fact) → fact_shown new ≡ fact → key_of fact ≡ key → Spells new.words (Some fact) → IsUntold (told_in us) key.number key.label → IsStanding (us ++ new ∷ []) key (length us)

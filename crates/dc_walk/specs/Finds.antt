@@ -23,10 +23,6 @@ use_shown u = record { row = u.row; count = get_or u.words 0 0; place = u.place;
 abbrev pub no_use : Used
 no_use = record { row = 0; place = 0; words = [] }
 
--- the words spell the text of a link
-abbrev pub SpellsText : List ℕ → Type 0
-SpellsText words = (n : ℕ) × (text : List ℕ) × Spells words (Some (Reads n text))
-
 -- the words of a row spell its fact
 abbrev pub IsSpelled : Used → Type 0
 IsSpelled u = Spells u.words (Some (fact_shown u))
@@ -38,9 +34,14 @@ AllSpelled used = AllByRecursion IsSpelled used
 abbrev pub AllInside : ℕ → List Used → Type 0
 AllInside rows used = AllByRecursion (λ u. u.row < rows) used
 
--- no row that was used tells of a number above
+-- an entry of no directory above a number
+abbrev pub IsBelow : ℕ → Fact → Type 0
+IsBelow highest (Leads d label target) = d ≤ highest
+IsBelow highest (Reads n text) = Unit {0}
+
+-- no row that was used tells of an entry of a directory above it
 abbrev pub AllBelow : ℕ → List Used → Type 0
-AllBelow highest used = AllByRecursion (λ u. get_or u.words 2 0 ≤ highest) used
+AllBelow highest used = AllByRecursion (λ u. IsBelow highest (fact_shown u)) used
 
 abbrev pub told_in : List Used → Teller
 told_in used = told_by (facts_of (map use_shown used))

@@ -1,6 +1,6 @@
 //! The questions of a walk, answered by rows.
 
-ghost use Rattle.std.specs.Prelude.{◌≡◌, ◌≢◌, None, true, is_some, IfOk, OnOk, OnErr};
+ghost use Rattle.std.specs.Prelude.{◌≡◌, ◌≢◌, ◌<◌, None, true, is_some, IfOk, OnOk, OnErr};
 ghost use Rattle.dc_names.specs.Hash.{hash_of};
 ghost use Rattle.dc_names.specs.Names.{part_shown};
 ghost use Rattle.dc_names.specs.Paths.Part.{Dot};
@@ -24,6 +24,7 @@ use dc_index::bucket_at;
 use dc_names::{Kind, Part, hash};
 use dc_plain::{Key, Label};
 use dc_resolve::{Finder, Stop};
+use dc_row::words_have_the_fact_they_spell;
 
 /// The key under which a part is looked up in a directory.
 pub(crate) fn key_of<'a>(number: u64, part: Part<'a>) -> Key<'a>
@@ -54,6 +55,17 @@ pub(crate) fn missing(key: Key<'_>, answered: u64) -> Why
     match key.label {
         Label::Text => Why::Link,
         Label::Name(_) | Label::DotDot => Why::Miss(answered),
+    }
+}
+
+/// Whether a key is of an entry of a directory with a number above this one.
+fn is_above(key: Key<'_>, highest: u64) -> bool
+    ensures above { result ≡ true → highest < (key_shown key.entry).number }
+    ensures entry { result ≡ true → (key_shown key.entry).label ≢ Text }
+{
+    match key.label {
+        Label::Text => false,
+        Label::Name(_) | Label::DotDot => key.number > highest,
     }
 }
 
@@ -106,8 +118,9 @@ fn told(rows: &mut Rows<'_>, key: Key<'_>, hash: u64) -> Result<usize, Stop>
     if rows.why.is_some() {
         return Err(Stop);
     }
-    // Most paths go down to directories that were made later: no row was used for one of these.
-    if key.number > rows.highest {
+    // Most paths go down to directories that were made later: no row was used for an entry of these.
+    if is_above(key, rows.highest) {
+        words_have_the_fact_they_spell();
         return ask(rows, key, hash);
     }
     match standing(rows.used.as_slice(), key) {

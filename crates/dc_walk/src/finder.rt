@@ -9,7 +9,8 @@ use dc_plain::Follow;
 use dc_table::{Pass, Shared};
 
 /// Answers the questions of a look-up from the rows of the table. It knows whether a step was made,
-/// how many rows were noted, the highest number that a used row tells of, and why it gave up.
+/// how many rows were noted, the highest number of a directory of which a used row tells an entry,
+/// and why it gave up.
 #[derive(Drop)]
 pub(crate) struct Rows<'a> {
     pub shared: &'a Shared,

@@ -1,11 +1,10 @@
 //! The text of a link that a walk follows.
 
 ghost use Rattle.std.specs.Prelude.{Some};
-ghost use Rattle.dc_row.specs.Spelling.{TellsText};
-ghost use Rattle.dc_walk.specs.Finds.{SpellsText};
+ghost use Rattle.dc_row.specs.Spelling.{SpellsText, TellsText};
 
 use dc_resolve::Bytes;
-use dc_row::{RowText, text_in};
+use dc_row::{RowText, spelled_text};
 
 /// The text of a link, by value, since it is followed after other rows were used.
 #[derive(Debug, Drop)]
@@ -15,13 +14,13 @@ pub(crate) struct LinkText {
 
 impl LinkText {
     /// The text that the words of a row spell, which were tested before.
+    #[inline(always)]
     pub(crate) fn of(words: &[u64]) -> LinkText
         requires spelled { SpellsText words.now }
         ensures told { TellsText words.now (Some result.text) }
     {
-        match text_in(words) {
-            Some(text) => LinkText { text },
-            None => unreachable!(),
+        LinkText {
+            text: spelled_text(words),
         }
     }
 }

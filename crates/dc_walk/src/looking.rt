@@ -1,7 +1,8 @@
 //! A look at one row for what it tells of a key.
 
-ghost use Rattle.std.specs.Prelude.{◌≡◌, ◌<◌, None};
+ghost use Rattle.std.specs.Prelude.{◌≡◌, ◌≢◌, ◌<◌, ◌≤◌, None};
 ghost use Rattle.arrayvec.specs.ArrayVec.{array_vec_len};
+ghost use Rattle.dc_plain.specs.Facts.Label.{Text};
 ghost use Rattle.dc_plain.specs.KeysShown.{key_shown};
 ghost use Rattle.dc_resolve.specs.Needs.{IsUntold};
 ghost use Rattle.dc_table.specs.Passes.{share};
@@ -13,8 +14,8 @@ ghost use Rattle.dc_walk.specs.declared.TheConstants.{BUCKET_ROWS, MOST_USED};
 use crate::finder::Rows;
 use crate::probing::probe;
 use crate::used::Used;
-use dc_plain::{Call, Key};
-use dc_row::{number, tells_of, words_have_the_fact_they_spell};
+use dc_plain::{Call, Key, Label};
+use dc_row::{tells_of, words_have_the_fact_they_spell};
 
 /// What a row answers.
 pub(crate) enum Seen {
@@ -24,6 +25,17 @@ pub(crate) enum Seen {
     Other,
     /// It tells of the key.
     Tells,
+}
+
+/// The highest number of a directory of which an entry was told, once a key is told of.
+fn highest_with(highest: u64, key: Key<'_>) -> u64
+    ensures still { highest ≤ result }
+    ensures entry { (key_shown key.entry).label ≢ Text → (key_shown key.entry).number ≤ result }
+{
+    match key.label {
+        Label::Text => highest,
+        Label::Name(_) | Label::DotDot => highest.max(key.number),
+    }
 }
 
 /// Looks at a row for what it tells of a key. Where it does it is the last of the used ones. So many
@@ -58,7 +70,7 @@ pub(crate) fn look_at(rows: &mut Rows<'_>, row: u64, key: Key<'_>, before: u64) 
     if !tells_of(&words, key) {
         return Seen::Other;
     }
-    rows.highest = rows.highest.max(number(&words));
+    rows.highest = highest_with(rows.highest, key);
     rows.used.push(Used { row, place, words });
     Seen::Tells
 }

@@ -30,8 +30,8 @@ come_to (walks.Found number kind) base path how false goes answer stays = sym (a
 come_to (walks.Refused refusal) base path how false goes answer stays = sym (answer (told_by []) (nothing_stays false false refl))
 come_to walks.Stopped base path how false goes answer stays = absurd (cc)
 
-pub walk-requires-clause-may : goal.walk-requires-clause-may
-walk-requires-clause-may c = λ f on n label need. absurd (never (walk (told_by []) c.args.base (path_in c.args.path.bytes.now) c.args.follow) c.requires (need (told_by []) (nothing_stays f.stopped false (sym on)) (untold n label)))
+pub walk-requires : goal.walk-requires
+walk-requires c = record { may = λ f on n label need. absurd (never (walk (told_by []) c.args.base (path_in c.args.path.bytes.now) c.args.follow) c.requires (need (told_by []) (nothing_stays f.stopped false (sym on)) (untold n label))) }
 
 pub returns : goal.returns
 returns c = come_to c.walk.result c.args.base (path_in c.args.path.bytes.now) c.args.follow _ c.walk.ensures.becomes c.walk.ensures.answer c.walk.ensures.stopped
