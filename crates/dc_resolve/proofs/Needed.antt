@@ -7,7 +7,7 @@ use Rattle.dc_names.specs.Paths.Part.{Name, Dot, DotDot}
 use Rattle.dc_plain.specs.declared.call.Follow.{Follow}
 use Rattle.dc_plain.specs.Facts.{Target, Teller}
 use Rattle.dc_plain.specs.Facts.Label.{Text}
-use Rattle.dc_plain.specs.Resolution.{Outcome, at_part, is_directory, met_by, over_parts, resolve, root}
+use Rattle.dc_plain.specs.Resolution.{Outcome, at_part, is_directory, keeps_link, met_by, over_parts, resolve, root}
 use Rattle.dc_plain.specs.Tellers.{Extends}
 use Rattle.dc_resolve.specs.Asked.{label_of}
 use Rattle.dc_resolve.specs.Needs.{asks, IsUntold, MayAsk, MayAskFirst, MayAskOver, MayAskThrough}
@@ -15,7 +15,7 @@ use Rattle.dc_resolve.specs.declared.finder.Finder.{Ghosts}
 use Rattle.dc_resolve.specs.Walks.{following}
 use Rattle.dc_resolve.proofs.Following.{resolve_is, unfollowed, with_told}
 use Rattle.dc_resolve.proofs.Going.{told_still}
-use Rattle.dc_resolve.proofs.Passing.{last_of, CameTo, CameToLink}
+use Rattle.dc_resolve.proofs.Passing.{last_of, not_kept, CameTo, CameToLink}
 
 both : (a b : Bool) → (a && b) ≡ true → (a ≡ true) × (b ≡ true)
 both true b e = (refl, e)
@@ -77,21 +77,22 @@ module _ {F T : Type 0} (g : Ghosts F T) where
 
   -- the text of a link that must be followed
   pub text_of : {finder : F} (how : Follow) {links : ℕ} (slash : Bool) {is_last : Bool} (at : Target) {link : ℕ}
-      → ((f : F) → g.becomes f f) → MayAskThrough g finder how links slash at link is_last → 0 < links → g.may_ask finder link Text
-  text_of {finder = finder} how {links = links} slash at {link = link} stays may some =
-      may.2 finder (stays finder) link Text λ teller told none. unfollowed teller how links at link may.0 slash some none
+      → ((f : F) → g.becomes f f) → MayAskThrough g finder how links slash at link is_last → (is_last && not slash && keeps_link how) ≡ false → 0 < links → g.may_ask finder link Text
+  text_of {finder = finder} how {links = links} slash at {link = link} stays may follows some =
+      may.2 finder (stays finder) link Text λ teller told none. not_kept teller how links at link may.0 slash may.1 follows ∙ unfollowed teller how links at link may.0 slash some none
 
   -- and what the text asks
   pub text_over : {finder f : F} (how : Follow) {links : ℕ} (slash : Bool) {is_last ends : Bool} (at : Target) {base : Target} {link : ℕ} {text bytes : List ℕ}
       → ((a b c : F) → g.becomes a b → g.becomes b c → g.becomes a c) → ((a b : F) → g.becomes a b → Extends (g.said a) (g.said b))
-      → MayAskThrough g finder how links slash at link is_last → g.becomes finder f → 0 < links → (g.said f).text link ≡ Some text → bytes ≡ text
+      → MayAskThrough g finder how links slash at link is_last → g.becomes finder f → (is_last && not slash && keeps_link how) ≡ false → 0 < links → (g.said f).text link ≡ Some text → bytes ≡ text
       → base ≡ (if begins_with_slash text then root else at) → ends ≡ (slash || is_last && has_end_slash text) → MayAskOver g f how (links - 1) ends base bytes is_last
-  text_over {finder = finder} {f = f} how {links = links} slash at {link = link} {text = text} goes_on keeps may on some told same begins slashed =
+  text_over {finder = finder} {f = f} how {links = links} slash at {link = link} {text = text} goes_on keeps may on follows some told same begins slashed =
       let below = may.0 in (
         below,
         may.1,
         λ later next n label need. may.2 later (goes_on finder f later on next) n label λ teller more none.
-            with_told teller how links at link below slash text some ((told_still (keeps f later next) more).text link text told)
+            not_kept teller how links at link below slash may.1 follows
+            ∙ with_told teller how links at link below slash text some ((told_still (keeps f later next) more).text link text told)
             ∙ (λ i. resolve teller how (links - 1) (sym begins i) (parts_of (sym same i) ++ below) ((ap (λ b. slash || b && has_end_slash text) may.1 ∙ sym slashed) i))
             ∙ need teller more none,
       )

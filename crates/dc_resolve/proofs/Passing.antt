@@ -1,5 +1,5 @@
 -- Walks over bytes, whatever is left below them.
-use Rattle.std.proofs.Common.{◌≡◌, ℕ, ◌<◌, ◌-◌, List, [], ◌∷◌, ◌++◌, ◌&&◌, ◌||◌, Bool, true, false, not, ControlFlow, Continue, Break, Option, Some, None, Result, Ok, Err, IfOk, length, if◌then◌else◌, refl, ap, sym, subst, ◌∙◌, arith, rules}
+use Rattle.std.proofs.Common.{◌≡◌, ℕ, ◌<◌, ◌-◌, List, [], ◌∷◌, ◌++◌, ◌&&◌, ◌||◌, Bool, true, false, not, Option, Some, None, Result, Ok, Err, IfOk, length, if◌then◌else◌, refl, ap, sym, subst, ◌∙◌, arith, rules}
 use Rattle.std.proofs.lemmas.Bool.Decides.{nat_tests}
 use Rattle.std.proofs.lemmas.List.{append-nil}
 use Rattle.std.specs.Borrow.{Bor}
@@ -7,19 +7,19 @@ use Rattle.dc_names.specs.Bytes.{is_empty}
 use Rattle.dc_names.specs.Paths.{Part, parts_of, begins_with_slash, has_end_slash}
 use Rattle.dc_plain.specs.declared.call.Follow.{Follow}
 use Rattle.dc_plain.specs.Facts.{Target, Teller}
-use Rattle.dc_plain.specs.Resolution.{Outcome, ending, keeps_link, over_parts, resolve, root, with_met}
+use Rattle.dc_plain.specs.Resolution.{Met, Outcome, ending, keeps_link, over_parts, resolve, root, with_met}
+use Rattle.dc_plain.specs.Resolution.Met.{Goes, Stops, Meets}
 use Rattle.dc_plain.specs.Resolution.Outcome.{Found}
 use Rattle.dc_plain.specs.Tellers.{Extends}
-use Rattle.dc_resolve.specs.Steps.{end_shown, goes_on, met_shown, IsTakenFrom, TakesFirst}
-use Rattle.dc_resolve.specs.Walks.{following, outcome_after, IfThrough, LeadsOver, LeadsThrough, LeadsTo}
+use Rattle.dc_resolve.specs.Steps.{end_shown, met_shown, IsTakenFrom, TakesFirst}
+use Rattle.dc_resolve.specs.Walks.{at_link, following, outcome_after, IfThrough, LeadsOver, LeadsThrough, LeadsTo}
 use Rattle.dc_resolve.specs.declared.outcome.Reached.{Reached}
-use Rattle.dc_resolve.specs.declared.outcome.Step.{Step}
-use Rattle.dc_resolve.specs.declared.outcome.Step.TheVariants.{AtLink}
-use Rattle.dc_resolve.specs.declared.outcome.Step.TheVariants as steps
 use Rattle.dc_resolve.specs.declared.outcome.Way.{Way}
 use Rattle.dc_resolve.specs.declared.outcome.Way.TheVariants.{Ended, Through}
 use Rattle.dc_resolve.specs.declared.outcome.End.{End}
 use Rattle.dc_resolve.specs.declared.outcome.End.TheVariants as ends
+use Rattle.dc_names.specs.declared.kind.Kind.TheVariants.{Link}
+use Rattle.dc_names.specs.declared.refusal.Refusal.{Refusal}
 use Rattle.dc_names.specs.declared.refusal.Refusal.TheVariants.{TooManyLinks}
 use Rattle.dc_resolve.proofs.Following.{resolve_is, too_many, with_told}
 use Rattle.dc_resolve.proofs.Going.{told_still}
@@ -35,25 +35,17 @@ pub from_first : {said : Teller} {place : Target} {bytes : List ℕ} {met : Opti
     → TakesFirst said place bytes met → met ≡ Some (reached, after) → IsTakenFrom said place bytes after.now reached
 from_first {said = said} {place = place} {bytes = bytes} takes is = subst (TakesFirst said place bytes) is takes
 
--- where a walk goes from a place by what its next part leads to, with so many bytes left after it
-abbrev pub GoesAfter : Follow → Bool → Bool → Target → List ℕ → Reached → ControlFlow Step Target → Type 0
-GoesAfter how slash is_last place after reached flow = (go : Target → Option Outcome) → (at_link : Target → ℕ → Option Outcome)
-    → with_met (Some (met_shown reached)) go (λ link. if (is_last && is_empty (parts_of after)) && not slash && keeps_link how then Some (Found link) else at_link place link.0) ≡ goes_on flow go at_link
-
 -- the first part is taken
-over_first : {said teller : Teller} (how : Follow) (slash is_last : Bool) {place : Target} {bytes after : List ℕ} {reached : Reached} {flow to : ControlFlow Step Target} (links : ℕ)
-    → IsTakenFrom said place bytes after reached → GoesAfter how slash is_last place after reached flow → flow ≡ to → Extends said teller → (below : List Part) → is_empty below ≡ is_last
+over_first : {said teller : Teller} (how : Follow) (slash : Bool) {place : Target} {bytes after : List ℕ} {reached : Reached} {to : Met} (links : ℕ)
+    → IsTakenFrom said place bytes after reached → met_shown reached ≡ to → Extends said teller → (below : List Part)
     → resolve teller how links place (parts_of bytes ++ below) slash
-    ≡ goes_on to (λ next. resolve teller how links next (parts_of after ++ below) slash) (λ at link. following teller how links at link (parts_of after ++ below) slash)
-over_first {teller = teller} how slash is_last {place = place} {bytes = bytes} {after = after} links from goes is more below e =
+    ≡ with_met (Some to) (λ next. resolve teller how links next (parts_of after ++ below) slash)
+    (λ link. if is_empty (parts_of after ++ below) && not slash && keeps_link how then Some (Found link) else following teller how links place link.0 (parts_of after ++ below) slash)
+over_first {teller = teller} how slash {place = place} {bytes = bytes} {after = after} links from is more below =
     let rest = parts_of after ++ below in
-    let go : Target → Option Outcome = λ next. resolve teller how links next rest slash in
-    let at_link : Target → ℕ → Option Outcome = λ at link. following teller how links at link rest slash in
     resolve_is teller how links place (parts_of bytes ++ below) slash
     ∙ ap (λ parts. over_parts teller how (following teller how links) place (parts ++ below) slash) from.taken.first
-    ∙ (λ i. with_met (from.taken.leads teller more i) (λ next. sym (resolve_is teller how links next rest slash) i) (λ link. if last_of (parts_of after) below is_last e i && not slash && keeps_link how then Some (Found link) else following teller how links place link.0 rest slash))
-    ∙ goes go at_link
-    ∙ ap (λ f. goes_on f go at_link) is
+    ∙ (λ i. with_met ((from.taken.leads teller more ∙ ap Some is) i) (λ next. sym (resolve_is teller how links next rest slash) i) (λ link. if is_empty rest && not slash && keeps_link how then Some (Found link) else following teller how links place link.0 rest slash))
 
 module _ (how : Follow) (slash is_last : Bool) (links : ℕ) (start : Target) (bytes : List ℕ) where
   -- a walk came to a place, with so many links to follow and these bytes left
@@ -61,33 +53,33 @@ module _ (how : Follow) (slash is_last : Bool) (links : ℕ) (start : Target) (b
     pub above : (teller : Teller) → Extends said teller → (below : List Part) → is_empty below ≡ is_last
         → resolve teller how links start (parts_of bytes ++ below) slash ≡ resolve teller how left place (parts_of rest ++ below) slash
 
-  -- it came to a link there that must be followed
+  -- it came to a link there
   pub record CameToLink (said : Teller) (left : ℕ) (at : Target) (link : ℕ) (rest : List ℕ) : Type 0 where
     pub above : (teller : Teller) → Extends said teller → (below : List Part) → is_empty below ≡ is_last
-        → resolve teller how links start (parts_of bytes ++ below) slash ≡ following teller how left at link (parts_of rest ++ below) slash
+        → resolve teller how links start (parts_of bytes ++ below) slash ≡ at_link teller how left at link (parts_of rest ++ below) slash
 
 -- no part is left where none was taken
 pub none_first : (said : Teller) (place : Target) (bytes : List ℕ) {met : Option (Reached × Bor (List ℕ))} → TakesFirst said place bytes met → met ≡ None → parts_of bytes ≡ []
 none_first said place bytes takes is = subst (TakesFirst said place bytes) is takes
 
 module _ {how : Follow} {slash is_last : Bool} {links : ℕ} {start : Target} {bytes : List ℕ} {said later : Teller} {left : ℕ} {rest : List ℕ} where
-  module _ {place : Target} {more : List ℕ} {reached : Reached} {flow : ControlFlow Step Target} where
+  module _ {place : Target} {more : List ℕ} {reached : Reached} where
     pub came_on : {next : Target} → CameTo how slash is_last links start bytes said left place rest → Extends said later
-        → IsTakenFrom later place rest more reached → GoesAfter how slash is_last place more reached flow → flow ≡ Continue next → CameTo how slash is_last links start bytes later left next more
-    came_on came keeps from goes is = record {
-      above = λ teller told below e. came.above teller (told_still keeps told) below e ∙ over_first how slash is_last left from goes is told below e;
+        → IsTakenFrom later place rest more reached → met_shown reached ≡ Goes next → CameTo how slash is_last links start bytes later left next more
+    came_on came keeps from is = record {
+      above = λ teller told below e. came.above teller (told_still keeps told) below e ∙ over_first how slash left from is told below;
     }
 
-    pub came_to_end : {end : End} → CameTo how slash is_last links start bytes said left place rest → Extends said later
-        → IsTakenFrom later place rest more reached → GoesAfter how slash is_last place more reached flow → flow ≡ Break (steps.Ended end) → LeadsOver later how links slash start bytes is_last (Ended end)
-    came_to_end came keeps from goes is = record {
-      above = λ teller told below e. came.above teller (told_still keeps told) below e ∙ over_first how slash is_last left from goes is told below e;
+    pub came_to_end : {refusal : Refusal} → CameTo how slash is_last links start bytes said left place rest → Extends said later
+        → IsTakenFrom later place rest more reached → met_shown reached ≡ Stops refusal → LeadsOver later how links slash start bytes is_last (Ended (ends.Refused refusal))
+    came_to_end came keeps from is = record {
+      above = λ teller told below e. came.above teller (told_still keeps told) below e ∙ over_first how slash left from is told below;
     }
 
-    pub came_to_link : {at : Target} {link : ℕ} → CameTo how slash is_last links start bytes said left place rest → Extends said later
-        → IsTakenFrom later place rest more reached → GoesAfter how slash is_last place more reached flow → flow ≡ Break (AtLink at link) → CameToLink how slash is_last links start bytes later left at link more
-    came_to_link came keeps from goes is = record {
-      above = λ teller told below e. came.above teller (told_still keeps told) below e ∙ over_first how slash is_last left from goes is told below e;
+    pub came_to_link : {link : ℕ} → CameTo how slash is_last links start bytes said left place rest → Extends said later
+        → IsTakenFrom later place rest more reached → met_shown reached ≡ Meets (link, Link) → CameToLink how slash is_last links start bytes later left place link more
+    came_to_link came keeps from is = record {
+      above = λ teller told below e. came.above teller (told_still keeps told) below e ∙ over_first how slash left from is told below;
     }
 
   -- none of the bytes is left
@@ -116,10 +108,22 @@ module _ {how : Follow} {slash is_last : Bool} {links : ℕ} {start : Target} {b
           ∙ ap (λ w. outcome_after w (λ next more. resolve teller how more next (parts_of rest ++ below) slash)) is;
     }
 
+-- a resolution ends at a link, or follows it
+pub kept_at_link : {said : Teller} {how : Follow} {links : ℕ} {slash : Bool} {at : Target} {link : ℕ} {is_last : Bool}
+    → (is_last && not slash && keeps_link how) ≡ true → LeadsThrough said how links slash at link is_last (Ended (ends.Found (link, Link)))
+kept_at_link kept = record {
+  above = λ teller told below e. rw (e, kept) refl;
+}
+
+pub not_kept : (teller : Teller) (how : Follow) (links : ℕ) (at : Target) (link : ℕ) (below : List Part) (slash : Bool) {is_last : Bool}
+    → is_empty below ≡ is_last → (is_last && not slash && keeps_link how) ≡ false → at_link teller how links at link below slash ≡ following teller how links at link below slash
+not_kept teller how links at link below slash e follows = rw (e, follows) refl
+
 -- no link more may be followed
-pub refused_at_link : {said : Teller} {how : Follow} {links : ℕ} {slash : Bool} {at : Target} {link : ℕ} {is_last : Bool} → links ≡ 0 → LeadsThrough said how links slash at link is_last (Ended (ends.Refused TooManyLinks))
-refused_at_link {how = how} {links = links} {slash = slash} {at = at} {link = link} none = record {
-  above = λ teller told below e. too_many teller how links at link below slash none;
+pub refused_at_link : {said : Teller} {how : Follow} {links : ℕ} {slash : Bool} {at : Target} {link : ℕ} {is_last : Bool}
+    → (is_last && not slash && keeps_link how) ≡ false → links ≡ 0 → LeadsThrough said how links slash at link is_last (Ended (ends.Refused TooManyLinks))
+refused_at_link {how = how} {links = links} {slash = slash} {at = at} {link = link} follows none = record {
+  above = λ teller told below e. not_kept teller how links at link below slash e follows ∙ too_many teller how links at link below slash none;
 }
 
 -- a slash that ends a text ends the path where nothing is left below, and else the walk goes on as before
@@ -139,11 +143,12 @@ if_ok_both (Err e) P Q R follows p q = tt
 
 -- the text of a link leads where the link does
 pub over_text : {said : Teller} {how : Follow} {links : ℕ} {slash : Bool} {at base : Target} {link : ℕ} {is_last : Bool} {text bytes : List ℕ} {ends : Bool} {way : Way} (P : ℕ → Type 0)
-    → 0 < links → said.text link ≡ Some text → bytes ≡ text → base ≡ (if begins_with_slash text then root else at) → ends ≡ (slash || is_last && has_end_slash text)
+    → (is_last && not slash && keeps_link how) ≡ false → 0 < links → said.text link ≡ Some text → bytes ≡ text → base ≡ (if begins_with_slash text then root else at) → ends ≡ (slash || is_last && has_end_slash text)
     → LeadsOver said how (links - 1) ends base bytes is_last way → IfThrough way (λ left. (is_last ≡ false) × P left) → LeadsThrough said how links slash at link is_last way
-over_text {how = how} {links = links} {slash = slash} {at = at} {link = link} {is_last = is_last} {text = text} {way = way} P some told same begins slashed leads middle = record {
+over_text {how = how} {links = links} {slash = slash} {at = at} {link = link} {is_last = is_last} {text = text} {way = way} P follows some told same begins slashed leads middle = record {
   above = λ teller more below e.
-      with_told teller how links at link below slash text some (more.text link text told)
+      not_kept teller how links at link below slash e follows
+      ∙ with_told teller how links at link below slash text some (more.text link text told)
       ∙ (λ i. resolve teller how (links - 1) (sym begins i) (parts_of (sym same i) ++ below) ((ap (λ b. slash || b && has_end_slash text) e ∙ sym slashed) i))
       ∙ leads.above teller more below e
       ∙ ap (λ s. outcome_after way (λ next left. resolve teller how left next below s)) slashed

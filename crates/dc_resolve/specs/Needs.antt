@@ -8,7 +8,7 @@ use Rattle.dc_plain.specs.Facts.Label.{Entry, Parent, Text}
 use Rattle.dc_plain.specs.Resolution.{is_directory, resolve}
 use Rattle.dc_plain.specs.Tellers.{Extends}
 use Rattle.dc_resolve.specs.Asked.{is_asked, label_of}
-use Rattle.dc_resolve.specs.Walks.{following}
+use Rattle.dc_resolve.specs.Walks.{at_link}
 use Rattle.dc_resolve.specs.declared.finder.Finder.{Ghosts}
 
 -- of this key nothing is told
@@ -40,4 +40,4 @@ module _ {F T : Type 0} (g : Ghosts F T) (finder : F) where
 
   -- and what a link in a directory needs
   abbrev pub MayAskThrough : Follow → ℕ → Bool → Target → ℕ → Bool → Type 0
-  MayAskThrough how links slash at link is_last = (below : List Part) × (is_empty below ≡ is_last) × MayAsk (λ teller. following teller how links at link below slash)
+  MayAskThrough how links slash at link is_last = (below : List Part) × (is_empty below ≡ is_last) × MayAsk (λ teller. at_link teller how links at link below slash)

@@ -9,12 +9,6 @@ pub(crate) enum End {
     Refused(Refusal),
 }
 
-/// One part on: the end of a resolution, or a link that must be followed.
-pub(crate) enum Step {
-    Ended(End),
-    AtLink(Target, u64),
-}
-
 /// Where a walk over some bytes comes to.
 pub(crate) enum Way {
     Ended(End),

@@ -14,13 +14,12 @@ ghost use Rattle.dc_resolve.specs.Needs.{MayAsk, MayAskOver, MayAskThrough};
 ghost use Rattle.dc_resolve.specs.Steps.{end_shown};
 ghost use Rattle.dc_resolve.specs.Walks.{IfThrough, LeadsOver, LeadsThrough, LeadsTo};
 
-use crate::outcome::{End, Step, Way};
+use crate::outcome::{End, Reached, Way};
 use crate::parts::{ask_first, is_end};
-use crate::step::{after, ending};
+use crate::step::{ending, is_kept};
 use crate::{Bytes, Finder, Stop};
 use dc_names::{Kind, Part, PathText, Refusal};
 use dc_plain::{Follow, MOST_LINKS, ROOT, Target};
-use std::ops::ControlFlow;
 
 /// Whether a slash ends a path whose link was replaced by a text.
 fn slash_after(slash: bool, is_last: bool, text: PathText<'_>) -> bool
@@ -77,12 +76,14 @@ fn walk_bytes<F: Finder>(
             return Ok(at_end(place, left, is_last, slash, follow));
         };
         rest = more;
-        match after(place, reached, rest, is_last, slash, follow) {
-            ControlFlow::Continue(next) => place = next,
-            ControlFlow::Break(Step::Ended(end)) => return Ok(Way::Ended(end)),
-            ControlFlow::Break(Step::AtLink(at, link)) => {
+        match reached {
+            Reached::Dir(number) => place = (number, Kind::Dir),
+            Reached::File(number) => place = (number, Kind::File),
+            Reached::Stops(refusal) => return Ok(Way::Ended(End::Refused(refusal))),
+            Reached::Meets(link) => {
+                // Only at a link does it matter whether it is the last, so only here it is looked for.
                 let is_last = is_end(rest, is_last);
-                match walk_link(finder, at, link, is_last, slash, follow, left)? {
+                match walk_link(finder, place, link, is_last, slash, follow, left)? {
                     Way::Ended(end) => return Ok(Way::Ended(end)),
                     Way::Through(next, fewer) => {
                         place = next;
@@ -94,12 +95,13 @@ fn walk_bytes<F: Finder>(
     }
 }
 
-/// Goes over the text of a link in a directory, in place of the link. `is_last` says that nothing is left
-/// below it, and `links` how many links may be followed, with this one.
+/// Goes over the text of a link in a directory, in place of the link, unless the resolution ends at the
+/// link. `is_last` says that nothing is left below it, and `links` how many links may be followed, with
+/// this one.
 ///
 /// A text may have links too, or the link itself: with each that is followed one less may be, so no more
 /// than `MOST_LINKS` texts are gone over one within another.
-#[inline(never)]
+#[inline(always)]
 #[cycle(over_links)]
 fn walk_link<F: Finder>(
     finder: &mut F,
@@ -118,6 +120,9 @@ fn walk_link<F: Finder>(
         IfThrough way (λ left. (is_last ≡ false) × (left ≤ links))) }
     ensures kept { KeepsAnswering F.Finder finder.old finder.new result }
 {
+    if is_kept(follow, is_last, slash) {
+        return Ok(Way::Ended(End::Found((link, Kind::Link))));
+    }
     if links == 0 {
         return Ok(Way::Ended(End::Refused(Refusal::TooManyLinks)));
     }

@@ -1,25 +1,20 @@
-//! One part on: what it leads to, and how a resolution goes on from there.
+//! One part on, and where a resolution ends.
 
-ghost use Rattle.std.specs.Prelude.{◌≡◌, ◌&&◌, ℕ, not, Option, Some, IfOk, IsTrue, if◌then◌else◌};
-ghost use Rattle.dc_names.specs.Bytes.{is_empty};
+ghost use Rattle.std.specs.Prelude.{◌≡◌, ◌&&◌, not, Some, IfOk, IsTrue};
 ghost use Rattle.dc_names.specs.Hash.{hash_of};
 ghost use Rattle.dc_names.specs.Names.{part_shown};
-ghost use Rattle.dc_names.specs.Paths.{bytes_of, parts_of};
+ghost use Rattle.dc_names.specs.Paths.{bytes_of};
 ghost use Rattle.dc_names.specs.declared.kind.Kind.TheVariants.{Link};
-ghost use Rattle.dc_plain.specs.Facts.{Teller, Target as SpecTarget};
-ghost use Rattle.dc_plain.specs.Resolution.{Outcome, ending, keeps_link, met_by, with_met};
-ghost use Rattle.dc_plain.specs.Resolution.Outcome.{Found};
+ghost use Rattle.dc_plain.specs.Resolution.{ending, keeps_link, met_by};
 ghost use Rattle.dc_resolve.specs.Asked.{label_of};
 ghost use Rattle.dc_resolve.specs.Finders.{KeepsAnswering};
 ghost use Rattle.dc_resolve.specs.Needs.{asks};
-ghost use Rattle.dc_resolve.specs.Steps.{met_shown, end_shown, goes_on, Leads, IfMeets, IsSaidMet, IsSaidFlow};
+ghost use Rattle.dc_resolve.specs.Steps.{met_shown, end_shown, Leads, IfMeets, IsSaidMet};
 
-use crate::outcome::{End, Reached, Step};
-use crate::parts::is_end;
+use crate::outcome::{End, Reached};
 use crate::{Finder, Stop};
 use dc_names::{Kind, Part, Refusal};
 use dc_plain::{Follow, Target, is_directory};
-use std::ops::ControlFlow;
 
 #[inline(always)]
 fn on_to(there: Option<Target>) -> Reached
@@ -70,38 +65,10 @@ pub(crate) fn ending(follow: Follow, place: Target, slash: bool) -> End
     }
 }
 
-/// Whether a resolution ends at a link.
-fn is_kept(follow: Follow, is_last: bool, slash: bool) -> bool
+/// Whether a resolution ends at a link. `is_last` says that nothing is left after it.
+#[inline(always)]
+pub(crate) fn is_kept(follow: Follow, is_last: bool, slash: bool) -> bool
     ensures { result ≡ (is_last && not slash && keeps_link follow) }
 {
     is_last && !slash && follow == Follow::No
-}
-
-/// Where a walk goes from a place by what its next part leads to, with these bytes left, and nothing
-/// below them or something. A link is kept, or stops the walk.
-#[inline(always)]
-pub(crate) fn after(
-    place: Target,
-    reached: Reached,
-    rest: &[u8],
-    is_last: bool,
-    slash: bool,
-    follow: Follow,
-) -> ControlFlow<Step, Target>
-    ensures goes { (go : SpecTarget → Option Outcome) → (at_link : SpecTarget → ℕ → Option Outcome) →
-        with_met (Some (met_shown reached)) go (λ link.
-        if (is_last && is_empty (parts_of rest.now)) && not slash && keeps_link follow
-        then Some (Found link) else at_link place link.0) ≡ goes_on result go at_link }
-    ensures link { (said : Teller) → IsSaidMet said reached → IsSaidFlow said result }
-{
-    match reached {
-        Reached::Dir(number) => ControlFlow::Continue((number, Kind::Dir)),
-        Reached::File(number) => ControlFlow::Continue((number, Kind::File)),
-        Reached::Stops(refusal) => ControlFlow::Break(Step::Ended(End::Refused(refusal))),
-        // Only at a link does it matter whether it is the last, so only here it is looked for.
-        Reached::Meets(link) if is_kept(follow, is_end(rest, is_last), slash) => {
-            ControlFlow::Break(Step::Ended(End::Found((link, Kind::Link))))
-        }
-        Reached::Meets(link) => ControlFlow::Break(Step::AtLink(place, link)),
-    }
 }

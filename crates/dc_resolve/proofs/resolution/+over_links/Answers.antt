@@ -1,7 +1,8 @@
-use Rattle.std.proofs.Common.{◌≡◌, ◌<◌, ◌≤◌, ◌+◌, ◌-◌, ◌*◌, Break, Some, false, ap, sym, subst, arith, rules, ◌∙◌}
+use Rattle.std.proofs.Common.{◌≡◌, ◌<◌, ◌≤◌, ◌+◌, ◌-◌, ◌*◌, Some, false, ap, sym, subst, arith, rules, ◌∙◌}
+use Rattle.dc_resolve.specs.Steps.{met_shown, IsSaidMet}
 use Rattle.dc_resolve.specs.Walks.{IfThrough}
 use Rattle.dc_resolve.proofs.Needed.{first_over, link_over, text_of, text_over}
-use Rattle.dc_resolve.proofs.Passing.{from_first, none_first, came_on, came_over, came_to_end, came_to_link, came_through, ended_at_link, if_ok_both, over_text, refused_at_link}
+use Rattle.dc_resolve.proofs.Passing.{from_first, none_first, came_on, came_over, came_to_end, came_to_link, came_through, ended_at_link, if_ok_both, kept_at_link, over_text, refused_at_link}
 use Rattle.dc_resolve.proofs.resolution.+over_links.Goals as goal
 
 pub walk_bytes-ask_first-requires-clause-may : goal.walk_bytes-ask_first-requires-clause-may
@@ -12,8 +13,8 @@ walk_bytes-returns-in_default-clause-leads g t c =
     let went = c.in_ok-reached.ensures in let said = g.F.Finder.said c.ask_first.new.finder in
     came_over c.parts.invariant.came (g.met.F.Finder.keeps _ _ went.kept.becomes) (none_first said c.parts.place c.parts.rest.now went.taken c.in_default.is) (c.at_end.ensures.leads said)
 
-pub walk_bytes-parts-preserved-in-Continue : goal.walk_bytes-parts-preserved-in-Continue
-walk_bytes-parts-preserved-in-Continue g t c =
+pub walk_bytes-parts-preserved-in-Dir : goal.walk_bytes-parts-preserved-in-Dir
+walk_bytes-parts-preserved-in-Dir g t c =
     let i = c.parts.invariant in let went = c.in_ok-reached.ensures in
     let from = from_first went.taken c.in-Some.is in
     record {
@@ -21,33 +22,46 @@ walk_bytes-parts-preserved-in-Continue g t c =
       same = went.kept.same ∙ i.same;
       valid = from.valid;
       fewer = i.fewer;
-      came = came_on {flow = c.after.result} i.came (g.met.F.Finder.keeps _ _ went.kept.becomes) from c.after.ensures.goes c.in-Continue.is;
+      came = came_on i.came (g.met.F.Finder.keeps _ _ went.kept.becomes) from (ap met_shown c.in-Dir.is);
     }
 
-pub walk_bytes-returns-in-Break-Ended-clause-leads : goal.walk_bytes-returns-in-Break-Ended-clause-leads
-walk_bytes-returns-in-Break-Ended-clause-leads g t c =
-    let went = c.in_ok-reached.ensures in let at = c.in-Break-Ended in
-    came_to_end {flow = c.after.result} c.parts.invariant.came (g.met.F.Finder.keeps _ _ went.kept.becomes) (from_first went.taken c.in-Some.is) c.after.ensures.goes (at.is ∙ ap Break at.field-0-is)
+pub walk_bytes-parts-preserved-in-File : goal.walk_bytes-parts-preserved-in-File
+walk_bytes-parts-preserved-in-File g t c =
+    let i = c.parts.invariant in let went = c.in_ok-reached.ensures in
+    let from = from_first went.taken c.in-Some.is in
+    record {
+      kept = g.met.F.Finder.goes_on _ _ _ i.kept went.kept.becomes;
+      same = went.kept.same ∙ i.same;
+      valid = from.valid;
+      fewer = i.fewer;
+      came = came_on i.came (g.met.F.Finder.keeps _ _ went.kept.becomes) from (ap met_shown c.in-File.is);
+    }
+
+pub walk_bytes-returns-in-Stops-clause-leads : goal.walk_bytes-returns-in-Stops-clause-leads
+walk_bytes-returns-in-Stops-clause-leads g t c =
+    let went = c.in_ok-reached.ensures in
+    came_to_end c.parts.invariant.came (g.met.F.Finder.keeps _ _ went.kept.becomes) (from_first went.taken c.in-Some.is) (ap met_shown c.in-Stops.is)
 
 pub walk_bytes-walk_link-requires : goal.walk_bytes-walk_link-requires
 walk_bytes-walk_link-requires g t c =
-    let i = c.parts.invariant in let went = c.in_ok-reached.ensures in let at = c.in-Break-AtLink in
-    let came = came_to_link {flow = c.after.result} i.came (g.met.F.Finder.keeps _ _ went.kept.becomes) (from_first went.taken c.in-Some.is) c.after.ensures.goes (at.is ∙ ap Break at.field-0-is) in
+    let i = c.parts.invariant in let went = c.in_ok-reached.ensures in
+    let came = came_to_link i.came (g.met.F.Finder.keeps _ _ went.kept.becomes) (from_first went.taken c.in-Some.is) (ap met_shown c.in-Meets.is) in
     let may = link_over g.F.Finder g.met.F.Finder.goes_on g.met.F.Finder.keeps c.requires.may (g.met.F.Finder.goes_on _ _ _ i.kept went.kept.becomes) came c.is_end-is_last.ensures in
+    let said = subst (IsSaidMet (g.F.Finder.said c.ask_first.new.finder)) c.in-Meets.is (from_first {said = g.F.Finder.said c.ask_first.new.finder} {place = c.parts.place} {bytes = c.parts.rest.now} went.taken c.in-Some.is).taken.link in
     let less : 2 * c.parts.left < t = omega (arith, i.fewer) in
-    search (rules, less, may)
+    search (rules, less, may, said)
 
 pub walk_bytes-returns-in-Ended-clause-leads : goal.walk_bytes-returns-in-Ended-clause-leads
 walk_bytes-returns-in-Ended-clause-leads g t c =
-    let i = c.parts.invariant in let went = c.in_ok-reached.ensures in let at = c.in-Break-AtLink in let over = c.in_ok-end-in-Break-AtLink.ensures in
-    let came = came_to_link {flow = c.after.result} i.came (g.met.F.Finder.keeps _ _ went.kept.becomes) (from_first went.taken c.in-Some.is) c.after.ensures.goes (at.is ∙ ap Break at.field-0-is) in
+    let i = c.parts.invariant in let went = c.in_ok-reached.ensures in let over = c.in_ok-end-in-Meets.ensures in
+    let came = came_to_link i.came (g.met.F.Finder.keeps _ _ went.kept.becomes) (from_first went.taken c.in-Some.is) (ap met_shown c.in-Meets.is) in
     ended_at_link came (g.met.F.Finder.keeps _ _ over.kept.becomes) c.is_end-is_last.ensures over.leads c.in-Ended.is
 
 pub walk_bytes-parts-preserved : goal.walk_bytes-parts-preserved
 walk_bytes-parts-preserved g t c =
-    let i = c.parts.invariant in let went = c.in_ok-reached.ensures in let at = c.in-Break-AtLink in let over = c.in_ok-end-in-Break-AtLink.ensures in
+    let i = c.parts.invariant in let went = c.in_ok-reached.ensures in let over = c.in_ok-end-in-Meets.ensures in
     let from = from_first went.taken c.in-Some.is in
-    let came = came_to_link {flow = c.after.result} i.came (g.met.F.Finder.keeps _ _ went.kept.becomes) from c.after.ensures.goes (at.is ∙ ap Break at.field-0-is) in
+    let came = came_to_link i.came (g.met.F.Finder.keeps _ _ went.kept.becomes) from (ap met_shown c.in-Meets.is) in
     let through = subst (λ way. IfThrough way (λ left. (c.is_end-is_last.result ≡ false) × (left ≤ c.parts.left))) c.in-Through.is over.through in
     let less = through.1 in
     record {
@@ -58,16 +72,19 @@ walk_bytes-parts-preserved g t c =
       came = came_through came (g.met.F.Finder.keeps _ _ over.kept.becomes) c.is_end-is_last.ensures over.leads c.in-Through.is;
     }
 
+pub walk_link-returns-then-is_kept-clause-leads : goal.walk_link-returns-then-is_kept-clause-leads
+walk_link-returns-then-is_kept-clause-leads g t c = kept_at_link (let is = c.is_kept.ensures in cc)
+
 pub walk_link-returns-then-links-eq0-clause-leads : goal.walk_link-returns-then-links-eq0-clause-leads
-walk_link-returns-then-links-eq0-clause-leads g t c = refused_at_link c.if-links-eq0.true
+walk_link-returns-then-links-eq0-clause-leads g t c = refused_at_link (let is = c.is_kept.ensures in cc) c.if-links-eq0.true
 
 pub walk_link-link_text-requires-clause-may : goal.walk_link-link_text-requires-clause-may
-walk_link-link_text-requires-clause-may g t c = text_of g.F.Finder c.args.follow c.args.slash c.args.at g.met.F.Finder.stays c.requires.may (omega arith)
+walk_link-link_text-requires-clause-may g t c = text_of g.F.Finder c.args.follow c.args.slash c.args.at g.met.F.Finder.stays c.requires.may (let is = c.is_kept.ensures in cc) (omega arith)
 
 pub walk_link-walk_bytes-requires : goal.walk_link-walk_bytes-requires
 walk_link-walk_bytes-requires g t c =
     let text = c.in_ok-text.ensures in
-    let may = text_over g.F.Finder c.args.follow c.args.slash c.args.at g.met.F.Finder.goes_on g.met.F.Finder.keeps c.requires.may text.becomes (omega arith) (text.told ∙ ap Some (sym (c.new-path.ensures ∙ c.bytes.ensures))) c.bytes-2.ensures.bytes c.base_of-base.ensures c.slash_after-ends.ensures in
+    let may = text_over g.F.Finder c.args.follow c.args.slash c.args.at g.met.F.Finder.goes_on g.met.F.Finder.keeps c.requires.may text.becomes (let is = c.is_kept.ensures in cc) (omega arith) (text.told ∙ ap Some (sym (c.new-path.ensures ∙ c.bytes.ensures))) c.bytes-2.ensures.bytes c.base_of-base.ensures c.slash_after-ends.ensures in
     let less : 2 * (c.args.links - 1) + 1 < t = omega arith in
     search (rules, less, may)
 
@@ -75,5 +92,5 @@ pub walk_link-returns-clause-leads : goal.walk_link-returns-clause-leads
 walk_link-returns-clause-leads g t c =
     let text = c.in_ok-text.ensures in let over = c.walk_bytes.ensures in
     if_ok_both c.walk_bytes.result _ _ _
-    (λ way leads middle. over_text (λ left. left ≤ c.args.links - 1) (omega arith) ((g.met.F.Finder.keeps _ _ over.kept.becomes).text _ _ text.told ∙ ap Some (sym (c.new-path.ensures ∙ c.bytes.ensures))) c.bytes-2.ensures.bytes c.base_of-base.ensures c.slash_after-ends.ensures leads middle)
+    (λ way leads middle. over_text (λ left. left ≤ c.args.links - 1) (let is = c.is_kept.ensures in cc) (omega arith) ((g.met.F.Finder.keeps _ _ over.kept.becomes).text _ _ text.told ∙ ap Some (sym (c.new-path.ensures ∙ c.bytes.ensures))) c.bytes-2.ensures.bytes c.base_of-base.ensures c.slash_after-ends.ensures leads middle)
     over.leads over.through
