@@ -1,16 +1,17 @@
 -- The fact of words that spell one.
-use Rattle.std.proofs.Common.{◌≡◌, ℕ, suc, ◌+◌, ◌/◌, ◌%◌, ◌<◌, List, [], ◌∷◌, Bool, true, false, cond, Option, Some, None, length, get_or, refl, ap, sym, ◌∙◌, arith}
-use Rattle.dc_names.specs.Words.{bytes_in}
+use Rattle.std.proofs.Common.{◌≡◌, ℕ, suc, ◌+◌, ◌*◌, ◌/◌, ◌%◌, ◌<◌, List, [], ◌∷◌, Bool, true, false, cond, Option, Some, None, length, get_or, take, drop, refl, ap, sym, ◌∙◌, arith}
+use Rattle.dc_names.specs.Words.{bytes_in, padded, word_of}
 use Rattle.dc_names.specs.declared.kind.Kind.TheVariants.{Dir, File, Link}
 use Rattle.dc_plain.specs.Facts.{Target, Label, Fact, same_bytes}
 use Rattle.dc_plain.specs.Facts.Label.{Entry, Parent}
 use Rattle.dc_plain.specs.Facts.Fact.{Leads, Reads}
 use Rattle.dc_row.specs.Decoding.{byte_in, bytes_from, fact_by, target_by, SpelledIsRead}
-use Rattle.dc_row.specs.Spelling.{Spells, fields_of, has_spelling, kind_code, target_number}
-use Rattle.dc_row.specs.declared.TheConstants.{ROW_TEXT}
+use Rattle.dc_row.specs.Spelling.{Spells, fields_of, has_spelling, kind_code, target_number, text_word}
+use Rattle.dc_row.specs.declared.TheConstants.{ROW_WORDS, ROW_TEXT}
 use Rattle.dc_row.proofs.Labels.{entry_is, parent_is}
 use Rattle.dc_row.proofs.Packed.{bytes_in-word_of, get_or-padded}
-use Rattle.dc_row.proofs.Read.{byte_is, head_is, length_is, small, tag_is, text_fits}
+use Rattle.dc_row.proofs.Read.{head_is, length_is, part_at, part_bytes, part_short, small, tag_is, text_fits}
+use Rattle.dc_row.proofs.Written.{word_at-text}
 
 from_is : (byte : ℕ → ℕ) (xs : List ℕ) (k : ℕ) → ((i : ℕ) → i < length xs → byte (k + i) ≡ get_or xs i 0) → bytes_from byte k (length xs) ≡ xs
 from_is byte [] k is = refl
@@ -22,8 +23,14 @@ from_is byte (x ∷ xs) k is =
 
 pub byte_so : {words : List ℕ} {fact : Option Fact} → Spells words fact → (i : ℕ) → i < ROW_TEXT → byte_in words i ≡ get_or (fields_of fact).text i 0
 byte_so {words} {fact} s i within =
-    byte_is s i (byte_in words i) within (λ bytes short are is.
-    ap (λ (word : ℕ). get_or (bytes_in word) (i % 8) 0) is ∙ ap (λ (bs : List ℕ). get_or bs (i % 8) 0) (bytes_in-word_of bytes short are) ∙ get_or-padded bytes _ (i % 8))
+    let text = (fields_of fact).text in
+    let part = take 8 (drop (8 * (i / 8)) text) in
+    let at : 4 + i / 8 < ROW_WORDS = omega arith in
+    let word : get_or words (4 + i / 8) 0 ≡ word_of part = s.spelled (4 + i / 8) (omega arith) at ∙ word_at-text (fields_of fact) (4 + i / 8) (omega arith) ∙ ap (text_word text) (omega arith) in
+    let bytes : bytes_in (word_of part) ≡ padded part = bytes_in-word_of part (part_short text (8 * (i / 8))) (part_bytes text 8 (8 * (i / 8)) s.bytes) in
+    let here : 8 * (i / 8) + i % 8 ≡ i = omega arith in
+    ap (λ (w : ℕ). get_or (bytes_in w) (i % 8) 0) word ∙ ap (λ (bs : List ℕ). get_or bs (i % 8) 0) bytes ∙ get_or-padded part _ (i % 8)
+    ∙ part_at text 8 (8 * (i / 8)) (i % 8) (omega arith) ∙ ap (λ (k : ℕ). get_or text k 0) here
 
 text_so : {words : List ℕ} {fact : Option Fact} → Spells words fact → bytes_from (byte_in words) 0 (get_or words 1 0 / 256 % 65536) ≡ (fields_of fact).text
 text_so {words} {fact} s =

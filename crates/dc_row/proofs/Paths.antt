@@ -1,42 +1,15 @@
 -- Short texts that are paths without a fault.
-use Rattle.std.proofs.Common.{◌≡◌, ◌≢◌, ℕ, suc, ◌<◌, ◌≤◌, ◌==◌, ◌∷◌, [], List, length, get_or, Bool, true, false, cond, Some, None, refl, arith, nat_lt}
-use Rattle.std.specs.List.{onto_first, list_any, AllByRecursion}
+use Rattle.std.proofs.Common.{◌≡◌, ◌≢◌, ℕ, suc, ◌<◌, ◌≤◌, ◌==◌, ◌∷◌, [], List, length, get_or, Bool, true, false, cond, Some, None, refl, arith}
+use Rattle.std.specs.List.{list_any}
 use Rattle.std.proofs.lemmas.Bool.{ne_eqb, eq-eqb}
 use Rattle.std.proofs.lemmas.Bool.Decides.{nat_tests}
 use Rattle.std.proofs.lemmas.List.Folds.{list_any_at}
-use Rattle.dc_names.specs.Bytes.{pieces, is_empty}
+use Rattle.dc_names.specs.Bytes.{is_empty}
+use Rattle.dc_names.specs.Laws.{ShortTextsHaveNoOtherFault}
 use Rattle.dc_names.specs.Paths.{is_long}
-use Rattle.dc_names.specs.declared.TheConstants.{NAME_MAX, PATH_MAX}
+use Rattle.dc_names.specs.declared.TheConstants.{NAME_MAX}
 use Rattle.dc_names.specs.declared.fault.TextFault.TheVariants.{Empty, Long, Zero}
 use Rattle.dc_row.specs.Spelling.{is_path}
-
-abbrev Short : ℕ → List ℕ → Type 0
-Short n piece = length piece ≤ n
-
-longer : (n : ℕ) (ps : List (List ℕ)) → AllByRecursion (Short n) ps → AllByRecursion (Short (suc n)) ps
-longer n [] all = tt
-longer n (p ∷ ps) all = let here : length p ≤ n = all.0 in (omega arith, longer n ps all.1)
-
-onto_short : (n b : ℕ) (ps : List (List ℕ)) → AllByRecursion (Short n) ps → AllByRecursion (Short (suc n)) (onto_first b ps)
-onto_short n b [] all = (omega arith, tt)
-onto_short n b (p ∷ ps) all = let here : length p ≤ n = all.0 in (omega arith, longer n ps all.1)
-
--- no piece is longer than the text
-short_pieces : (text : List ℕ) → AllByRecursion (Short (length text)) (pieces text)
-short_pieces [] = (omega arith, tt)
-short_pieces (b ∷ bs) =
-    let more = short_pieces bs in
-    elim (b == 47) as (λ t. AllByRecursion (Short (suc (length bs))) (cond t ([] ∷ pieces bs) (onto_first b (pieces bs)))) [
-      | true ↦ (omega arith, longer (length bs) (pieces bs) more)
-      | false ↦ onto_short (length bs) b (pieces bs) more
-    ]
-
-none_long : (n m : ℕ) (ps : List (List ℕ)) → n ≤ m → AllByRecursion (Short n) ps → list_any (λ piece. nat_lt m (length piece)) ps ≡ false
-none_long n m [] le all = refl
-none_long n m (p ∷ ps) le all =
-    let here : length p ≤ n = all.0 in
-    let test : nat_lt m (length p) ≡ false = grind (arith, nat_tests) in
-    rw test (none_long n m ps le all.1)
 
 -- no byte of the text is zero
 abbrev pub HasNoZero : List ℕ → Type 0
@@ -63,8 +36,5 @@ path_parts text ok =
     let tested = faultless (is_empty text) (is_long text) (list_any (λ b. b == 0) text) ok in
     (grind (arith, nat_tests, tested.0), λ i h e. let yes = list_any_at (λ b. b == 0) text i 0 h (eq-eqb (get_or text i 0) 0 e) in absurd (cc (tested.1)))
 
-pub path_from : (text : List ℕ) → 0 < length text → length text ≤ NAME_MAX → HasNoZero text → is_path text ≡ true
-path_from text some few all =
-    let empty : is_empty text ≡ false = grind (arith, nat_tests) in
-    let long : is_long text ≡ false = let test : nat_lt PATH_MAX (length text) ≡ false = grind (arith, nat_tests) in rw test (none_long (length text) NAME_MAX (pieces text) few (short_pieces text)) in
-    λ i. no_fault (empty i) (long i) (none_zero text all i)
+pub path_from : ShortTextsHaveNoOtherFault → (text : List ℕ) → 0 < length text → length text ≤ NAME_MAX → HasNoZero text → is_path text ≡ true
+path_from law text some few all = λ i. elim (law text some few (none_zero text all) i) [ None ↦ true | Some fault ↦ false ]

@@ -1,16 +1,18 @@
 -- The text of a link whose bytes stand in a room.
-use Rattle.std.proofs.Common.{◌≡◌, ◌≢◌, ℕ, zero, suc, ◌+◌, ◌-◌, ◌*◌, ◌/◌, ◌%◌, ◌^◌, ◌<◌, ◌≤◌, List, length, get_or, get_or-take, take, drop, Some, true, refl, subst, sym, ap, ◌∙◌, arith, inl, inr}
+use Rattle.std.proofs.Common.{◌≡◌, ◌≢◌, ℕ, zero, suc, ◌+◌, ◌-◌, ◌*◌, ◌/◌, ◌%◌, ◌^◌, ◌<◌, ◌≤◌, List, length, get_or, get_or-take, take, drop, Option, Some, true, refl, subst, sym, ap, ◌∙◌, arith, inl, inr}
 use Rattle.std.specs.Int.{sum_through, byte_worth}
 use Rattle.std.proofs.lemmas.Bool.{and_from, cases_eq, cases_lt, ne_eqb, not_from_false}
 use Rattle.std.proofs.lemmas.Bool.Decides.{nat_tests}
 use Rattle.std.proofs.lemmas.Grind.{common_steps}
 use Rattle.std.proofs.lemmas.List.{get_or_past}
 use Rattle.std.proofs.lemmas.Nat.{from_le_bytes-to_le_bytes_8}
+use Rattle.dc_names.specs.Laws.{ShortTextsHaveNoOtherFault}
 use Rattle.dc_names.specs.Words.{AreBytes, word_of, bytes_in}
+use Rattle.dc_plain.specs.Facts.{Fact}
 use Rattle.dc_plain.specs.Facts.Fact.{Reads}
 use Rattle.dc_row.specs.Decoding.{IsRoomOf}
 use Rattle.dc_row.specs.Rooms.{EndsAt, padded}
-use Rattle.dc_row.specs.Spelling.{Spells, SpellsText, IsSpelled, fields, is_path, text_word, word_at}
+use Rattle.dc_row.specs.Spelling.{Spells, SpellsText, IsSpelled, fields, fields_of, is_path, text_word, word_at}
 use Rattle.dc_row.specs.declared.TheConstants.{ROW_WORDS, ROW_TEXT}
 use Rattle.dc_row.proofs.Compared.{all_same}
 use Rattle.dc_row.proofs.Decoded.{byte_so}
@@ -19,13 +21,13 @@ use Rattle.dc_row.proofs.Paths.{path_from, path_parts}
 use Rattle.dc_row.proofs.Read.{both, front_is, head_is, part_at, part_short, take_bytes, text_fits}
 use Rattle.dc_row.proofs.Written.{word_at-text}
 
-room_at : {words room text : List ℕ} {n : ℕ} → Spells words (Some (Reads n text)) → IsRoomOf words room → (i : ℕ) → i < ROW_TEXT → get_or room i 0 ≡ get_or text i 0
+room_at : {words room : List ℕ} {fact : Option Fact} → Spells words fact → IsRoomOf words room → (i : ℕ) → i < ROW_TEXT → get_or room i 0 ≡ get_or (fields_of fact).text i 0
 room_at s r i within = r.bytes i within ∙ byte_so s i within
 
-pub front_of_room : {words room text : List ℕ} {n : ℕ} → Spells words (Some (Reads n text)) → IsRoomOf words room → take (length text) room ≡ text
-front_of_room {room = room} {text = text} s r =
+pub front_of_room : {words room : List ℕ} {fact : Option Fact} → Spells words fact → IsRoomOf words room → take (length (fields_of fact).text) room ≡ (fields_of fact).text
+front_of_room {room = room} {fact = fact} s r =
     let fits = text_fits s in let size = r.size in
-    front_is text room (omega arith) (λ k h. room_at s r k (omega arith))
+    front_is (fields_of fact).text room (omega arith) (λ k h. room_at s r k (omega arith))
 
 pub room_padded : {words room text : List ℕ} {n : ℕ} → Spells words (Some (Reads n text)) → IsRoomOf words room → padded text ≡ room
 room_padded {room = room} {text = text} s r =
@@ -98,22 +100,22 @@ front_spelled {words} {room} {len} h (suc (suc (suc (suc k)))) pos lt =
     let late : 4 + k ≡ suc (suc (suc (suc k))) = omega arith in
     subst (λ (i : ℕ). get_or words i 0 ≡ word_at f i) late (front_word h k (omega arith) ∙ ap (text_word f.text) place ∙ sym (word_at-text f (4 + k) (omega arith)))
 
-front_path : {words room : List ℕ} {len : ℕ} → HasText words room len → is_path (take len room) ≡ true
-front_path {words} {room} {len} h =
+front_path : {words room : List ℕ} {len : ℕ} → ShortTextsHaveNoOtherFault → HasText words room len → is_path (take len room) ≡ true
+front_path {words} {room} {len} law h =
     let size = front_size h in let some = h.some in let few = h.few in
-    path_from (take len room) (omega arith) (omega arith) (λ i before e.
+    path_from law (take len room) (omega arith) (omega arith) (λ i before e.
     (h.ends i (omega arith)).0 (omega arith) (sym (front_at h i (omega arith)) ∙ e))
 
 pub text_size : {words text : List ℕ} {n : ℕ} → Spells words (Some (Reads n text)) → length text ≡ get_or words 1 0 / 256
 text_size s = let head = head_is s in omega arith
 
-pub text_there : {words room : List ℕ} {len : ℕ} → HasText words room len → SpellsText words
-text_there {words} {room} {len} h = (
+pub text_there : {words room : List ℕ} {len : ℕ} → ShortTextsHaveNoOtherFault → HasText words room len → SpellsText words
+text_there {words} {room} {len} law h = (
   get_or words 2 0,
   take len room,
   record {
     size = h.count;
-    allowed = let size = front_size h in let few = h.few in and_from _ _ (and_from _ _ (not_from_false _ (ne_eqb (get_or words 2 0) 0 h.number)) (front_path h)) (grind (arith, nat_tests));
+    allowed = let size = front_size h in let few = h.few in and_from _ _ (and_from _ _ (not_from_false _ (ne_eqb (get_or words 2 0) 0 h.number)) (front_path law h)) (grind (arith, nat_tests));
     bytes = λ i. take_bytes room len i h.bytes;
     spelled = front_spelled h;
   },

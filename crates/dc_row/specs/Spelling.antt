@@ -1,5 +1,5 @@
 -- The words of a row: after the sequence count the head, the number, the value, and then the text.
-use Rattle.std.specs.Prelude.{ℕ, List, [], Bool, true, false, not, ◌&&◌, ◌≡◌, ◌==◌, ◌+◌, ◌-◌, ◌*◌, ◌/◌, ◌%◌, ◌<◌, ◌≤◌, nat_lt, length, take, drop, slice_index, if◌then◌else◌, Option, Some, None, IsTrue}
+use Rattle.std.specs.Prelude.{ℕ, List, [], Bool, true, false, not, ◌&&◌, ◌≡◌, ◌==◌, ◌+◌, ◌-◌, ◌*◌, ◌<◌, nat_lt, length, take, drop, slice_index, if◌then◌else◌, Option, Some, None, IsTrue}
 use Rattle.dc_names.specs.Bytes.{is_name}
 use Rattle.dc_names.specs.Paths.{fault_of}
 use Rattle.dc_names.specs.Words.{AreBytes, word_of}
@@ -98,7 +98,3 @@ pub record TellsOf (words : List ℕ) (key : Key) : Type 0 where
   pub fact : Fact
   pub about : key_of fact ≡ key
   pub spelled : Spells words (Some fact)
-
--- a byte of the text that stands in the words
-abbrev pub TellsByte : List ℕ → ℕ → ℕ → Type 0
-TellsByte words k result = (bytes : List ℕ) → length bytes ≤ 8 → AreBytes bytes → slice_index words (4 + k / 8) ≡ word_of bytes → result ≡ slice_index bytes (k % 8)

@@ -12,7 +12,7 @@ ghost use Rattle.dc_row.specs.declared.TheConstants.{ROW_WORDS, ROW_TEXT};
 use crate::reading::{room_of, spelled_text};
 use crate::writing::{is_numbered, kind_code, target_number, text_word};
 use crate::{ROW_TEXT, ROW_WORDS, RowText, number, target};
-use dc_names::Kind;
+use dc_names::{Kind, short_texts_have_no_other_fault};
 use dc_plain::{Key, Label};
 
 /// Whether the words spell a fact of a key. The sequence count isn't looked at, and no row spells an
@@ -55,7 +55,8 @@ fn is_text(words: &[u64]) -> bool
     if words[1] % 256 != 2 || len == 0 || len > ROW_TEXT as u64 || words[2] == 0 || words[3] != 0 {
         return false;
     }
-    // No component of so short a text is too long, and so no other fault than a zero byte is left.
+    // No component of so short a text is too long, and so only a zero byte is looked for.
+    short_texts_have_no_other_fault();
     ends_at(&room_of(words), len as u8)
 }
 

@@ -1,12 +1,11 @@
-ghost use Rattle.std.specs.Prelude.{◌≡◌, ◌<◌, length, Option, Some, IfSome};
+ghost use Rattle.std.specs.Prelude.{◌≡◌, length, Option, Some, IfSome};
 ghost use Rattle.std.specs.Option.{option_map};
 ghost use Rattle.dc_plain.specs.Facts.{Fact};
 ghost use Rattle.dc_row.specs.Decoding.{IsRoomOf};
 ghost use Rattle.dc_row.specs.Rows.{row_shown, label_shown};
-ghost use Rattle.dc_row.specs.Spelling.{Spells, SpellsText, TellsRow, TellsLabel, TellsTarget, TellsText, TellsByte, fields_of};
-ghost use Rattle.dc_row.specs.declared.TheConstants.{ROW_WORDS, ROW_TEXT};
+ghost use Rattle.dc_row.specs.Spelling.{Spells, SpellsText, TellsRow, TellsLabel, TellsTarget, TellsText, fields_of};
+ghost use Rattle.dc_row.specs.declared.TheConstants.{ROW_WORDS};
 
-use crate::fields::word;
 use crate::{
     ROW_TEXT, ROW_WORDS, Row, RowLabel, RowText, encode, kind, length, number, tag, value,
 };
@@ -66,27 +65,15 @@ pub fn target(words: &[u64]) -> Option<(u64, Kind)>
 }
 
 /// The text that stands in the words of a name or a link. Of other words it is whatever they have there,
-/// or `None` where they say that it is longer than a row has room for.
+/// or `None` where they are not as many as a row has or say that it is longer than a row has room for.
 pub fn text_in(words: &[u64]) -> Option<RowText>
     ensures { (fact : Option Fact) → Spells words.now fact → result ≡ Some (fields_of fact).text }
 {
     let len = length(words) as usize;
-    if len > ROW_TEXT {
+    if words.len() != ROW_WORDS || len > ROW_TEXT {
         return None;
     }
-    let mut room = [0; ROW_TEXT];
-    for i in 0..len {
-        room[i] = byte(words, i);
-    }
-    RowText::of(&room[..len])
-}
-
-/// A byte of the text.
-fn byte(words: &[u64], at: usize) -> u8
-    requires { at < ROW_TEXT }
-    ensures { TellsByte words.now at result }
-{
-    unpack(word(words, 4 + at / 8))[at % 8]
+    RowText::of(&room_of(words)[..len])
 }
 
 /// The text of the link that the words spell.

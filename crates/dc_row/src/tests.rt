@@ -109,6 +109,7 @@ fn finds_texts_by_their_words(rt: HostRuntime) {
         assert_eq!(rt; tells_of(&EXAMPLES[at], Key { number, label }), want);
     }
     assert_eq!(rt; text_in(&EXAMPLES[0]), RowText::of(b"usr"));
+    assert_eq!(rt; text_in(&EXAMPLES[0][..7]), None);
     assert_eq!(rt; text_sought(&EXAMPLES[3][..7]), None);
     assert_eq!(rt; text_of(&EXAMPLES[3][..7]), None);
 }
