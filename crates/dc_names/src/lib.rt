@@ -19,7 +19,7 @@ pub use fault::{NoMemory, TextFault};
 pub use fnv::hash;
 pub use kind::Kind;
 pub use last::Last;
-pub use laws::{parts_are_names_or_dots, short_texts_have_no_other_fault};
+pub use laws::{no_piece_is_longer, parts_are_names_or_dots};
 pub use name::{Name, Part};
 pub use path::{PathText, parse};
 pub use refusal::Refusal;

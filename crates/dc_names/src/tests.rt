@@ -3,8 +3,8 @@ ghost use Rattle.dc_names.specs.Names.{part_shown};
 ghost use Rattle.dc_names.specs.Paths.{parts_of};
 
 use crate::{
-    Last, Name, Part, PathText, Refusal, TextFault, first_part_hashed, hash, pack, parse,
-    parts_are_names_or_dots, short_texts_have_no_other_fault, unpack,
+    Last, Name, Part, PathText, Refusal, TextFault, first_part_hashed, hash, no_piece_is_longer,
+    pack, parse, parts_are_names_or_dots, unpack,
 };
 use std::alloc::{AllocError, Global};
 use std::test::Fail;
@@ -44,7 +44,7 @@ fn splits_a_path(rt: HostRuntime) -> Result<(), Fail> {
 
 #[test]
 fn tells_the_first_fault(rt: HostRuntime) {
-    short_texts_have_no_other_fault();
+    no_piece_is_longer();
     assert_eq!(rt; fault(b""), Some(TextFault::Empty));
     assert_eq!(rt; fault(b"a\0b"), Some(TextFault::Zero));
     assert_eq!(rt; fault(&[b'a'; 256]), Some(TextFault::Long));

@@ -1,13 +1,13 @@
 -- Short texts that are paths without a fault.
-use Rattle.std.proofs.Common.{◌≡◌, ◌≢◌, ℕ, suc, ◌<◌, ◌≤◌, ◌==◌, ◌∷◌, [], List, length, get_or, Bool, true, false, cond, Some, None, refl, arith}
+use Rattle.std.proofs.Common.{◌≡◌, ◌≢◌, ℕ, suc, ◌<◌, ◌≤◌, ◌==◌, ◌∷◌, [], List, length, get_or, Bool, true, false, cond, Some, None, refl, arith, nat_lt}
 use Rattle.std.specs.List.{list_any}
 use Rattle.std.proofs.lemmas.Bool.{ne_eqb, eq-eqb}
 use Rattle.std.proofs.lemmas.Bool.Decides.{nat_tests}
 use Rattle.std.proofs.lemmas.List.Folds.{list_any_at}
 use Rattle.dc_names.specs.Bytes.{is_empty}
-use Rattle.dc_names.specs.Laws.{ShortTextsHaveNoOtherFault}
+use Rattle.dc_names.specs.Laws.{NoPieceIsLonger}
 use Rattle.dc_names.specs.Paths.{is_long}
-use Rattle.dc_names.specs.declared.TheConstants.{NAME_MAX}
+use Rattle.dc_names.specs.declared.TheConstants.{NAME_MAX, PATH_MAX}
 use Rattle.dc_names.specs.declared.fault.TextFault.TheVariants.{Empty, Long, Zero}
 use Rattle.dc_row.specs.Spelling.{is_path}
 
@@ -36,5 +36,8 @@ path_parts text ok =
     let tested = faultless (is_empty text) (is_long text) (list_any (λ b. b == 0) text) ok in
     (grind (arith, nat_tests, tested.0), λ i h e. let yes = list_any_at (λ b. b == 0) text i 0 h (eq-eqb (get_or text i 0) 0 e) in absurd (cc (tested.1)))
 
-pub path_from : ShortTextsHaveNoOtherFault → (text : List ℕ) → 0 < length text → length text ≤ NAME_MAX → HasNoZero text → is_path text ≡ true
-path_from law text some few all = λ i. elim (law text some few (none_zero text all) i) [ None ↦ true | Some fault ↦ false ]
+pub path_from : NoPieceIsLonger → (text : List ℕ) → 0 < length text → length text ≤ NAME_MAX → HasNoZero text → is_path text ≡ true
+path_from law text some few all =
+    let empty : is_empty text ≡ false = grind (arith, nat_tests) in
+    let long : is_long text ≡ false = let test : nat_lt PATH_MAX (length text) ≡ false = grind (arith, nat_tests) in rw test (law NAME_MAX text few) in
+    λ i. no_fault (empty i) (long i) (none_zero text all i)

@@ -6,7 +6,7 @@ use Rattle.std.proofs.lemmas.Bool.Decides.{nat_tests}
 use Rattle.std.proofs.lemmas.Grind.{common_steps}
 use Rattle.std.proofs.lemmas.List.{get_or_past}
 use Rattle.std.proofs.lemmas.Nat.{from_le_bytes-to_le_bytes_8}
-use Rattle.dc_names.specs.Laws.{ShortTextsHaveNoOtherFault}
+use Rattle.dc_names.specs.Laws.{NoPieceIsLonger}
 use Rattle.dc_names.specs.Words.{AreBytes, word_of, bytes_in}
 use Rattle.dc_plain.specs.Facts.{Fact}
 use Rattle.dc_plain.specs.Facts.Fact.{Reads}
@@ -100,7 +100,7 @@ front_spelled {words} {room} {len} h (suc (suc (suc (suc k)))) pos lt =
     let late : 4 + k ≡ suc (suc (suc (suc k))) = omega arith in
     subst (λ (i : ℕ). get_or words i 0 ≡ word_at f i) late (front_word h k (omega arith) ∙ ap (text_word f.text) place ∙ sym (word_at-text f (4 + k) (omega arith)))
 
-front_path : {words room : List ℕ} {len : ℕ} → ShortTextsHaveNoOtherFault → HasText words room len → is_path (take len room) ≡ true
+front_path : {words room : List ℕ} {len : ℕ} → NoPieceIsLonger → HasText words room len → is_path (take len room) ≡ true
 front_path {words} {room} {len} law h =
     let size = front_size h in let some = h.some in let few = h.few in
     path_from law (take len room) (omega arith) (omega arith) (λ i before e.
@@ -109,7 +109,7 @@ front_path {words} {room} {len} law h =
 pub text_size : {words text : List ℕ} {n : ℕ} → Spells words (Some (Reads n text)) → length text ≡ get_or words 1 0 / 256
 text_size s = let head = head_is s in omega arith
 
-pub text_there : {words room : List ℕ} {len : ℕ} → ShortTextsHaveNoOtherFault → HasText words room len → SpellsText words
+pub text_there : {words room : List ℕ} {len : ℕ} → NoPieceIsLonger → HasText words room len → SpellsText words
 text_there {words} {room} {len} law h = (
   get_or words 2 0,
   take len room,

@@ -12,7 +12,7 @@ ghost use Rattle.dc_row.specs.declared.TheConstants.{ROW_WORDS, ROW_TEXT};
 use crate::reading::{room_of, spelled_text};
 use crate::writing::{is_numbered, kind_code, target_number, text_word};
 use crate::{ROW_TEXT, ROW_WORDS, RowText, number, target};
-use dc_names::{Kind, short_texts_have_no_other_fault};
+use dc_names::{Kind, no_piece_is_longer};
 use dc_plain::{Key, Label};
 
 /// Whether the words spell a fact of a key. The sequence count isn't looked at, and no row spells an
@@ -56,7 +56,7 @@ fn is_text(words: &[u64]) -> bool
         return false;
     }
     // No component of so short a text is too long, and so only a zero byte is looked for.
-    short_texts_have_no_other_fault();
+    no_piece_is_longer();
     ends_at(&room_of(words), len as u8)
 }
 

@@ -5,7 +5,7 @@ use Rattle.dc_row.proofs.entry.is_text.Goals as goal
 
 pub returns : goal.returns
 returns c = (
-  λ yes. text_there {len = get_or c.args.words.now 1 0 / 256} c.short_texts_have_no_other_fault.ensures (record {
+  λ yes. text_there {len = get_or c.args.words.now 1 0 / 256} c.no_piece_is_longer.ensures (record {
     count = c.requires.size;
     small = λ i. (c.type_inv.words i).fits;
     is_room = c.room_of.ensures;
