@@ -5,15 +5,17 @@ ghost use Rattle.dc_names.specs.Words.{AreBytes};
 ghost use Rattle.dc_plain.specs.Facts.{Target};
 ghost use Rattle.dc_plain.specs.Facts.Fact.{Leads, Reads};
 ghost use Rattle.dc_plain.specs.KeysShown.{key_shown};
+ghost use Rattle.dc_row.specs.Decoding.{IsRoomOf};
 ghost use Rattle.dc_row.specs.Rooms.{EndsAt};
 ghost use Rattle.dc_row.specs.Spelling.{Spells, SpellsText, TellsOf, TellsText, has_spelling, fields, IsSpelled};
 ghost use Rattle.dc_row.specs.declared.TheConstants.{ROW_WORDS, ROW_TEXT};
 
-use crate::reading::{room_of, spelled_text};
+use crate::reading::spelled_text;
 use crate::writing::{is_numbered, kind_code, target_number, text_word};
 use crate::{ROW_TEXT, ROW_WORDS, RowText, number, target};
 use dc_names::Kind;
 use dc_plain::{Key, Label};
+use std::simd::prelude::*;
 
 /// Whether the words spell a fact of a key. The sequence count isn't looked at, and no row spells an
 /// entry of the label `Text`.
@@ -56,20 +58,27 @@ fn is_text(words: &[u64]) -> bool
         return false;
     }
     // No component of so short a text is too long, and so no other fault than a zero byte is left.
-    ends_at(&room_of(words), len as u8)
+    ends_at(lanes_of(words), len)
 }
 
-/// Whether the bytes of a room are a text of this length, without a zero byte, and zeros after it. It
-/// looks at all bytes, so that many are looked at at a time.
-#[inline(never)]
-fn ends_at(room: &[u8; ROW_TEXT], len: u8) -> bool
-    ensures { IsTrue result ↔ EndsAt room.now len }
+/// All the bytes that the words have for a text, side by side. An array of them would go through memory.
+#[inline(always)]
+fn lanes_of(words: &[u64]) -> u8x32
+    requires size { length words.now ≡ ROW_WORDS }
+    ensures { IsRoomOf words.now result }
 {
-    let mut wrong = false;
-    for i in 0..ROW_TEXT {
-        wrong |= ((i as u8) < len) == (room[i] == 0);
-    }
-    !wrong
+    u64x4::from_array([words[4], words[5], words[6], words[7]]).to_le_bytes()
+}
+
+/// Whether the bytes of a room are a text of this length, without a zero byte, and zeros after it. Then
+/// the bits of the zero bytes are those from the length on.
+#[inline(always)]
+fn ends_at(room: u8x32, len: u64) -> bool
+    requires fits { len ≤ ROW_TEXT }
+    ensures { IsTrue result ↔ EndsAt room len }
+{
+    let zeros = room.simd_eq(u8x32::splat(0)).to_bitmask();
+    zeros == (1 << ROW_TEXT) - (1 << len)
 }
 
 /// Whether the words spell an entry of a key, wherever it leads.

@@ -8,7 +8,7 @@ returns c = (
   λ yes. text_there {len = get_or c.args.words.now 1 0 / 256} (record {
     count = c.requires.size;
     small = λ i. (c.type_inv.words i).fits;
-    is_room = c.room_of.ensures;
+    is_room = c.lanes_of.ensures;
     bytes = λ i. search rules;
     some = omega arith;
     few = omega arith;
@@ -17,5 +17,5 @@ returns c = (
     value = omega arith;
     ends = c.ends_at.ensures.0 yes;
   }),
-  λ spells. c.ends_at.ensures.1 (subst (EndsAt c.room_of.result) (text_size spells.2) (room_ends spells.2 c.room_of.ensures)),
+  λ spells. c.ends_at.ensures.1 (subst (EndsAt c.lanes_of.result) (text_size spells.2) (room_ends spells.2 c.lanes_of.ensures)),
 )
