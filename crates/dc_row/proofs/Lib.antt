@@ -7,3 +7,4 @@ pub mod Packed
 pub mod Decoded
 pub mod Paths
 pub mod Texts
+pub mod Lanes

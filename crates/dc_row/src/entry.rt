@@ -14,6 +14,7 @@ use crate::writing::{is_numbered, kind_code, target_number, text_word};
 use crate::{ROW_TEXT, ROW_WORDS, RowText, number, target};
 use dc_names::{Kind, no_piece_is_longer};
 use dc_plain::{Key, Label};
+use std::simd::prelude::*;
 
 /// Whether the words spell a fact of a key. The sequence count isn't looked at, and no row spells an
 /// entry of the label `Text`.
@@ -57,20 +58,18 @@ fn is_text(words: &[u64]) -> bool
     }
     // No component of so short a text is too long, and so only a zero byte is looked for.
     no_piece_is_longer();
-    ends_at(&room_of(words), len as u8)
+    ends_at(room_of(words), len)
 }
 
-/// Whether the bytes of a room are a text of this length, without a zero byte, and zeros after it. It
-/// looks at all bytes, so that many are looked at at a time.
-#[inline(never)]
-fn ends_at(room: &[u8; ROW_TEXT], len: u8) -> bool
-    ensures { IsTrue result ↔ EndsAt room.now len }
+/// Whether the bytes of a room are a text of this length, without a zero byte, and zeros after it. Then
+/// the bits of the zero bytes are those from the length on.
+#[inline(always)]
+fn ends_at(room: u8x32, len: u64) -> bool
+    requires fits { len ≤ ROW_TEXT }
+    ensures { IsTrue result ↔ EndsAt room len }
 {
-    let mut wrong = false;
-    for i in 0..ROW_TEXT {
-        wrong |= ((i as u8) < len) == (room[i] == 0);
-    }
-    !wrong
+    let zeros = room.simd_eq(u8x32::splat(0)).to_bitmask();
+    zeros == (1 << ROW_TEXT) - (1 << len)
 }
 
 /// Whether the words spell an entry of a key, wherever it leads.

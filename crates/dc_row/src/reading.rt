@@ -9,7 +9,8 @@ ghost use Rattle.dc_row.specs.declared.TheConstants.{ROW_WORDS};
 use crate::{
     ROW_TEXT, ROW_WORDS, Row, RowLabel, RowText, encode, kind, length, number, tag, value,
 };
-use dc_names::{Kind, unpack};
+use dc_names::Kind;
+use std::simd::prelude::*;
 
 /// The row that the words spell, or `None` where they spell none, whatever the sequence count is.
 pub fn decode(words: &[u64]) -> Option<Row>
@@ -73,7 +74,7 @@ pub fn text_in(words: &[u64]) -> Option<RowText>
     if words.len() != ROW_WORDS || len > ROW_TEXT {
         return None;
     }
-    RowText::of(&room_of(words)[..len])
+    RowText::of(&room_of(words).to_array()[..len])
 }
 
 /// The text of the link that the words spell.
@@ -82,18 +83,14 @@ pub fn spelled_text(words: &[u64]) -> RowText
     requires spelled { SpellsText words.now }
     ensures told { TellsText words.now (Some result) }
 {
-    RowText::from_room(room_of(words), length(words) as usize)
+    RowText::from_room(room_of(words).to_array(), length(words) as usize)
 }
 
-/// All the bytes that the words have for a text.
+/// All the bytes that the words have for a text, side by side. An array of them would go through memory.
 #[inline(always)]
-pub(crate) fn room_of(words: &[u64]) -> [u8; ROW_TEXT]
+pub(crate) fn room_of(words: &[u64]) -> u8x32
     requires size { length words.now ≡ ROW_WORDS }
     ensures { IsRoomOf words.now result }
 {
-    let mut room = [0; ROW_TEXT];
-    for i in 0..ROW_TEXT / 8 {
-        room[8 * i..8 * i + 8].copy_from_slice(&unpack(words[4 + i]));
-    }
-    room
+    u64x4::from_array([words[4], words[5], words[6], words[7]]).to_le_bytes()
 }
