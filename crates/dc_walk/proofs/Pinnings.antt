@@ -85,7 +85,7 @@ module _ {f g : Rows} (s : SameRows f g) where
       record { own = ap (λ (b : Book). b.own) same; joined = ap (λ (b : Book). b.joined) same; later = omega arith }
 
   -- a row that was filled and read answers
-  pub answered_pins : (e : Rows) → SameRows e f → NothingNew (view e.pass.now) (view f.pass.now) → f.used.now ≡ e.used.now → (key : Key) → GoesOn (now_in f) (now_in g) → Answers f key g → g.why ≡ None → Pins e g
+  pub answered_pins : (e : Rows) → SameRows e f → NothingNew (view e.pass.now) (view f.pass.now) → f.used.now ≡ e.used.now → (key : Key) {words : List ℕ} → GoesOn (now_in f) (now_in g) → Answers f key g words → g.why ≡ None → Pins e g
   answered_pins e before nothing used key on a why = record {
     same = same_again before s;
     told = subst (λ u. Extends (told_in u.items) (said_in g)) used (subst (λ facts. Extends (said_in f) (told_by facts)) (sym (ap facts_of a.uses ∙ map-append (λ u. u.fact) (uses_in f) (a.use_of ∷ []))) (told_more (facts_of (uses_in f)) a.use_of.fact));

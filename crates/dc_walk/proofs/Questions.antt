@@ -77,7 +77,7 @@ pub asks_so : {outcome : Teller → Option Outcome} {v : View} (us : List Use) (
 asks_so {v = v} us key marked untold need = record { facts = facts_of us; noted = all_noted v.walk.notes us marked; untold = untold; needed = need }
 
 module _ {f g : Rows} (s : SameRows f g) where
-  pub answered_becomes : (key : Key) → GoesOn (now_in f) (now_in g) → Answers f key g → g.why ≡ None → Becomes f g
+  pub answered_becomes : {words : List ℕ} (key : Key) → GoesOn (now_in f) (now_in g) → Answers f key g words → g.why ≡ None → Becomes f g
   answered_becomes key on a why = record {
     same = s;
     told = subst (λ facts. Extends (said_in f) (told_by facts)) (sym (ap facts_of a.uses ∙ map-append (λ u. u.fact) (uses_in f) (a.use_of ∷ []))) (told_more (facts_of (uses_in f)) a.use_of.fact);

@@ -97,9 +97,9 @@ module _ {f g : Rows} where
             subst (λ (z : View). IsOther z row key) (sym now) (record { note = x; noted = last_noted (now_in f).walk.notes x; is_of = refl; whole = whole; other = other }),
           )
 
-      pub answers_so : (fact : Fact) (u : Use) → uses_in g ≡ uses_in f ++ u ∷ [] → AllSpelled g.used.now.items → AllInside (share f.pass.now).rows g.used.now.items → AllBelow g.highest g.used.now.items → u.row ≡ row → u.count ≡ count → u.place ≡ f.made → u.fact ≡ fact → Spells (count ∷ words) (Some fact)
+      pub answers_so : {told : List ℕ} (fact : Fact) (u : Use) → uses_in g ≡ uses_in f ++ u ∷ [] → AllSpelled g.used.now.items → AllInside (share f.pass.now).rows g.used.now.items → AllBelow g.highest g.used.now.items → u.row ≡ row → u.count ≡ count → u.place ≡ f.made → u.fact ≡ fact → Spells (count ∷ words) (Some fact)
           → key_of fact ≡ key → k < BUCKET_ROWS → outcome_in f (said_in f) ≡ None → IsUntold (said_in f) key.number key.label
-          → IsStanding g.used.now.items key (length f.used.now.items) → Answers f key g
+          → IsStanding g.used.now.items key told → Answers f key g told
       answers_so fact u uses spelled inside below row_is count_is place fact_is spells about early none new standing =
           let many = is.made in
           let said : Spells (u.count ∷ words) (Some u.fact) = subst (λ (z : ℕ × Fact). Spells (z.0 ∷ words) (Some z.1)) (λ i. (sym count_is i, sym fact_is i)) spells in

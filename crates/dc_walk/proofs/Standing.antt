@@ -1,9 +1,8 @@
 -- What the rows that were used tell of a key.
-use Rattle.std.proofs.Common.{◌≡◌, ◌≢◌, ℕ, zero, suc, ◌+◌, ◌<◌, ◌≤◌, ◌==◌, ◌&&◌, List, [], ◌∷◌, ◌++◌, length, get_or, Bool, true, false, cond, Option, Some, map, refl, ap, sym, ◌∙◌, subst, arith, length-append}
+use Rattle.std.proofs.Common.{◌≡◌, ◌≢◌, ℕ, zero, suc, ◌<◌, ◌≤◌, ◌==◌, ◌&&◌, List, [], ◌∷◌, ◌++◌, length, get_or, Bool, true, false, cond, Option, Some, map, refl, ap, sym, ◌∙◌, subst, arith}
 use Rattle.std.proofs.lemmas.Bool.Decides.{nat_tests}
 use Rattle.std.proofs.lemmas.List.{map-append}
 use Rattle.std.proofs.lemmas.Slice.Eq.{bytes_eq-Decides}
-use Rattle.std.proofs.Math.Seq.{get_or-append_seam}
 use Rattle.dc_plain.specs.Facts.{Fact, Key, Label, Target, key_of, told_by, same_label, entry_told, text_told}
 use Rattle.dc_plain.specs.Facts.Label.{Entry, Parent, Text}
 use Rattle.dc_plain.specs.Facts.Fact.{Leads, Reads}
@@ -11,7 +10,7 @@ use Rattle.dc_row.specs.Decoding.{fact_in, SpelledIsRead}
 use Rattle.dc_row.specs.Spelling.{Spells, TellsOf, has_spelling}
 use Rattle.dc_resolve.specs.Needs.{IsUntold}
 use Rattle.dc_walk.specs.Uses.{facts_of}
-use Rattle.dc_walk.specs.Finds.{fact_or_none, fact_shown, no_use, use_shown, told_in, IsSpelled, AllSpelled, AllInside, AllBelow, IsBelow, IsTold, IsStanding}
+use Rattle.dc_walk.specs.Finds.{fact_or_none, fact_shown, use_shown, told_in, IsSpelled, AllSpelled, AllInside, AllBelow, IsBelow, IsTold, IsStanding}
 use Rattle.dc_walk.specs.declared.used.Used.{Used}
 use Rattle.dc_walk.proofs.Told.{same_test, same_itself, told_last, new_same}
 
@@ -78,6 +77,9 @@ inside_at rows [] i d l all = absurd (omega arith)
 inside_at rows (v ∷ us) zero d l all = all.0
 inside_at rows (v ∷ us) (suc i) d l all = inside_at rows us i d (omega arith) all.1
 
+abbrev no_use : Used
+no_use = record { row = 0; place = 0; words = [] }
+
 -- no row up to the i-th tells of the key
 abbrev pub AreOthers : List Used → Key → ℕ → Type 0
 AreOthers us key i = (j : ℕ) → j < i → TellsOf (get_or us j no_use).words key → ⊥
@@ -90,8 +92,8 @@ first_told read (u ∷ us) key (suc i) l all others fact about s =
     told_past (fact_shown u) (facts_of (map use_shown us)) fact (λ same. others 0 (omega arith) (record { fact = fact_shown u; about = same ∙ about; spelled = all.0 }))
     (first_told read us key i (omega arith) all.1 (λ j h. others (suc j) (omega arith)) fact about s)
 
-pub stands_so : SpelledIsRead → (us : List Used) (key : Key) (i : ℕ) → i < length us → AllSpelled us → AreOthers us key i → TellsOf (get_or us i no_use).words key → IsStanding us key i
-stands_so read us key i l all others tells = record { inside = l; fact = tells.fact; about = tells.about; spelled = tells.spelled; told = first_told read us key i l all others tells.fact tells.about tells.spelled }
+pub stands_so : SpelledIsRead → (us : List Used) (key : Key) (i : ℕ) → i < length us → AllSpelled us → AreOthers us key i → TellsOf (get_or us i no_use).words key → IsStanding us key (get_or us i no_use).words
+stands_so read us key i l all others tells = record { fact = tells.fact; about = tells.about; spelled = tells.spelled; told = first_told read us key i l all others tells.fact tells.about tells.spelled }
 
 pub none_stands : (us : List Used) (key : Key) → AllSpelled us → AreOthers us key (length us) → IsUntold (told_in us) key.number key.label
 none_stands [] key all others = untold_by_none key.number key.label
@@ -143,37 +145,13 @@ key_below key h shown fact same about up can = subst (IsBelow h) (sym same) (fac
     fact_below (Reads n text) about can = tt
 
 -- a row that was just used tells of its key
-pub stands_last : (us : List Used) (new : Used) (key : Key) (fact : Fact) → fact_shown new ≡ fact → key_of fact ≡ key → Spells new.words (Some fact) → IsUntold (told_in us) key.number key.label → IsStanding (us ++ new ∷ []) key (length us)
+pub stands_last : (us : List Used) (new : Used) (key : Key) (fact : Fact) → fact_shown new ≡ fact → key_of fact ≡ key → Spells new.words (Some fact) → IsUntold (told_in us) key.number key.label → IsStanding (us ++ new ∷ []) key new.words
 stands_last us new key fact shown about spells none =
-    let size : length (us ++ new ∷ []) ≡ length us + 1 = length-append us (new ∷ []) in
     let facts : facts_of (map use_shown (us ++ new ∷ [])) ≡ facts_of (map use_shown us) ++ fact ∷ [] =
     ap facts_of (map-append use_shown us (new ∷ [])) ∙ map-append (λ u. u.fact) (map use_shown us) (use_shown new ∷ []) ∙ ap (λ f. facts_of (map use_shown us) ++ f ∷ []) shown in
     record {
-      inside = omega arith;
       fact = fact;
       about = about;
-      spelled = subst (λ (u : Used). Spells u.words (Some fact)) (sym (get_or-append_seam us new [] no_use)) spells;
+      spelled = spells;
       told = subst (λ fs. IsTold (told_by fs) fact) (sym facts) (told_last (facts_of (map use_shown us)) fact spells.allowed (new_same key (told_in us) fact about none));
     }
-
--- what the row of a key tells
-pub stands_entry : (us : List Used) (n : ℕ) (label : Label) (i : ℕ) → label ≢ Text → IsStanding us (record { number = n; label = label }) i → (target : Option Target) × Spells (get_or us i no_use).words (Some (Leads n label target)) × ((told_in us).entry n label ≡ Some target)
-stands_entry us n label i entry s = leads s.fact s.about s.spelled s.told
-  where
-    leads : (fact : Fact) → key_of fact ≡ record { number = n; label = label } → Spells (get_or us i no_use).words (Some fact) → IsTold (told_in us) fact → (target : Option Target) × Spells (get_or us i no_use).words (Some (Leads n label target)) × ((told_in us).entry n label ≡ Some target)
-    leads (Leads d l target) is spelled told =
-        let here = subst (λ (k : Key). Spells (get_or us i no_use).words (Some (Leads k.number k.label target)) × ((told_in us).entry k.number k.label ≡ Some target)) is (spelled, told) in
-        (target, here.0, here.1)
-    leads (Reads m text) is spelled told = absurd (entry (sym (ap (λ (k : Key). k.label) is)))
-
-pub stands_text : (us : List Used) (n i : ℕ) → IsStanding us (record { number = n; label = Text }) i → (text : List ℕ) × Spells (get_or us i no_use).words (Some (Reads n text)) × ((told_in us).text n ≡ Some text)
-stands_text us n i s = reads s.fact s.about s.spelled s.told
-  where
-    no_entry : (d : ℕ) (l : Label) (target : Option Target) → l ≡ Text → has_spelling (Some (Leads d l target)) ≡ true → ⊥
-    no_entry d (Entry name) target is can = absurd cc
-    no_entry d Parent target is can = absurd cc
-    no_entry d Text target is can = absurd cc
-
-    reads : (fact : Fact) → key_of fact ≡ record { number = n; label = Text } → Spells (get_or us i no_use).words (Some fact) → IsTold (told_in us) fact → (text : List ℕ) × Spells (get_or us i no_use).words (Some (Reads n text)) × ((told_in us).text n ≡ Some text)
-    reads (Leads d l target) is spelled told = absurd (no_entry d l target (ap (λ (k : Key). k.label) is) spelled.allowed)
-    reads (Reads m text) is spelled told = let here = subst (λ (k : ℕ). Spells (get_or us i no_use).words (Some (Reads k text)) × ((told_in us).text k ≡ Some text)) (ap (λ (k : Key). k.number) is) (spelled, told) in (text, here.0, here.1)

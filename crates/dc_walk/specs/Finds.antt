@@ -1,5 +1,5 @@
 -- What the rows that a walk has used tell.
-use Rattle.std.specs.Prelude.{◌≡◌, ℕ, ◌<◌, ◌≤◌, List, [], Option, Some, None, length, map, get_or}
+use Rattle.std.specs.Prelude.{◌≡◌, ℕ, ◌<◌, ◌≤◌, List, [], Option, Some, None, map, get_or}
 use Rattle.std.specs.List.{AllByRecursion}
 use Rattle.dc_plain.specs.Facts.{Fact, Key, Teller, key_of, told_by}
 use Rattle.dc_plain.specs.Facts.Fact.{Leads, Reads}
@@ -19,9 +19,6 @@ fact_shown u = fact_or_none (fact_in u.words)
 
 abbrev pub use_shown : Used → Use
 use_shown u = record { row = u.row; count = get_or u.words 0 0; place = u.place; fact = fact_shown u }
-
-abbrev pub no_use : Used
-no_use = record { row = 0; place = 0; words = [] }
 
 -- the words of a row spell its fact
 abbrev pub IsSpelled : Used → Type 0
@@ -51,10 +48,9 @@ abbrev pub IsTold : Teller → Fact → Type 0
 IsTold teller (Leads d label target) = teller.entry d label ≡ Some target
 IsTold teller (Reads n text) = teller.text n ≡ Some text
 
--- the i-th of the rows that were used spells what they tell of a key
-pub record IsStanding (used : List Used) (key : Key) (i : ℕ) : Type 0 where
-  pub inside : i < length used
+-- these words spell what the rows that were used tell of a key
+pub record IsStanding (used : List Used) (key : Key) (words : List ℕ) : Type 0 where
   pub fact : Fact
   pub about : key_of fact ≡ key
-  pub spelled : Spells (get_or used i no_use).words (Some fact)
+  pub spelled : Spells words (Some fact)
   pub told : IsTold (told_in used) fact

@@ -1,5 +1,5 @@
 -- What a look at one row finds.
-use Rattle.std.specs.Prelude.{◌≡◌, ℕ, ◌+◌, [], ◌∷◌, ◌++◌, length}
+use Rattle.std.specs.Prelude.{◌≡◌, ℕ, ◌+◌, List, [], ◌∷◌, ◌++◌}
 use Rattle.std.specs.List.{Contains}
 use Rattle.dc_plain.specs.Facts.{Key}
 use Rattle.dc_events.specs.Views.Fault.{Busy}
@@ -17,14 +17,14 @@ module _ (f : Rows) (key : Key) (g : Rows) where
     pub finding : IsFinding g (k + 1)
     pub used : g.used.now ≡ f.used.now
 
-  -- a row that tells of the key is used, as the last
-  pub record Answers : Type 0 where
+  -- a row that tells of the key by these words is used, as the last
+  pub record Answers (words : List ℕ) : Type 0 where
     pub finding : IsFinding g 0
-    pub standing : IsStanding g.used.now.items key (length f.used.now.items)
+    pub standing : IsStanding g.used.now.items key words
     pub use_of : Use
     pub uses : uses_in g ≡ uses_in f ++ use_of ∷ []
 
   abbrev pub Saw : ℕ → ℕ → rust_seen.Seen → Type 0
   Saw row k sights.Odd = Fails k × Contains (now_in g).faults (Busy row)
   Saw row k sights.Other = Fails k × IsOther (now_in g) row key
-  Saw row k sights.Tells = Answers
+  Saw row k (sights.Tells words) = Answers words

@@ -18,13 +18,13 @@ use crate::BUCKET_ROWS;
 use crate::bucket::ask_rows;
 use crate::finder::Rows;
 use crate::link::LinkText;
-use crate::used::{standing, target_at, text_at};
+use crate::used::standing;
 use crate::why::Why;
 use dc_index::bucket_at;
 use dc_names::{Kind, Part, hash};
 use dc_plain::{Key, Label};
 use dc_resolve::{Finder, Stop};
-use dc_row::words_have_the_fact_they_spell;
+use dc_row::{ROW_WORDS, target, words_have_the_fact_they_spell};
 
 /// The key under which a part is looked up in a directory.
 pub(crate) fn key_of<'a>(number: u64, part: Part<'a>) -> Key<'a>
@@ -69,10 +69,10 @@ fn is_above(key: Key<'_>, highest: u64) -> bool
     }
 }
 
-/// Asks the rows of a key's bucket for a key of which nothing was told, by its hash, and answers which
-/// of the rows that were used tells of it.
+/// Asks the rows of a key's bucket for a key of which nothing was told, by its hash, and answers the
+/// words of the row that tells of it.
 #[inline(always)]
-fn ask(rows: &mut Rows<'_>, key: Key<'_>, hash: u64) -> Result<usize, Stop>
+fn ask(rows: &mut Rows<'_>, key: Key<'_>, hash: u64) -> Result<[u64; ROW_WORDS], Stop>
     requires fresh { rows.old.why ≡ None }
     requires good { IsGood rows.old }
     requires hash { hash ≡ hash_of (key_shown key).number (label_bytes (key_shown key).label) }
@@ -92,7 +92,7 @@ fn ask(rows: &mut Rows<'_>, key: Key<'_>, hash: u64) -> Result<usize, Stop>
     let buckets = rows.shared.limits.rows / BUCKET_ROWS;
     let first = BUCKET_ROWS * bucket_at(hash, buckets);
     match ask_rows(rows, first, key) {
-        Ok(()) => Ok(answered),
+        Ok(words) => Ok(words),
         Err(Some(row)) => {
             rows.why = Some(Why::Busy(row));
             Err(Stop)
@@ -104,10 +104,10 @@ fn ask(rows: &mut Rows<'_>, key: Key<'_>, hash: u64) -> Result<usize, Stop>
     }
 }
 
-/// Which of the rows that were used tells of a key with this hash. Where none does yet, the rows of its
+/// The words of the used row that tells of a key with this hash. Where none does yet, the rows of its
 /// bucket are asked.
 #[inline(always)]
-fn told(rows: &mut Rows<'_>, key: Key<'_>, hash: u64) -> Result<usize, Stop>
+fn told(rows: &mut Rows<'_>, key: Key<'_>, hash: u64) -> Result<[u64; ROW_WORDS], Stop>
     requires hash { hash ≡ hash_of (key_shown key).number (label_bytes (key_shown key).label) }
     requires may { MayAskRows rows.old (key_shown key).number (key_shown key).label }
     ensures becomes { Becomes rows.old rows.new }
@@ -124,7 +124,7 @@ fn told(rows: &mut Rows<'_>, key: Key<'_>, hash: u64) -> Result<usize, Stop>
         return ask(rows, key, hash);
     }
     match standing(rows.used.as_slice(), key) {
-        Some(place) => Ok(place),
+        Some(words) => Ok(words),
         None => ask(rows, key, hash),
     }
 }
@@ -153,14 +153,14 @@ impl<'a> Finder for Rows<'a> {
         hash: u64,
     ) -> Result<Option<(u64, Kind)>, Stop> {
         let key = key_of(dir, part);
-        let place = told(self, key, hash)?;
-        Ok(target_at(self.used.as_slice(), place, key))
+        let words = told(self, key, hash)?;
+        Ok(target(&words))
     }
 
     fn link_text(&mut self, number: u64) -> Result<LinkText, Stop> {
         let key = text_key(number);
-        let place = told(self, key, hash(number, key.label.bytes()))?;
-        Ok(text_at(self.used.as_slice(), place, key))
+        let words = told(self, key, hash(number, key.label.bytes()))?;
+        Ok(LinkText::of(&words))
     }
 
     ghost stays = { stays_so };

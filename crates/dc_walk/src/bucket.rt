@@ -1,6 +1,6 @@
 //! The rows of a key's bucket.
 
-ghost use Rattle.std.specs.Prelude.{◌≡◌, ◌≤◌, ◌<◌, ◌+◌, ◌^◌, None, OnOk, IfErr, OnErr};
+ghost use Rattle.std.specs.Prelude.{◌≡◌, ◌≤◌, ◌<◌, ◌+◌, ◌^◌, None, IfOk, IfErr, OnErr};
 ghost use Rattle.arrayvec.specs.ArrayVec.{array_vec_len};
 ghost use Rattle.dc_plain.specs.KeysShown.{key_shown};
 ghost use Rattle.dc_resolve.specs.Needs.{IsUntold};
@@ -15,11 +15,16 @@ use crate::BUCKET_ROWS;
 use crate::finder::Rows;
 use crate::looking::{Seen, look_at};
 use dc_plain::Key;
+use dc_row::ROW_WORDS;
 
 /// Looks at the rows of a bucket up to the first that tells of a key, which is the last of the used
-/// ones then. Else it answers the first of them that is odd.
+/// ones then, and answers its words. Else it answers the first of them that is odd.
 #[inline(always)]
-pub(crate) fn ask_rows(rows: &mut Rows<'_>, first: u64, key: Key<'_>) -> Result<(), Option<u64>>
+pub(crate) fn ask_rows(
+    rows: &mut Rows<'_>,
+    first: u64,
+    key: Key<'_>,
+) -> Result<[u64; ROW_WORDS], Option<u64>>
     requires finding { IsFinding rows.old 0 }
     requires within { first + BUCKET_ROWS ≤ (share rows.old.pass.now).rows }
     requires few { (share rows.old.pass.now).rows < 2 ^ 64 }
@@ -29,7 +34,7 @@ pub(crate) fn ask_rows(rows: &mut Rows<'_>, first: u64, key: Key<'_>) -> Result<
     ensures same { SameRows rows.old rows.new }
     ensures why { rows.new.why ≡ rows.old.why }
     ensures on { GoesOn (now_in rows.old) (now_in rows.new) }
-    ensures tells { OnOk result (Answers rows.old (key_shown key.entry) rows.new) }
+    ensures tells { IfOk result (Answers rows.old (key_shown key.entry) rows.new) }
     ensures fails { OnErr result (Fails rows.old (key_shown key.entry) rows.new 3) }
     ensures looked { IfErr result (λ odd.
         Looked (now_in rows.new) first (key_shown key.entry) odd BUCKET_ROWS) }
@@ -37,7 +42,7 @@ pub(crate) fn ask_rows(rows: &mut Rows<'_>, first: u64, key: Key<'_>) -> Result<
     let mut odd = None;
     for k in 0..BUCKET_ROWS {
         match look_at(rows, first + k, key, k) {
-            Seen::Tells => return Ok(()),
+            Seen::Tells(words) => return Ok(words),
             Seen::Odd => odd = odd.or(Some(first + k)),
             Seen::Other => {}
         }

@@ -15,7 +15,7 @@ use crate::finder::Rows;
 use crate::probing::probe;
 use crate::used::Used;
 use dc_plain::{Call, Key, Label};
-use dc_row::{tells_of, words_have_the_fact_they_spell};
+use dc_row::{ROW_WORDS, tells_of, words_have_the_fact_they_spell};
 
 /// What a row answers.
 pub(crate) enum Seen {
@@ -23,8 +23,8 @@ pub(crate) enum Seen {
     Odd,
     /// It tells of another key, or of none.
     Other,
-    /// It tells of the key.
-    Tells,
+    /// It tells of the key, by these words.
+    Tells([u64; ROW_WORDS]),
 }
 
 /// The highest number of a directory of which an entry was told, once a key is told of.
@@ -72,5 +72,5 @@ pub(crate) fn look_at(rows: &mut Rows<'_>, row: u64, key: Key<'_>, before: u64) 
     }
     rows.highest = highest_with(rows.highest, key);
     rows.used.push(Used { row, place, words });
-    Seen::Tells
+    Seen::Tells(words)
 }

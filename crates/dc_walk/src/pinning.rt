@@ -15,11 +15,12 @@ use crate::asking::{key_of, missing, text_key};
 use crate::finder::Rows;
 use crate::link::LinkText;
 use crate::looking::{Seen, look_at};
-use crate::used::{standing, target_at, text_at};
+use crate::used::standing;
 use crate::why::Why;
 use dc_names::{Kind, NoMemory, Part};
 use dc_plain::Key;
 use dc_resolve::{Finder, Stop};
+use dc_row::{ROW_WORDS, target};
 use std::alloc::Global;
 use std::sync::Wait;
 
@@ -32,14 +33,14 @@ pub(crate) struct PinnedRows<'a, R> {
     pub rows: Rows<'a>,
 }
 
-/// Fills and pins the row of a key of which nothing was told, and reads it. It answers which of the
-/// rows that were used that is. A row that tells no more of the key is unpinned at once.
+/// Fills and pins the row of a key of which nothing was told, and reads it. It answers the words of
+/// the row. A row that tells no more of the key is unpinned at once.
 fn ask_pinned<R: Wait>(
     rt: &R,
     alloc: Global,
     rows: &mut Rows<'_>,
     key: Key<'_>,
-) -> Result<usize, Stop>
+) -> Result<[u64; ROW_WORDS], Stop>
     requires fresh { rows.old.why ≡ None }
     requires finding { IsFinding rows.old 0 }
     requires needed { IsNeeded (outcome_in rows.old) (said_in rows.old) (key_shown key).number
@@ -67,7 +68,7 @@ fn ask_pinned<R: Wait>(
         }
     };
     let why = match look_at(rows, row, key, 0) {
-        Seen::Tells => return Ok(answered),
+        Seen::Tells(words) => return Ok(words),
         Seen::Odd => Why::Busy(row),
         Seen::Other => missing(key, answered as u64),
     };
@@ -76,14 +77,14 @@ fn ask_pinned<R: Wait>(
     Err(Stop)
 }
 
-/// Which of the rows that were used tells of a key. Where none does yet, the key's row is filled and
+/// The words of the used row that tells of a key. Where none does yet, the key's row is filled and
 /// pinned.
 fn told_pinned<R: Wait>(
     rt: &R,
     alloc: Global,
     rows: &mut Rows<'_>,
     key: Key<'_>,
-) -> Result<usize, Stop>
+) -> Result<[u64; ROW_WORDS], Stop>
     requires may { MayPin rows.old (key_shown key).number (key_shown key).label }
     ensures pins { Pins rows.old rows.new }
     ensures told { IfOk result (IsStanding rows.new.used.now.items (key_shown key.entry)) }
@@ -94,7 +95,7 @@ fn told_pinned<R: Wait>(
         return Err(Stop);
     }
     match standing(rows.used.as_slice(), key) {
-        Some(place) => Ok(place),
+        Some(words) => Ok(words),
         None => ask_pinned(rt, alloc, rows, key),
     }
 }
@@ -116,8 +117,8 @@ fn find_pinned<R: Wait>(
     ensures same { OnOk result (is_some rows.new.why ≡ is_some rows.old.why) }
     ensures stopped { OnErr result (is_some rows.new.why ≡ true) }
 {
-    let place = told_pinned(rt, alloc, rows, key)?;
-    Ok(target_at(rows.used.as_slice(), place, key))
+    let words = told_pinned(rt, alloc, rows, key)?;
+    Ok(target(&words))
 }
 
 /// The text of a link, by the row that was used for its key.
@@ -135,8 +136,8 @@ fn text_pinned<R: Wait>(
     ensures same { OnOk result (is_some rows.new.why ≡ is_some rows.old.why) }
     ensures stopped { OnErr result (is_some rows.new.why ≡ true) }
 {
-    let place = told_pinned(rt, alloc, rows, key)?;
-    Ok(text_at(rows.used.as_slice(), place, key))
+    let words = told_pinned(rt, alloc, rows, key)?;
+    Ok(LinkText::of(&words))
 }
 
 impl<'a, R: Wait> Finder for PinnedRows<'a, R> {

@@ -1,4 +1,4 @@
-use Rattle.std.proofs.Common.{arith, Some, List, length, not, get_or, drop, map, refl, ap, sym, ◌∙◌, subst}
+use Rattle.std.proofs.Common.{Some, List, not, get_or, drop, map, refl, ap, sym, ◌∙◌, subst}
 use Rattle.std.proofs.lemmas.List.{map-append}
 use Rattle.dc_plain.specs.KeysShown.{key_shown}
 use Rattle.dc_plain.specs.Requests.Request.{Look}
@@ -50,4 +50,4 @@ returns-clause-saw c = let f = c.args.rows.now in let e = c.in-Ok.ensures in let
     (subst (AllInside (share f.pass.now).rows) (sym items) (inside_more (share f.pass.now).rows f.used.now.items new c.requires.finding.inside c.requires.row))
     (subst (AllBelow _) (sym items) (below_more f.highest _ f.used.now.items new c.requires.finding.below c.highest_with-rows.ensures.still (key_below key _ _ tells.fact shown tells.about c.highest_with-rows.ensures.entry tells.spelled.allowed)))
     refl refl refl shown (subst (λ ws. Spells ws (Some tells.fact)) (sym (count_first words e.whole)) tells.spelled) tells.about c.requires.few c.requires.needed c.requires.untold
-    (subst (λ (us : List Used). IsStanding us key (length f.used.now.items)) (sym items) (stands_last f.used.now.items new key tells.fact shown tells.about tells.spelled c.requires.untold))
+    (subst (λ (us : List Used). IsStanding us key words) (sym items) (stands_last f.used.now.items new key tells.fact shown tells.about tells.spelled c.requires.untold))
