@@ -16,7 +16,7 @@ use Rattle.dc_walk.specs.Asking.{IsWalk, SameWalk}
 use Rattle.dc_walk.specs.Causes.{HasCause}
 use Rattle.dc_walk.specs.Becomings.{Becomes, IsGood}
 use Rattle.dc_walk.specs.Fasts.{GaveUp, Went}
-use Rattle.dc_walk.specs.Finds.{use_shown, AllSpelled, AllInside, AllBelow}
+use Rattle.dc_walk.specs.Finds.{use_shown, AllSpelled, AllInside, AllHeld}
 use Rattle.dc_walk.specs.Findings.{IsFinding, CanWalk, now_in, outcome_in, request_in, said_in, buckets_of}
 use Rattle.dc_walk.specs.declared.finder.Rows.{Rows}
 use Rattle.dc_walk.specs.declared.why.Why as rust_why
@@ -57,7 +57,7 @@ module _ (f : Rows) where
       call = ap (λ (z : View). z.walk.call) now;
       spelled = subst AllSpelled (sym none) tt;
       inside = subst (AllInside (share f.pass.now).rows) (sym none) tt;
-      below = subst (AllBelow f.highest) (sym none) tt;
+      held = subst (AllHeld f.filter) (sym none) tt;
     });
     cause = subst (λ o. IfSome o (HasCause (outcome_in f) (buckets_of f.pass.now) (now_in f))) (sym fresh) tt;
     asks = subst (λ o. IfSome o (λ why. outcome_in f (told_by []) ≡ None)) (sym fresh) tt;

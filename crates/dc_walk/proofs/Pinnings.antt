@@ -16,9 +16,10 @@ use Rattle.dc_walk.specs.Asking.{IsWalk, GoesOn}
 use Rattle.dc_walk.specs.Becomings.{same_again}
 use Rattle.dc_walk.specs.Settling.{Came}
 use Rattle.dc_walk.specs.Pinned.{Pins, IsPinning, nothing_again}
-use Rattle.dc_walk.specs.Finds.{use_shown, told_in, AllSpelled, AllInside, AllBelow}
+use Rattle.dc_walk.specs.Finds.{use_shown, told_in, AllSpelled, AllInside, AllHeld}
 use Rattle.dc_walk.specs.Findings.{SameRows, IsFinding, now_in, uses_in, outcome_in, request_in, said_in}
 use Rattle.dc_walk.specs.Sights.{Answers}
+use Rattle.dc_walk.specs.declared.filter.KeyFilter.{KeyFilter}
 use Rattle.dc_walk.specs.declared.finder.Rows.{Rows}
 use Rattle.dc_walk.specs.declared.used.Used.{Used}
 use Rattle.dc_walk.specs.declared.why.Why as rust_why
@@ -49,15 +50,15 @@ module _ {v w : View} (r : Rested v w) where
 
 module _ {f g : Rows} (s : SameRows f g) where
   -- the lock was had and given back: what is known of the walk stays
-  pub still_finding : (k : ℕ) → Rested (view f.pass.now) (view g.pass.now) → IsIdle g.pass.now → g.used.now ≡ f.used.now → g.begun ≡ f.begun → g.made ≡ f.made → g.highest ≡ f.highest → IsFinding f k → IsFinding g k
-  still_finding k r idle used begun made highest is =
+  pub still_finding : (k : ℕ) → Rested (view f.pass.now) (view g.pass.now) → IsIdle g.pass.now → g.used.now ≡ f.used.now → g.begun ≡ f.begun → g.made ≡ f.made → g.filter ≡ f.filter → IsFinding f k → IsFinding g k
+  still_finding k r idle used begun made filter is =
       let call = request_in f in
       let v = begins (not f.begun) (view g.pass.now) call in
       let notes = rested_notes r (not f.begun) call in
       finds_on v (uses_in f) k s (can_still (λ i. (s.shared i).now) s.same_pass idle is.can)
       (subst (λ u. AllSpelled u.items) (sym used) is.spelled)
       (subst (λ (z : Share × List Used). AllInside z.0.rows z.1) (λ i. (sym s.same_pass.same_share i, (sym used i).items)) is.inside)
-      (subst (λ (z : ℕ × List Used). AllBelow z.0 z.1) (λ i. (sym highest i, (sym used i).items)) is.below)
+      (subst (λ (z : KeyFilter × List Used). AllHeld z.0 z.1) (λ i. (sym filter i, (sym used i).items)) is.held)
       (λ i. begins (not (begun i)) (view g.pass.now) (request_same s i))
       (rested_walk r (not f.begun) call is.walk)
       (ap (λ u. map use_shown u.items) used)
@@ -73,7 +74,7 @@ module _ {f g : Rows} (s : SameRows f g) where
     same = record { shared = s.shared; pass = s.pass; used = s.used; base = s.base; path = s.path; follow = s.follow; same_pass = s.same_pass };
     told = same_told used;
     nothing = nothing;
-    good = λ good. record { can = is.can; walk = rested BUCKET_ROWS few is.walk; made = is.made; call = is.call; spelled = is.spelled; inside = is.inside; below = is.below };
+    good = λ good. record { can = is.can; walk = rested BUCKET_ROWS few is.walk; made = is.made; call = is.call; spelled = is.spelled; inside = is.inside; held = is.held };
   }
 
   -- nothing is recorded by a look at a row

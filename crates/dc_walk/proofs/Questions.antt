@@ -101,7 +101,7 @@ module _ {f g : Rows} (s : SameRows f g) where
         told = subst (λ used. Extends (said_in f) (told_by (facts_of (map use_shown used.items)))) (sym fails.used) (told_itself (said_in f));
         walk = on.same;
         good = λ good. record {
-          finding = record { can = fails.finding.can; walk = fails.finding.walk; made = fails.finding.made; call = fails.finding.call; spelled = fails.finding.spelled; inside = fails.finding.inside; below = fails.finding.below };
+          finding = record { can = fails.finding.can; walk = fails.finding.walk; made = fails.finding.made; call = fails.finding.call; spelled = fails.finding.spelled; inside = fails.finding.inside; held = fails.finding.held };
           cause = tells (outcome_in g) (buckets_of g.pass.now) (now_in g) (record {
             asks = asks_so (uses_in f) key (subst (Marked 0 0 (now_in g).walk.notes) (ap (λ used. map use_shown used.items) fails.used) fails.finding.walk.marked) none
                 (λ teller more untold. (λ i. outcome_same s i teller) ∙ need teller more untold);
@@ -118,7 +118,7 @@ module _ {f g : Rows} (s : SameRows f g) where
     told = subst (λ used. Extends (said_in f) (told_by (facts_of (map use_shown used.items)))) (sym fails.used) (told_itself (said_in f));
     walk = on.same;
     good = λ good. record {
-      finding = record { can = fails.finding.can; walk = fails.finding.walk; made = fails.finding.made; call = fails.finding.call; spelled = fails.finding.spelled; inside = fails.finding.inside; below = fails.finding.below };
+      finding = record { can = fails.finding.can; walk = fails.finding.walk; made = fails.finding.made; call = fails.finding.call; spelled = fails.finding.spelled; inside = fails.finding.inside; held = fails.finding.held };
       cause = looked.odd_row;
       asks = asks_first good key need none;
     };
@@ -130,7 +130,7 @@ full_becomes f key fresh full need none = record {
   told = told_itself (said_in f);
   walk = record { call = refl; book = refl; first_load = refl };
   good = λ good. let finding = subst (λ o. IsFinding f (if is_some o then BUCKET_ROWS else 0)) fresh good.finding in record {
-    finding = record { walk = rested BUCKET_ROWS (omega arith) finding.walk; made = finding.made; call = finding.call; can = finding.can; spelled = finding.spelled; inside = finding.inside; below = finding.below };
+    finding = record { walk = rested BUCKET_ROWS (omega arith) finding.walk; made = finding.made; call = finding.call; can = finding.can; spelled = finding.spelled; inside = finding.inside; held = finding.held };
     cause = record { uses = uses_in f; marked = finding.walk.marked; many = length-map f.used.now.items use_shown ∙ full; distinct = finding.walk.distinct };
     asks = first_none (outcome_in f) (uses_in f) finding.walk.needed (needed_now (outcome_in f) (said_in f) key need none);
   };

@@ -18,9 +18,10 @@ use Rattle.dc_walk.specs.declared.TheConstants.{BUCKET_ROWS}
 use Rattle.dc_walk.specs.Probes.{probed, fresh_note}
 use Rattle.dc_walk.specs.Uses.{Use}
 use Rattle.dc_walk.specs.Asking.{IsWalk, IsOther, GoesOn, SameWalk}
-use Rattle.dc_walk.specs.Finds.{use_shown, told_in, AllSpelled, AllInside, AllBelow, IsStanding}
+use Rattle.dc_walk.specs.Finds.{use_shown, told_in, AllSpelled, AllInside, AllHeld, IsStanding}
 use Rattle.dc_walk.specs.Findings.{SameRows, IsFinding, CanWalk, now_in, uses_in, outcome_in, request_in, said_in}
 use Rattle.dc_walk.specs.Sights.{Fails, Answers}
+use Rattle.dc_walk.specs.declared.filter.KeyFilter.{KeyFilter}
 use Rattle.dc_walk.specs.declared.finder.Rows.{Rows}
 use Rattle.dc_walk.specs.declared.used.Used.{Used}
 use Rattle.dc_walk.proofs.Told.{new_same}
@@ -58,28 +59,28 @@ on_odd {v = v} row e = subst (GoesOn v) (sym e) (record {
 })
 
 module _ {f g : Rows} where
-  pub finds_on : (v : View) (us : List Use) (k : ℕ) → SameRows f g → CanWalk g.shared.now g.pass.now → AllSpelled g.used.now.items → AllInside (share g.pass.now).rows g.used.now.items → AllBelow g.highest g.used.now.items → now_in g ≡ v → IsWalk (outcome_in f) v us k → uses_in g ≡ us → g.made ≡ length v.walk.notes → v.walk.call ≡ request_in f → IsFinding g k
-  finds_on v us k s can spelled inside below now w uses made call = record {
+  pub finds_on : (v : View) (us : List Use) (k : ℕ) → SameRows f g → CanWalk g.shared.now g.pass.now → AllSpelled g.used.now.items → AllInside (share g.pass.now).rows g.used.now.items → AllHeld g.filter g.used.now.items → now_in g ≡ v → IsWalk (outcome_in f) v us k → uses_in g ≡ us → g.made ≡ length v.walk.notes → v.walk.call ≡ request_in f → IsFinding g k
+  finds_on v us k s can spelled inside held now w uses made call = record {
     can = can;
     walk = subst (λ (z : (Teller → Option Outcome) × View × List Use). IsWalk z.0 z.1 z.2 k) (λ i. (sym (outcome_same s) i, sym now i, sym uses i)) w;
     made = made ∙ ap (λ (z : View). length z.walk.notes) (sym now);
     call = ap (λ (z : View). z.walk.call) now ∙ call ∙ sym (request_same s);
     spelled = spelled;
     inside = inside;
-    below = below;
+    held = held;
   }
 
   module _ (row : ℕ) (key : Key) (k : ℕ) (s : SameRows f g) (can : CanWalk g.shared.now g.pass.now) (is : IsFinding f k) where
     inside_still : g.used.now ≡ f.used.now → AllInside (share g.pass.now).rows g.used.now.items
     inside_still used = subst (λ (z : Share × List Used). AllInside z.0.rows z.1) (λ i. (sym s.same_pass.same_share i, (sym used i).items)) is.inside
 
-    below_still : g.used.now ≡ f.used.now → g.highest ≡ f.highest → AllBelow g.highest g.used.now.items
-    below_still used highest = subst (λ (z : ℕ × List Used). AllBelow z.0 z.1) (λ i. (sym highest i, (sym used i).items)) is.below
+    held_still : g.used.now ≡ f.used.now → g.filter ≡ f.filter → AllHeld g.filter g.used.now.items
+    held_still used filter = subst (λ (z : KeyFilter × List Used). AllHeld z.0 z.1) (λ i. (sym filter i, (sym used i).items)) is.held
 
-    pub failed_odd : g.used.now ≡ f.used.now → g.highest ≡ f.highest → g.made ≡ f.made → now_in g ≡ faulted (now_in f) (Busy row) → Fails f key g k × Contains (now_in g).faults (Busy row)
-    failed_odd used highest made now =
+    pub failed_odd : g.used.now ≡ f.used.now → g.filter ≡ f.filter → g.made ≡ f.made → now_in g ≡ faulted (now_in f) (Busy row) → Fails f key g k × Contains (now_in g).faults (Busy row)
+    failed_odd used filter made now =
         let uses : uses_in g ≡ uses_in f = ap (λ u. map use_shown u.items) used in (
-          record { finding = finds_on (faulted (now_in f) (Busy row)) (uses_in f) (k + 1) s can (subst (λ u. AllSpelled u.items) (sym used) is.spelled) (inside_still used) (below_still used highest) now (stumbled row is.walk) uses (made ∙ is.made) is.call; used = used },
+          record { finding = finds_on (faulted (now_in f) (Busy row)) (uses_in f) (k + 1) s can (subst (λ u. AllSpelled u.items) (sym used) is.spelled) (inside_still used) (held_still used filter) now (stumbled row is.walk) uses (made ∙ is.made) is.call; used = used },
           subst (λ (z : View). Contains z.faults (Busy row)) (sym now) (last_fault (now_in f).faults (Busy row)),
         )
 
@@ -89,22 +90,22 @@ module _ {f g : Rows} where
           let size : length ((now_in f).walk.notes ++ fresh_note row count words ∷ []) ≡ length (now_in f).walk.notes + 1 = length-append (now_in f).walk.notes (fresh_note row count words ∷ []) in
           let many = is.made in omega arith
 
-      pub failed_other : g.used.now ≡ f.used.now → g.highest ≡ f.highest → length words + 1 ≡ ROW_WORDS → (TellsOf (count ∷ words) key → ⊥) → Fails f key g k × IsOther (now_in g) row key
-      failed_other used highest whole other =
+      pub failed_other : g.used.now ≡ f.used.now → g.filter ≡ f.filter → length words + 1 ≡ ROW_WORDS → (TellsOf (count ∷ words) key → ⊥) → Fails f key g k × IsOther (now_in g) row key
+      failed_other used filter whole other =
           let uses : uses_in g ≡ uses_in f = ap (λ u. map use_shown u.items) used in
           let x = fresh_note row count words in (
-            record { finding = finds_on (probed (now_in f) row count words) (uses_in f) (k + 1) s can (subst (λ u. AllSpelled u.items) (sym used) is.spelled) (inside_still used) (below_still used highest) now (passed row count words whole is.walk) uses made_so is.call; used = used },
+            record { finding = finds_on (probed (now_in f) row count words) (uses_in f) (k + 1) s can (subst (λ u. AllSpelled u.items) (sym used) is.spelled) (inside_still used) (held_still used filter) now (passed row count words whole is.walk) uses made_so is.call; used = used },
             subst (λ (z : View). IsOther z row key) (sym now) (record { note = x; noted = last_noted (now_in f).walk.notes x; is_of = refl; whole = whole; other = other }),
           )
 
-      pub answers_so : {told : List ℕ} (fact : Fact) (u : Use) → uses_in g ≡ uses_in f ++ u ∷ [] → AllSpelled g.used.now.items → AllInside (share f.pass.now).rows g.used.now.items → AllBelow g.highest g.used.now.items → u.row ≡ row → u.count ≡ count → u.place ≡ f.made → u.fact ≡ fact → Spells (count ∷ words) (Some fact)
+      pub answers_so : {told : List ℕ} (fact : Fact) (u : Use) → uses_in g ≡ uses_in f ++ u ∷ [] → AllSpelled g.used.now.items → AllInside (share f.pass.now).rows g.used.now.items → AllHeld g.filter g.used.now.items → u.row ≡ row → u.count ≡ count → u.place ≡ f.made → u.fact ≡ fact → Spells (count ∷ words) (Some fact)
           → key_of fact ≡ key → k < BUCKET_ROWS → outcome_in f (said_in f) ≡ None → IsUntold (said_in f) key.number key.label
           → IsStanding g.used.now.items key told → Answers f key g told
-      answers_so fact u uses spelled inside below row_is count_is place fact_is spells about early none new standing =
+      answers_so fact u uses spelled inside held row_is count_is place fact_is spells about early none new standing =
           let many = is.made in
           let said : Spells (u.count ∷ words) (Some u.fact) = subst (λ (z : ℕ × Fact). Spells (z.0 ∷ words) (Some z.1)) (λ i. (sym count_is i, sym fact_is i)) spells in
           record {
-            finding = finds_on (probed (now_in f) row count words) (uses_in f ++ u ∷ []) 0 s can spelled (subst (λ (x : Share). AllInside x.rows g.used.now.items) (sym s.same_pass.same_share) inside) below now
+            finding = finds_on (probed (now_in f) row count words) (uses_in f ++ u ∷ []) 0 s can spelled (subst (λ (x : Share). AllInside x.rows g.used.now.items) (sym s.same_pass.same_share) inside) held now
                 (subst (λ (z : ℕ × ℕ). IsWalk (outcome_in f) (probed (now_in f) z.0 z.1 words) (uses_in f ++ u ∷ []) 0) (λ i. (row_is i, count_is i)) (answered u words is.walk early (place ∙ many) said none (new_same key (said_in f) u.fact (ap key_of fact_is ∙ about) new)))
                 uses made_so is.call;
             use_of = u;

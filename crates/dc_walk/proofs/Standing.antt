@@ -1,16 +1,18 @@
 -- What the rows that were used tell of a key.
-use Rattle.std.proofs.Common.{◌≡◌, ◌≢◌, ℕ, zero, suc, ◌<◌, ◌≤◌, ◌==◌, ◌&&◌, List, [], ◌∷◌, ◌++◌, length, get_or, Bool, true, false, cond, Option, Some, map, refl, ap, sym, ◌∙◌, subst, arith}
+use Rattle.std.proofs.Common.{◌≡◌, ℕ, zero, suc, ◌<◌, ◌==◌, ◌&&◌, List, [], ◌∷◌, ◌++◌, length, get_or, Bool, true, false, cond, Option, Some, map, refl, ap, sym, ◌∙◌, subst, arith}
 use Rattle.std.proofs.lemmas.Bool.Decides.{nat_tests}
 use Rattle.std.proofs.lemmas.List.{map-append}
 use Rattle.std.proofs.lemmas.Slice.Eq.{bytes_eq-Decides}
-use Rattle.dc_plain.specs.Facts.{Fact, Key, Label, Target, key_of, told_by, same_label, entry_told, text_told}
+use Rattle.dc_plain.specs.Facts.{Fact, Key, Label, key_of, told_by, same_label, entry_told, text_told}
 use Rattle.dc_plain.specs.Facts.Label.{Entry, Parent, Text}
 use Rattle.dc_plain.specs.Facts.Fact.{Leads, Reads}
 use Rattle.dc_row.specs.Decoding.{fact_in, SpelledIsRead}
-use Rattle.dc_row.specs.Spelling.{Spells, TellsOf, has_spelling}
+use Rattle.dc_row.specs.Spelling.{Spells, TellsOf}
 use Rattle.dc_resolve.specs.Needs.{IsUntold}
 use Rattle.dc_walk.specs.Uses.{facts_of}
-use Rattle.dc_walk.specs.Finds.{fact_or_none, fact_shown, use_shown, told_in, IsSpelled, AllSpelled, AllInside, AllBelow, IsBelow, IsTold, IsStanding}
+use Rattle.dc_walk.specs.Finds.{fact_or_none, fact_shown, use_shown, told_in, IsSpelled, AllSpelled, AllInside, AllHeld, IsTold, IsStanding}
+use Rattle.dc_walk.specs.Filters.{key_hash, MayHold}
+use Rattle.dc_walk.specs.declared.filter.KeyFilter.{KeyFilter}
 use Rattle.dc_walk.specs.declared.used.Used.{Used}
 use Rattle.dc_walk.proofs.Told.{same_test, same_itself, told_last, new_same}
 
@@ -106,43 +108,19 @@ none_stands (u ∷ us) key all others =
     untold_past (fact_shown u) (facts_of (map use_shown us)) key.number key.label (λ same. others 0 (omega arith) (record { fact = fact_shown u; about = same; spelled = all.0 }))
     (none_stands us key all.1 (λ j h. others (suc j) (omega arith)))
 
--- an entry of a directory above those that the used rows tell of
-below_at : (highest : ℕ) (us : List Used) (j : ℕ) → j < length us → AllBelow highest us → IsBelow highest (fact_shown (get_or us j no_use))
-below_at highest [] j l all = absurd (omega arith)
-below_at highest (v ∷ us) zero l all = all.0
-below_at highest (v ∷ us) (suc j) l all = below_at highest us j (omega arith) all.1
+-- a key that the filter of the rows doesn't hold is told of by none of them
+held_at : (filter : KeyFilter) (us : List Used) (j : ℕ) → j < length us → AllHeld filter us → MayHold filter (key_hash (key_of (fact_shown (get_or us j no_use))))
+held_at filter [] j l all = absurd (omega arith)
+held_at filter (v ∷ us) zero l all = all.0
+held_at filter (v ∷ us) (suc j) l all = held_at filter us j (omega arith) all.1
 
-no_fact_above : (key : Key) (highest : ℕ) (fact : Fact) → key_of fact ≡ key → IsBelow highest fact → highest < key.number → key.label ≢ Text → ⊥
-no_fact_above key highest (Leads d label target) about below above entry =
-    let is : d ≡ key.number = ap (λ (k : Key). k.number) about in absurd (omega arith)
-no_fact_above key highest (Reads n text) about below above entry = entry (sym (ap (λ (k : Key). k.label) about))
+pub none_held : SpelledIsRead → (us : List Used) (key : Key) (filter : KeyFilter) → AllSpelled us → AllHeld filter us → (MayHold filter (key_hash key) → ⊥) → IsUntold (told_in us) key.number key.label
+none_held read us key filter all held never = none_stands us key all (λ j l tells.
+    never (subst (λ k. MayHold filter (key_hash k)) (ap key_of (shown_so read (get_or us j no_use).words tells.fact tells.spelled) ∙ tells.about) (held_at filter us j l held)))
 
-pub none_above : SpelledIsRead → (us : List Used) (key : Key) (highest : ℕ) → AllSpelled us → AllBelow highest us → highest < key.number → key.label ≢ Text → IsUntold (told_in us) key.number key.label
-none_above read us key highest all below above entry = none_stands us key all (λ j l tells.
-    no_fact_above key highest tells.fact tells.about (subst (IsBelow highest) (shown_so read (get_or us j no_use).words tells.fact tells.spelled) (below_at highest us j l below)) above entry)
-
-higher : (highest h : ℕ) (fact : Fact) → highest ≤ h → IsBelow highest fact → IsBelow h fact
-higher highest h (Leads d label target) up is = omega arith
-higher highest h (Reads n text) up is = tt
-
-pub below_more : (highest h : ℕ) (us : List Used) (u : Used) → AllBelow highest us → highest ≤ h → IsBelow h (fact_shown u) → AllBelow h (us ++ u ∷ [])
-below_more highest h [] u all up is = (is, tt)
-below_more highest h (v ∷ us) u all up is = (higher highest h (fact_shown v) up all.0, below_more highest h us u all.1 up is)
-
--- the fact of a key is below what is as high as the key, if it is one of an entry
-pub key_below : (key : Key) (h : ℕ) (shown fact : Fact) → shown ≡ fact → key_of fact ≡ key → (key.label ≢ Text → key.number ≤ h) → has_spelling (Some fact) ≡ true → IsBelow h shown
-key_below key h shown fact same about up can = subst (IsBelow h) (sym same) (fact_below fact about can)
-  where
-    not_text : (d : ℕ) (l : Label) (target : Option Target) → has_spelling (Some (Leads d l target)) ≡ true → l ≢ Text
-    not_text d (Entry name) target can = λ e. absurd cc
-    not_text d Parent target can = λ e. absurd cc
-    not_text d Text target can = λ e. absurd cc
-
-    fact_below : (fact : Fact) → key_of fact ≡ key → has_spelling (Some fact) ≡ true → IsBelow h fact
-    fact_below (Leads d label target) about can =
-        let is : d ≡ key.number = ap (λ (k : Key). k.number) about in
-        let within = up (λ e. not_text d label target can (ap (λ (k : Key). k.label) about ∙ e)) in omega arith
-    fact_below (Reads n text) about can = tt
+pub held_more : (filter more : KeyFilter) (us : List Used) (u : Used) → AllHeld filter us → ((h : ℕ) → MayHold filter h → MayHold more h) → MayHold more (key_hash (key_of (fact_shown u))) → AllHeld more (us ++ u ∷ [])
+held_more filter more [] u all kept is = (is, tt)
+held_more filter more (v ∷ us) u all kept is = (kept _ all.0, held_more filter more us u all.1 kept is)
 
 -- a row that was just used tells of its key
 pub stands_last : (us : List Used) (new : Used) (key : Key) (fact : Fact) → fact_shown new ≡ fact → key_of fact ≡ key → Spells new.words (Some fact) → IsUntold (told_in us) key.number key.label → IsStanding (us ++ new ∷ []) key new.words

@@ -12,7 +12,7 @@ use Rattle.dc_table.specs.Passes.{Pass, view, share, Fits, IsSamePass, IsIdle}
 use Rattle.dc_table.specs.declared.shared.Shared.{Shared}
 use Rattle.dc_walk.specs.Uses.{Use}
 use Rattle.dc_walk.specs.Asking.{IsWalk}
-use Rattle.dc_walk.specs.Finds.{use_shown, told_in, AllSpelled, AllInside, AllBelow}
+use Rattle.dc_walk.specs.Finds.{use_shown, told_in, AllSpelled, AllInside, AllHeld}
 use Rattle.dc_walk.specs.declared.TheConstants.{BUCKET_ROWS}
 use Rattle.dc_walk.specs.declared.finder.Rows.{Rows}
 
@@ -60,4 +60,4 @@ pub record IsFinding (f : Rows) (k : ℕ) : Type 0 where
   pub call : (now_in f).walk.call ≡ request_in f
   pub spelled : AllSpelled f.used.now.items
   pub inside : AllInside (share f.pass.now).rows f.used.now.items
-  pub below : AllBelow f.highest f.used.now.items
+  pub held : AllHeld f.filter f.used.now.items

@@ -1,11 +1,13 @@
 -- What the rows that a walk has used tell.
-use Rattle.std.specs.Prelude.{◌≡◌, ℕ, ◌<◌, ◌≤◌, List, [], Option, Some, None, map, get_or}
+use Rattle.std.specs.Prelude.{◌≡◌, ℕ, ◌<◌, List, [], Option, Some, None, map, get_or}
 use Rattle.std.specs.List.{AllByRecursion}
 use Rattle.dc_plain.specs.Facts.{Fact, Key, Teller, key_of, told_by}
 use Rattle.dc_plain.specs.Facts.Fact.{Leads, Reads}
 use Rattle.dc_row.specs.Decoding.{fact_in}
 use Rattle.dc_row.specs.Spelling.{Spells}
 use Rattle.dc_walk.specs.Uses.{Use, facts_of}
+use Rattle.dc_walk.specs.Filters.{key_hash, MayHold}
+use Rattle.dc_walk.specs.declared.filter.KeyFilter.{KeyFilter}
 use Rattle.dc_walk.specs.declared.used.Used.{Used}
 
 -- a fact that was read, or a fact of nobody
@@ -31,14 +33,9 @@ AllSpelled used = AllByRecursion IsSpelled used
 abbrev pub AllInside : ℕ → List Used → Type 0
 AllInside rows used = AllByRecursion (λ u. u.row < rows) used
 
--- an entry of no directory above a number
-abbrev pub IsBelow : ℕ → Fact → Type 0
-IsBelow highest (Leads d label target) = d ≤ highest
-IsBelow highest (Reads n text) = Unit {0}
-
--- no row that was used tells of an entry of a directory above it
-abbrev pub AllBelow : ℕ → List Used → Type 0
-AllBelow highest used = AllByRecursion (λ u. IsBelow highest (fact_shown u)) used
+-- a filter may hold each key that the rows tell of
+abbrev pub AllHeld : KeyFilter → List Used → Type 0
+AllHeld filter used = AllByRecursion (λ u. MayHold filter (key_hash (key_of (fact_shown u)))) used
 
 abbrev pub told_in : List Used → Teller
 told_in used = told_by (facts_of (map use_shown used))

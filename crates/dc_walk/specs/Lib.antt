@@ -3,6 +3,7 @@ pub mod Probes
 pub mod Uses
 pub mod Long
 pub mod Asking
+pub mod Filters
 pub mod Finds
 pub mod Causes
 pub mod Findings

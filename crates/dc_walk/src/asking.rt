@@ -1,16 +1,15 @@
 //! The questions of a walk, answered by rows.
 
-ghost use Rattle.std.specs.Prelude.{◌≡◌, ◌≢◌, ◌<◌, None, true, is_some, IfOk, OnOk, OnErr};
-ghost use Rattle.dc_names.specs.Hash.{hash_of};
+ghost use Rattle.std.specs.Prelude.{◌≡◌, ◌≢◌, None, true, is_some, IfOk, OnOk, OnErr};
 ghost use Rattle.dc_names.specs.Names.{part_shown};
 ghost use Rattle.dc_names.specs.Paths.Part.{Dot};
-ghost use Rattle.dc_plain.specs.Facts.{label_bytes};
 ghost use Rattle.dc_plain.specs.Facts.Label.{Text};
 ghost use Rattle.dc_plain.specs.KeysShown.{key_shown};
 ghost use Rattle.dc_resolve.specs.Asked.{label_of};
 ghost use Rattle.dc_resolve.specs.Needs.{IsNeeded, IsUntold};
 ghost use Rattle.dc_walk.specs.Becomings.{Becomes, IsGood, MayAskRows, stays_so, goes_so, keeps_so};
 ghost use Rattle.dc_walk.specs.Causes.{TellsMissing};
+ghost use Rattle.dc_walk.specs.Filters.{key_hash};
 ghost use Rattle.dc_walk.specs.Findings.{outcome_in, said_in};
 ghost use Rattle.dc_walk.specs.Finds.{IsStanding};
 
@@ -58,24 +57,13 @@ pub(crate) fn missing(key: Key<'_>, answered: u64) -> Why
     }
 }
 
-/// Whether a key is of an entry of a directory with a number above this one.
-fn is_above(key: Key<'_>, highest: u64) -> bool
-    ensures above { result ≡ true → highest < (key_shown key.entry).number }
-    ensures entry { result ≡ true → (key_shown key.entry).label ≢ Text }
-{
-    match key.label {
-        Label::Text => false,
-        Label::Name(_) | Label::DotDot => key.number > highest,
-    }
-}
-
 /// Asks the rows of a key's bucket for a key of which nothing was told, by its hash, and answers the
 /// words of the row that tells of it.
 #[inline(always)]
 fn ask(rows: &mut Rows<'_>, key: Key<'_>, hash: u64) -> Result<[u64; ROW_WORDS], Stop>
     requires fresh { rows.old.why ≡ None }
     requires good { IsGood rows.old }
-    requires hash { hash ≡ hash_of (key_shown key).number (label_bytes (key_shown key).label) }
+    requires hash { hash ≡ key_hash (key_shown key) }
     requires needed { IsNeeded (outcome_in rows.old) (said_in rows.old) (key_shown key).number
         (key_shown key).label }
     requires untold { IsUntold (said_in rows.old) (key_shown key).number (key_shown key).label }
@@ -91,7 +79,7 @@ fn ask(rows: &mut Rows<'_>, key: Key<'_>, hash: u64) -> Result<[u64; ROW_WORDS],
     let answered = rows.used.len();
     let buckets = rows.shared.limits.rows / BUCKET_ROWS;
     let first = BUCKET_ROWS * bucket_at(hash, buckets);
-    match ask_rows(rows, first, key) {
+    match ask_rows(rows, first, key, hash) {
         Ok(words) => Ok(words),
         Err(Some(row)) => {
             rows.why = Some(Why::Busy(row));
@@ -108,7 +96,7 @@ fn ask(rows: &mut Rows<'_>, key: Key<'_>, hash: u64) -> Result<[u64; ROW_WORDS],
 /// bucket are asked.
 #[inline(always)]
 fn told(rows: &mut Rows<'_>, key: Key<'_>, hash: u64) -> Result<[u64; ROW_WORDS], Stop>
-    requires hash { hash ≡ hash_of (key_shown key).number (label_bytes (key_shown key).label) }
+    requires hash { hash ≡ key_hash (key_shown key) }
     requires may { MayAskRows rows.old (key_shown key).number (key_shown key).label }
     ensures becomes { Becomes rows.old rows.new }
     ensures told { IfOk result (IsStanding rows.new.used.now.items (key_shown key.entry)) }
@@ -118,8 +106,8 @@ fn told(rows: &mut Rows<'_>, key: Key<'_>, hash: u64) -> Result<[u64; ROW_WORDS]
     if rows.why.is_some() {
         return Err(Stop);
     }
-    // Most paths go down to directories that were made later: no row was used for an entry of these.
-    if is_above(key, rows.highest) {
+    // Most paths have no key twice, and so few rows are looked through for one.
+    if !rows.filter.may_hold(hash) {
         words_have_the_fact_they_spell();
         return ask(rows, key, hash);
     }
@@ -157,6 +145,7 @@ impl<'a> Finder for Rows<'a> {
         Ok(target(&words))
     }
 
+    #[inline(always)]
     fn link_text(&mut self, number: u64) -> Result<LinkText, Stop> {
         let key = text_key(number);
         let words = told(self, key, hash(number, key.label.bytes()))?;

@@ -7,6 +7,7 @@ ghost use Rattle.dc_resolve.specs.Needs.{IsUntold};
 ghost use Rattle.dc_table.specs.Passes.{share};
 ghost use Rattle.dc_walk.specs.Asking.{GoesOn};
 ghost use Rattle.dc_walk.specs.Causes.{Looked};
+ghost use Rattle.dc_walk.specs.Filters.{key_hash};
 ghost use Rattle.dc_walk.specs.Findings.{SameRows, IsFinding, now_in, outcome_in, said_in};
 ghost use Rattle.dc_walk.specs.Sights.{Answers, Fails};
 ghost use Rattle.dc_walk.specs.declared.TheConstants.{BUCKET_ROWS, MOST_USED};
@@ -24,10 +25,12 @@ pub(crate) fn ask_rows(
     rows: &mut Rows<'_>,
     first: u64,
     key: Key<'_>,
+    hash: u64,
 ) -> Result<[u64; ROW_WORDS], Option<u64>>
     requires finding { IsFinding rows.old 0 }
     requires within { first + BUCKET_ROWS ≤ (share rows.old.pass.now).rows }
     requires few { (share rows.old.pass.now).rows < 2 ^ 64 }
+    requires hash { hash ≡ key_hash (key_shown key) }
     requires room { array_vec_len rows.old.used.now < MOST_USED }
     requires needed { outcome_in rows.old (said_in rows.old) ≡ None }
     requires untold { IsUntold (said_in rows.old) (key_shown key).number (key_shown key).label }
@@ -41,7 +44,7 @@ pub(crate) fn ask_rows(
 {
     let mut odd = None;
     for k in 0..BUCKET_ROWS {
-        match look_at(rows, first + k, key, k) {
+        match look_at(rows, first + k, key, hash, k) {
             Seen::Tells(words) => return Ok(words),
             Seen::Odd => odd = odd.or(Some(first + k)),
             Seen::Other => {}

@@ -13,6 +13,7 @@ ghost use Rattle.dc_walk.specs.Pinned.{Tried};
 ghost use Rattle.dc_walk.specs.Settling.{Came};
 
 use crate::MOST_USED;
+use crate::filter::KeyFilter;
 use crate::finder::Rows;
 use crate::long::has_long_name;
 use crate::pinning::PinnedRows;
@@ -57,7 +58,7 @@ fn go_pinned<'x, R: Wait>(
         follow,
         begun: false,
         made: 0,
-        highest: 0,
+        filter: KeyFilter::new(),
         why: None,
     };
     let mut finder = PinnedRows { rt, alloc, rows };

@@ -1,6 +1,7 @@
 //! Who answers the questions of a walk.
 
 use crate::MOST_USED;
+use crate::filter::KeyFilter;
 use crate::used::Used;
 use crate::why::Why;
 use arrayvec::ArrayVec;
@@ -9,8 +10,7 @@ use dc_plain::Follow;
 use dc_table::{Pass, Shared};
 
 /// Answers the questions of a look-up from the rows of the table. It knows whether a step was made,
-/// how many rows were noted, the highest number of a directory of which a used row tells an entry,
-/// and why it gave up.
+/// how many rows were noted, which keys the used rows may tell of, and why it gave up.
 #[derive(Drop)]
 pub(crate) struct Rows<'a> {
     pub shared: &'a Shared,
@@ -21,6 +21,6 @@ pub(crate) struct Rows<'a> {
     pub follow: Follow,
     pub begun: bool,
     pub made: u64,
-    pub highest: u64,
+    pub filter: KeyFilter,
     pub why: Option<Why>,
 }

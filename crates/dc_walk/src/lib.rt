@@ -5,6 +5,7 @@
 mod asking;
 mod bucket;
 mod counting;
+mod filter;
 mod finder;
 mod link;
 mod locking;

@@ -1,12 +1,12 @@
 //! A look at one row for what it tells of a key.
 
-ghost use Rattle.std.specs.Prelude.{◌≡◌, ◌≢◌, ◌<◌, ◌≤◌, None};
+ghost use Rattle.std.specs.Prelude.{◌≡◌, ◌<◌, None};
 ghost use Rattle.arrayvec.specs.ArrayVec.{array_vec_len};
-ghost use Rattle.dc_plain.specs.Facts.Label.{Text};
 ghost use Rattle.dc_plain.specs.KeysShown.{key_shown};
 ghost use Rattle.dc_resolve.specs.Needs.{IsUntold};
 ghost use Rattle.dc_table.specs.Passes.{share};
 ghost use Rattle.dc_walk.specs.Asking.{GoesOn};
+ghost use Rattle.dc_walk.specs.Filters.{key_hash};
 ghost use Rattle.dc_walk.specs.Findings.{SameRows, IsFinding, now_in, outcome_in, said_in};
 ghost use Rattle.dc_walk.specs.Sights.{Saw};
 ghost use Rattle.dc_walk.specs.declared.TheConstants.{BUCKET_ROWS, MOST_USED};
@@ -14,7 +14,7 @@ ghost use Rattle.dc_walk.specs.declared.TheConstants.{BUCKET_ROWS, MOST_USED};
 use crate::finder::Rows;
 use crate::probing::probe;
 use crate::used::Used;
-use dc_plain::{Call, Key, Label};
+use dc_plain::{Call, Key};
 use dc_row::{ROW_WORDS, tells_of, words_have_the_fact_they_spell};
 
 /// What a row answers.
@@ -27,23 +27,13 @@ pub(crate) enum Seen {
     Tells([u64; ROW_WORDS]),
 }
 
-/// The highest number of a directory of which an entry was told, once a key is told of.
-fn highest_with(highest: u64, key: Key<'_>) -> u64
-    ensures still { highest ≤ result }
-    ensures entry { (key_shown key.entry).label ≢ Text → (key_shown key.entry).number ≤ result }
-{
-    match key.label {
-        Label::Text => highest,
-        Label::Name(_) | Label::DotDot => highest.max(key.number),
-    }
-}
-
-/// Looks at a row for what it tells of a key. Where it does it is the last of the used ones. So many
-/// rows were looked at before.
+/// Looks at a row for what it tells of a key, with the key's hash. Where it does it is the last of the
+/// used ones. So many rows were looked at before.
 #[inline(always)]
-pub(crate) fn look_at(rows: &mut Rows<'_>, row: u64, key: Key<'_>, before: u64) -> Seen
+pub(crate) fn look_at(rows: &mut Rows<'_>, row: u64, key: Key<'_>, hash: u64, before: u64) -> Seen
     requires finding { IsFinding rows.old before }
     requires row { row < (share rows.old.pass.now).rows }
+    requires hash { hash ≡ key_hash (key_shown key) }
     requires few { before < BUCKET_ROWS }
     requires room { array_vec_len rows.old.used.now < MOST_USED }
     requires needed { outcome_in rows.old (said_in rows.old) ≡ None }
@@ -70,7 +60,7 @@ pub(crate) fn look_at(rows: &mut Rows<'_>, row: u64, key: Key<'_>, before: u64) 
     if !tells_of(&words, key) {
         return Seen::Other;
     }
-    rows.highest = highest_with(rows.highest, key);
+    rows.filter.add(hash);
     rows.used.push(Used { row, place, words });
     Seen::Tells(words)
 }

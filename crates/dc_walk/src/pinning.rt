@@ -17,7 +17,7 @@ use crate::link::LinkText;
 use crate::looking::{Seen, look_at};
 use crate::used::standing;
 use crate::why::Why;
-use dc_names::{Kind, NoMemory, Part};
+use dc_names::{Kind, NoMemory, Part, hash};
 use dc_plain::Key;
 use dc_resolve::{Finder, Stop};
 use dc_row::{ROW_WORDS, target};
@@ -67,7 +67,7 @@ fn ask_pinned<R: Wait>(
             return Err(Stop);
         }
     };
-    let why = match look_at(rows, row, key, 0) {
+    let why = match look_at(rows, row, key, hash(key.number, key.label.bytes()), 0) {
         Seen::Tells(words) => return Ok(words),
         Seen::Odd => Why::Busy(row),
         Seen::Other => missing(key, answered as u64),

@@ -13,6 +13,7 @@ ghost use Rattle.dc_walk.specs.Long.{has_long_name};
 ghost use Rattle.dc_walk.specs.declared.TheConstants.{MOST_LOADS};
 
 use crate::MOST_USED;
+use crate::filter::KeyFilter;
 use crate::finder::Rows;
 use crate::long::has_long_name;
 use crate::settling::{Quick, settle};
@@ -53,7 +54,7 @@ fn go(
         follow,
         begun: false,
         made: 0,
-        highest: 0,
+        filter: KeyFilter::new(),
         why: None,
     };
     let walked = walk(&mut rows, base, path, follow);
@@ -68,7 +69,7 @@ fn go(
         follow: _,
         begun: _,
         made: _,
-        highest: _,
+        filter: _,
         why: _,
     } = rows;
     let _used = used.len();

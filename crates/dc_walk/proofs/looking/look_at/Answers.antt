@@ -6,11 +6,13 @@ use Rattle.dc_row.specs.Spelling.{Spells, TellsOf}
 use Rattle.dc_events.specs.Effects.{begins, faulted}
 use Rattle.dc_events.specs.Views.Fault.{Busy}
 use Rattle.dc_table.specs.Passes.{view, share}
-use Rattle.dc_walk.specs.Finds.{use_shown, AllSpelled, AllInside, AllBelow, IsStanding}
+use Rattle.dc_walk.specs.Finds.{use_shown, AllSpelled, AllInside, AllHeld, IsStanding}
+use Rattle.dc_plain.specs.Facts.{key_of}
+use Rattle.dc_walk.specs.Filters.{key_hash, MayHold}
 use Rattle.dc_walk.specs.declared.used.Used.{Used}
 use Rattle.dc_walk.specs.Probes.{probed}
 use Rattle.dc_walk.proofs.Sighted.{on_odd, failed_odd, failed_other, answers_so, can_still}
-use Rattle.dc_walk.proofs.Standing.{shown_so, spelled_more, inside_more, below_more, key_below, stands_last}
+use Rattle.dc_walk.proofs.Standing.{shown_so, spelled_more, inside_more, held_more, stands_last}
 use Rattle.dc_walk.proofs.Probed.{rest_size, count_first}
 use Rattle.dc_walk.proofs.looking.look_at.Goals as goal
 
@@ -48,6 +50,6 @@ returns-clause-saw c = let f = c.args.rows.now in let e = c.in-Ok.ensures in let
     tells.fact (use_shown new) (ap (map use_shown) items ∙ map-append use_shown f.used.now.items _)
     (subst (λ items. AllSpelled items) (sym items) (spelled_more f.used.now.items new c.requires.finding.spelled spells))
     (subst (AllInside (share f.pass.now).rows) (sym items) (inside_more (share f.pass.now).rows f.used.now.items new c.requires.finding.inside c.requires.row))
-    (subst (AllBelow _) (sym items) (below_more f.highest _ f.used.now.items new c.requires.finding.below c.highest_with-rows.ensures.still (key_below key _ _ tells.fact shown tells.about c.highest_with-rows.ensures.entry tells.spelled.allowed)))
+    (subst (AllHeld _) (sym items) (held_more f.filter _ f.used.now.items new c.requires.finding.held c.add.ensures.kept (subst (MayHold _) (c.requires.hash ∙ ap key_hash (sym (ap key_of shown ∙ tells.about))) c.add.ensures.added)))
     refl refl refl shown (subst (λ ws. Spells ws (Some tells.fact)) (sym (count_first words e.whole)) tells.spelled) tells.about c.requires.few c.requires.needed c.requires.untold
     (subst (λ (us : List Used). IsStanding us key words) (sym items) (stands_last f.used.now.items new key tells.fact shown tells.about tells.spelled c.requires.untold))
