@@ -1,18 +1,11 @@
 -- What a finder over rows becomes by a question.
-use Rattle.std.proofs.Common.{◌≡◌, ℕ, zero, suc, ◌+◌, ◌/◌, ◌<◌, inl, inr, List, [], ◌∷◌, ◌&&◌, Bool, true, false, IsTrue, Option, Some, None, IfSome, is_some, if◌then◌else◌, length, get_or, map, refl, ap, sym, ◌∙◌, subst, arith}
+use Rattle.std.proofs.Common.{◌≡◌, ℕ, zero, suc, ◌+◌, ◌/◌, ◌<◌, inl, inr, List, [], ◌∷◌, ◌&&◌, Bool, true, false, Option, Some, None, IfSome, is_some, if◌then◌else◌, length, get_or, map, refl, ap, sym, ◌∙◌, subst, arith}
 use Rattle.std.proofs.lemmas.List.{map-append, length-map}
 use Rattle.std.specs.List.{Contains}
-use Rattle.dc_names.specs.Paths.{Part, fault_of}
-use Rattle.dc_names.specs.declared.kind.Kind.{Kind}
-use Rattle.dc_names.specs.declared.kind.Kind.TheVariants.{Dir, File, Link}
-use Rattle.dc_names.specs.Paths.Part.{Name, Dot, DotDot}
-use Rattle.dc_plain.specs.Facts.{Fact, Key, Target, Teller, told_by}
-use Rattle.dc_plain.specs.Facts.Label.{Parent}
-use Rattle.dc_plain.specs.Facts.Fact.{Leads, Reads}
-use Rattle.dc_plain.specs.Resolution.{Outcome, is_directory}
+use Rattle.dc_plain.specs.Facts.{Fact, Key, Teller, told_by}
+use Rattle.dc_plain.specs.Resolution.{Outcome}
 use Rattle.dc_plain.specs.Tellers.{Extends}
-use Rattle.dc_row.specs.Spelling.{Spells, has_spelling}
-use Rattle.dc_resolve.specs.Asked.{label_of, may_be_found}
+use Rattle.dc_row.specs.Spelling.{Spells}
 use Rattle.dc_resolve.specs.Needs.{IsNeeded, IsUntold}
 use Rattle.dc_table.specs.Shares.{Share}
 use Rattle.dc_events.specs.Views.{View, Note}
@@ -142,27 +135,6 @@ both false b e = absurd cc
 
 never : {P : Type 0} → false ≡ true → P
 never e = absurd cc
-
--- an entry of dot-dot that is spelled leads to a directory
-parent_kind : (d n : ℕ) (kind : Kind) → has_spelling (Some (Leads d Parent (Some (n, kind)))) ≡ true → is_directory (n, kind) ≡ true
-parent_kind d n Dir e = refl
-parent_kind d n File e = never (both _ _ e).1
-parent_kind d n Link e = never (both _ _ e).1
-
--- what words spell under the key of a part is of the right kind
-pub spelled_kind : (d : ℕ) (part : Part) (target : Option Target) → has_spelling (Some (Leads d (label_of part) target)) ≡ true → IsTrue (may_be_found part target)
-spelled_kind d (Name name) target can = refl
-spelled_kind d Dot target can = absurd cc
-spelled_kind d DotDot None can = refl
-spelled_kind d DotDot (Some place) can = parent_kind d place.0 place.1 can
-
--- a text that is spelled has no fault
-pub spelled_path : (n : ℕ) (text : List ℕ) → has_spelling (Some (Reads n text)) ≡ true → fault_of text ≡ None
-spelled_path n text can = no_fault (fault_of text) (both _ _ (both _ _ can).0).1
-  where
-    no_fault : {X : Type 0} (o : Option X) → elim o [ None ↦ true | Some fault ↦ false ] ≡ true → o ≡ None
-    no_fault None e = refl
-    no_fault (Some fault) e = never e
 
 pub none_is : {X : Type 0} (o : Option X) → is_some o ≡ false → o ≡ None
 none_is None e = refl

@@ -7,6 +7,7 @@ use Rattle.std.proofs.lemmas.Grind.{common_steps}
 use Rattle.std.proofs.lemmas.List.{get_or-take, take-append-drop, length-drop, length-take-le}
 use Rattle.std.proofs.lemmas.List.Folds.{list_any-append}
 use Rattle.dc_names.specs.Bytes.{pieces, is_empty, is_dot, is_dot_dot}
+use Rattle.dc_names.specs.Laws.{NoPieceIsLonger}
 use Rattle.dc_names.specs.Paths.{part_of}
 use Rattle.dc_row.specs.declared.TheConstants.{ROW_TEXT}
 use Rattle.dc_walk.specs.Long.{is_long, has_long_name}
@@ -79,24 +80,6 @@ cut_apart (b ∷ bs) ys =
       | false ↦ ap (onto_first b) more ∙ onto_front b (pieces bs) (pieces ys) (some_piece bs)
     ]
 
--- no piece is longer than the bytes
-longer : (n : ℕ) (ps : List (List ℕ)) → AllByRecursion (λ p. length p ≤ n) ps → AllByRecursion (λ p. length p ≤ suc n) ps
-longer n [] all = tt
-longer n (p ∷ ps) all = let here : length p ≤ n = all.0 in (omega arith, longer n ps all.1)
-
-onto_short : (n b : ℕ) (ps : List (List ℕ)) → AllByRecursion (λ p. length p ≤ n) ps → AllByRecursion (λ p. length p ≤ suc n) (onto_first b ps)
-onto_short n b [] all = (omega arith, tt)
-onto_short n b (p ∷ ps) all = let here : length p ≤ n = all.0 in (omega arith, longer n ps all.1)
-
-short_pieces : (text : List ℕ) → AllByRecursion (λ p. length p ≤ length text) (pieces text)
-short_pieces [] = (omega arith, tt)
-short_pieces (b ∷ bs) =
-    let more = short_pieces bs in
-    elim (b == 47) as (λ t. AllByRecursion (λ p. length p ≤ suc (length bs)) (cond t ([] ∷ pieces bs) (onto_first b (pieces bs)))) [
-      | true ↦ (omega arith, longer (length bs) (pieces bs) more)
-      | false ↦ onto_short (length bs) b (pieces bs) more
-    ]
-
 pub none_long : (n : ℕ) (ps : List (List ℕ)) → n ≤ ROW_TEXT → AllByRecursion (λ p. length p ≤ n) ps → list_any is_long_piece ps ≡ false
 none_long n [] le all = refl
 none_long n (p ∷ ps) le all =
@@ -104,26 +87,23 @@ none_long n (p ∷ ps) le all =
     let test : nat_lt ROW_TEXT (length p) ≡ false = grind (arith, nat_tests) in
     rw test (none_long n ps le all.1)
 
-pub short_bytes : (text : List ℕ) → length text ≤ ROW_TEXT → has_long_piece text ≡ false
-short_bytes text le = none_long (length text) (pieces text) le (short_pieces text)
-
-past_slash : (front rest : List ℕ) → length front ≤ ROW_TEXT → has_long_piece (front ++ 47 ∷ rest) ≡ has_long_piece rest
-past_slash front rest le =
-    ap (list_any is_long_piece) (cut_apart front rest) ∙ list_any-append is_long_piece (pieces front) (pieces rest) ∙ ap (λ b. b || has_long_piece rest) (short_bytes front le)
+past_slash : NoPieceIsLonger → (front rest : List ℕ) → length front ≤ ROW_TEXT → has_long_piece (front ++ 47 ∷ rest) ≡ has_long_piece rest
+past_slash law front rest le =
+    ap (list_any is_long_piece) (cut_apart front rest) ∙ list_any-append is_long_piece (pieces front) (pieces rest) ∙ ap (λ b. b || has_long_piece rest) (law ROW_TEXT front le)
 
 pub window : (text : List ℕ) → ROW_TEXT < length text → length (take (ROW_TEXT + 1) text) ≡ ROW_TEXT + 1
 window text lt = length-take-le (ROW_TEXT + 1) text (omega arith)
 
 -- what stands before a slash that comes soon is as short
-pub past_there : (text : List ℕ) (at : ℕ) → at ≤ ROW_TEXT → at < length text → get_or (take (ROW_TEXT + 1) text) at 0 ≡ 47 → has_long_piece text ≡ has_long_piece (take (length text - (at + 1)) (drop (at + 1) text))
-past_there text at soon within is =
+pub past_there : NoPieceIsLonger → (text : List ℕ) (at : ℕ) → at ≤ ROW_TEXT → at < length text → get_or (take (ROW_TEXT + 1) text) at 0 ≡ 47 → has_long_piece text ≡ has_long_piece (take (length text - (at + 1)) (drop (at + 1) text))
+past_there law text at soon within is =
     let slash : get_or text at 0 ≡ 47 = sym (get_or-take (ROW_TEXT + 1) text at 0 (omega arith)) ∙ is in
     let next : suc at ≡ at + 1 = omega arith in
     let back : drop at text ≡ 47 ∷ drop (at + 1) text = drop-cons text at 0 within ∙ (λ i. slash i ∷ drop (next i) text) in
     let whole : take at text ++ 47 ∷ drop (at + 1) text ≡ text = ap (λ (z : List ℕ). take at text ++ z) (sym back) ∙ take-append-drop at text in
     let short : length (take at text) ≤ ROW_TEXT = grind (arith, common_steps) in
     let size : length text - (at + 1) ≡ length (drop (at + 1) text) = sym (length-drop (at + 1) text) in
-    ap has_long_piece (sym whole) ∙ past_slash (take at text) (drop (at + 1) text) short ∙ ap has_long_piece (sym (ap (λ (n : ℕ). take n (drop (at + 1) text)) size ∙ take-length (drop (at + 1) text)))
+    ap has_long_piece (sym whole) ∙ past_slash law (take at text) (drop (at + 1) text) short ∙ ap has_long_piece (sym (ap (λ (n : ℕ). take n (drop (at + 1) text)) size ∙ take-length (drop (at + 1) text)))
 
 -- the length of the first piece
 abbrev pub first_length : List (List ℕ) → ℕ

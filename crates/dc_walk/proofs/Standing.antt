@@ -74,11 +74,6 @@ pub inside_more : (rows : ℕ) (us : List Used) (u : Used) → AllInside rows us
 inside_more rows [] u all is = (is, tt)
 inside_more rows (v ∷ us) u all is = (all.0, inside_more rows us u all.1 is)
 
-pub inside_at : (rows : ℕ) (us : List Used) (i : ℕ) (d : Used) → i < length us → AllInside rows us → (get_or us i d).row < rows
-inside_at rows [] i d l all = absurd (omega arith)
-inside_at rows (v ∷ us) zero d l all = all.0
-inside_at rows (v ∷ us) (suc i) d l all = inside_at rows us i d (omega arith) all.1
-
 abbrev no_use : Used
 no_use = record { row = 0; place = 0; words = [] }
 

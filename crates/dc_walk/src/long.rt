@@ -4,7 +4,7 @@ ghost use Rattle.std.specs.Prelude.{◌≡◌, ◌≢◌, ◌<◌, ℕ, length, 
 ghost use Rattle.std.specs.List.{list_any};
 ghost use Rattle.dc_walk.specs.Long.{has_long_name, is_within_name, whole_blocks};
 
-use dc_names::PathText;
+use dc_names::{PathText, no_piece_is_longer};
 use dc_row::ROW_TEXT;
 
 /// How many bytes a block has. A name of more than `ROW_TEXT` bytes covers a whole block wherever it
@@ -16,6 +16,7 @@ const BLOCK_BYTES: usize = 16;
 pub(crate) fn has_long_name(path: PathText<'_>) -> bool
     ensures { result ≡ has_long_name path.entry.bytes.now }
 {
+    no_piece_is_longer();
     let bytes = path.bytes();
     bytes.len() > ROW_TEXT && has_block_within_name(bytes) && has_long_piece(bytes)
 }
@@ -43,6 +44,7 @@ fn is_within_name(block: &[u8; BLOCK_BYTES]) -> bool
 fn has_long_piece(bytes: &[u8]) -> bool
     ensures { result ≡ has_long_name bytes.now }
 {
+    no_piece_is_longer();
     let mut rest = bytes;
     'names: while rest.len() > ROW_TEXT {
         // A name that begins here has no room where no slash ends it in time. All names that end before
