@@ -60,12 +60,6 @@ module _ (base : ℕ) (path : List ℕ) where
           counted = ap (λ (m : Note). m.count) here;
         }
 
-    pub can_first : IsWhole x → CanCheck w 0 x.row x.count
-    can_first whole = can_hand 0 (flagged x h.a ∷ flagged y h.b ∷ flagged z h.d ∷ []) (flagged x h.a) h.notes refl refl whole
-
-    pub can_second : IsWhole y → CanCheck w 1 y.row y.count
-    can_second whole = can_hand 1 (flagged x h.a ∷ flagged y h.b ∷ flagged z h.d ∷ []) (flagged y h.b) h.notes refl refl whole
-
     pub can_third : IsWhole z → CanCheck w 2 z.row z.count
     can_third whole = can_hand 2 (flagged x h.a ∷ flagged y h.b ∷ flagged z h.d ∷ []) (flagged z h.d) h.notes refl refl whole
 

@@ -9,7 +9,7 @@ use Rattle.dc_plain.specs.FactLaws.{outcome_answer}
 use Rattle.dc_events.specs.Views.{View, Book}
 use Rattle.dc_events.specs.Views.Fault.{Busy, Changed}
 use Rattle.dc_events.specs.Effects.{begins, begun}
-use Rattle.dc_table.specs.Passes.{Pass, view, share, IsSamePass, IsIdle}
+use Rattle.dc_table.specs.Passes.{Pass, view, share}
 use Rattle.dc_table.specs.Shares.{Share}
 use Rattle.dc_walk.specs.Uses.{Use, facts_of}
 use Rattle.dc_walk.specs.Asking.{IsWalk, SameWalk}
@@ -69,16 +69,6 @@ module _ (f : Rows) where
 
     walked_same : SameWalk (begun v (request_in f)) (begins (not g.begun) (view p) (request_in f))
     walked_same = subst (λ (z : View × View). SameWalk z.0 z.1) (λ i. (begins_so i, now_is i)) b.walk
-
-    pub same_pass_so : IsSamePass f.pass.now p
-    same_pass_so = subst (IsSamePass f.pass.now) (sym same) b.same.same_pass
-
-    pub idle_so : IsIdle p
-    idle_so = let good_now = b.good good in subst IsIdle (sym same) good_now.finding.can.idle
-
-    pub inside_so : AllInside (share f.pass.now).rows us
-    inside_so = let good_now = b.good good in
-        subst (λ (z : Share × List Used). AllInside z.0.rows z.1) (λ i. (b.same.same_pass.same_share i, sym same_used i)) good_now.finding.inside
 
     pub went_so : (end : Outcome) (answer : Answer) → g.why ≡ None → ((teller : Teller) → Extends (said_in g) teller → outcome_in f teller ≡ Some end) → answer ≡ outcome_answer end
         → Went (outcome_in f) (request_in f) v (begins (not g.begun) (view p) (request_in f)) (map use_shown us) answer

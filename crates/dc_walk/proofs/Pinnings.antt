@@ -1,31 +1,29 @@
 -- What a finder over pinned rows knows after the lock was had and given back, and after a question.
-use Rattle.std.proofs.Common.{◌≡◌, ℕ, ◌≤◌, List, ◌∷◌, [], Bool, true, false, not, Option, Some, None, is_some, if◌then◌else◌, length, map, refl, ap, sym, ◌∙◌, subst, arith}
+use Rattle.std.proofs.Common.{◌≡◌, ℕ, ◌≤◌, List, ◌∷◌, [], Bool, true, false, not, Option, Some, None, is_some, if◌then◌else◌, map, refl, ap, sym, ◌∙◌, subst, arith}
 use Rattle.std.proofs.lemmas.List.{map-append}
 use Rattle.dc_plain.specs.Facts.{Key, Teller, told_by}
 use Rattle.dc_plain.specs.Resolution.{Outcome}
 use Rattle.dc_plain.specs.FactLaws.{outcome_answer}
 use Rattle.dc_plain.specs.Requests.{Request, Answer}
 use Rattle.dc_plain.specs.Tellers.{Extends}
-use Rattle.dc_events.specs.Views.{View, Walk, Book}
+use Rattle.dc_events.specs.Views.{View, Book}
 use Rattle.dc_events.specs.Effects.{begins, with_seen, empty_hold}
 use Rattle.dc_table.specs.Changes.{NothingNew, Rested}
-use Rattle.dc_table.specs.Passes.{Pass, view, IsIdle}
-use Rattle.dc_table.specs.Shares.{Share}
+use Rattle.dc_table.specs.Passes.{Pass, view}
 use Rattle.dc_walk.specs.Uses.{Use, facts_of}
 use Rattle.dc_walk.specs.Asking.{IsWalk, GoesOn}
 use Rattle.dc_walk.specs.Becomings.{same_again}
 use Rattle.dc_walk.specs.Settling.{Came}
 use Rattle.dc_walk.specs.Pinned.{Pins, IsPinning, nothing_again}
-use Rattle.dc_walk.specs.Finds.{use_shown, told_in, AllSpelled, AllInside, AllHeld}
+use Rattle.dc_walk.specs.Finds.{use_shown, told_in}
 use Rattle.dc_walk.specs.Findings.{SameRows, IsFinding, now_in, uses_in, outcome_in, request_in, said_in}
 use Rattle.dc_walk.specs.Sights.{Answers}
-use Rattle.dc_walk.specs.declared.filter.KeyFilter.{KeyFilter}
 use Rattle.dc_walk.specs.declared.finder.Rows.{Rows}
 use Rattle.dc_walk.specs.declared.used.Used.{Used}
 use Rattle.dc_walk.specs.declared.why.Why as rust_why
 use Rattle.dc_walk.specs.declared.TheConstants.{BUCKET_ROWS}
 use Rattle.dc_walk.proofs.Checks.{begins_book}
-use Rattle.dc_walk.proofs.Sighted.{finds_on, can_still, outcome_same, request_same}
+use Rattle.dc_walk.proofs.Sighted.{outcome_same, request_same}
 use Rattle.dc_walk.proofs.Told.{told_itself, told_more}
 use Rattle.dc_walk.proofs.Walked.{rested}
 
@@ -49,22 +47,6 @@ module _ {v w : View} (r : Rested v w) where
       there false is = record { busy = is.busy; early = is.early; marked = is.marked; few = is.few; loads = is.loads; needed = is.needed; distinct = is.distinct }
 
 module _ {f g : Rows} (s : SameRows f g) where
-  -- the lock was had and given back: what is known of the walk stays
-  pub still_finding : (k : ℕ) → Rested (view f.pass.now) (view g.pass.now) → IsIdle g.pass.now → g.used.now ≡ f.used.now → g.begun ≡ f.begun → g.made ≡ f.made → g.filter ≡ f.filter → IsFinding f k → IsFinding g k
-  still_finding k r idle used begun made filter is =
-      let call = request_in f in
-      let v = begins (not f.begun) (view g.pass.now) call in
-      let notes = rested_notes r (not f.begun) call in
-      finds_on v (uses_in f) k s (can_still (λ i. (s.shared i).now) s.same_pass idle is.can)
-      (subst (λ u. AllSpelled u.items) (sym used) is.spelled)
-      (subst (λ (z : Share × List Used). AllInside z.0.rows z.1) (λ i. (sym s.same_pass.same_share i, (sym used i).items)) is.inside)
-      (subst (λ (z : KeyFilter × List Used). AllHeld z.0 z.1) (λ i. (sym filter i, (sym used i).items)) is.held)
-      (λ i. begins (not (begun i)) (view g.pass.now) (request_same s i))
-      (rested_walk r (not f.begun) call is.walk)
-      (ap (λ u. map use_shown u.items) used)
-      (made ∙ is.made ∙ ap (λ (z : Walk). length z.notes) (sym notes))
-      (ap (λ (z : Walk). z.call) notes ∙ is.call)
-
   same_told : g.used.now ≡ f.used.now → Extends (said_in f) (said_in g)
   same_told used = subst (λ u. Extends (said_in f) (told_in u.items)) (sym used) (told_itself (said_in f))
 

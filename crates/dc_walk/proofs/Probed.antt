@@ -6,7 +6,7 @@ use mathlib.Core.Option.{some}
 use lib.ListN.{get_elem?}
 use Rattle.dc_row.specs.declared.TheConstants.{ROW_WORDS}
 use Rattle.dc_events.specs.Views.{View, Note}
-use Rattle.dc_events.specs.Effects.{noted, read}
+use Rattle.dc_events.specs.Effects.{read}
 use Rattle.dc_events.specs.Walks.{no_note, extended}
 use Rattle.dc_table.specs.Walking.{CanRead}
 use Rattle.dc_walk.specs.Probes.{probed, fresh_note}
@@ -20,10 +20,6 @@ last_note xs x = ap (λ (k : ℕ). get_or (xs ++ x ∷ []) k no_note) (last_plac
 there_at : (xs : List Note) (x : Note) → get_elem? (xs ++ x ∷ []) (length xs) ≡ some x
 there_at [] x = refl
 there_at (y ∷ ys) x = there_at ys x
-
--- the first word is the count
-pub first_read : (v : View) (row count : ℕ) → noted v row count ≡ probed v row count []
-first_read v row count = refl
 
 module _ (v : View) (row count : ℕ) (words : List ℕ) where
   can_read_so : v.walk.busy ≡ true → v.walk.pivoted ≡ false → (i : ℕ) → length words + 1 ≡ i → i < ROW_WORDS → CanRead (probed v row count words) row i

@@ -40,15 +40,6 @@ request_same s = λ i. Look (s.base i) (s.path i).bytes.now (s.follow i)
 same_walk : (v : View) → SameWalk v v
 same_walk v = record { call = refl; book = refl; first_load = refl }
 
-pub on_probed : {v w : View} (row count : ℕ) (words : List ℕ) → w ≡ probed v row count words → GoesOn v w
-on_probed {v = v} row count words e = subst (GoesOn v) (sym e) (record {
-  notes = fresh_note row count words ∷ [];
-  noted = refl;
-  more = [];
-  faults = sym (append-nil v.faults);
-  same = record { call = refl; book = refl; first_load = refl };
-})
-
 pub on_odd : {v w : View} (row : ℕ) → w ≡ faulted v (Busy row) → GoesOn v w
 on_odd {v = v} row e = subst (GoesOn v) (sym e) (record {
   notes = [];
