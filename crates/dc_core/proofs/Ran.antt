@@ -35,10 +35,6 @@ at_shown f [] i x less e = absurd (omega arith)
 at_shown f (y ∷ ys) zero x less e = ap (λ z. some (f z)) (sym e)
 at_shown f (y ∷ ys) (suc i) x less e = at_shown f ys i x (omega arith) e
 
-pub take_all_shown : {A B : Type 0} (f : A → B) (l : List A) → take (length l) (map f l) ≡ map f l
-take_all_shown f [] = refl
-take_all_shown f (x ∷ xs) = ap (λ l. f x ∷ l) (take_all_shown f xs)
-
 pub take_all_past : {A B : Type 0} (f : A → B) (l : List A) (n : ℕ) → length l ≤ n → take n (map f l) ≡ map f l
 take_all_past f [] zero past = refl
 take_all_past f [] (suc n) past = refl

@@ -3,7 +3,6 @@ use Rattle.std.proofs.Common.{◌≡◌, ℕ, zero, suc, ◌+◌, ◌<◌, ◌�
 use mathlib.Core.Option.{some, some-ne-none}
 use lib.ListN.{get_elem?}
 use Rattle.dc_plain.specs.Requests.{Request}
-use Rattle.dc_events.specs.Views.{Record}
 use Rattle.dc_core.specs.Machine.{State, Actor}
 use Rattle.dc_core.specs.Lives.{Done, strand, hold_of, view_of, views_from, LivesWith}
 use Rattle.dc_core.specs.Refusals.{Refusal}
@@ -68,10 +67,6 @@ module _ (words words' : List ℕ) (hist hist' : List Request) (ds ds' : List Do
 -- an actor without the lock has the same view, whatever the words and the history are
 pub unheld : (words words' : List ℕ) (hist hist' : List Request) (ds ds' : List Done) (j : ℕ) (u : Actor) → u.holds ≡ false → strand j ds ≡ strand j ds' → view_of words hist ds j u ≡ view_of words' hist' ds' j u
 unheld words words' hist hist' ds ds' j u e s = let h = ap (λ b. hold_of b words hist) e ∙ sym (ap (λ b. hold_of b words' hist') e) in λ i. record { walk = u.walk; book = record { seen = u.seen; own = s i; joined = [] }; hold = h i; loads = u.loads; first_load = 0; faults = [] }
-
-strand_case : (d : Done) (b : Bool) (rest : List Record) → cond b (d.record_made ∷ rest) rest ≡ cond b (d.record_made ∷ []) [] ++ rest
-strand_case d true rest = refl
-strand_case d false rest = refl
 
 pub strand_snoc : (j : ℕ) (ds : List Done) (d : Done) (b : Bool) → (d.actor == j) ≡ b → strand j (ds ++ d ∷ []) ≡ strand j ds ++ cond b (d.record_made ∷ []) []
 strand_snoc j [] d b e = ap (λ z. cond z (d.record_made ∷ []) []) e

@@ -1,5 +1,5 @@
 -- Under the rule the checked notes of an actor that answers spell rows.
-use Rattle.std.proofs.Common.{◌≡◌, ℕ, suc, ◌<◌, ◌≤◌, ◌≢◌, true, false, List, [], ◌∷◌, length, Option, None, refl, sym, ◌∙◌, subst, arith, inl, inr, ⊎_elim, true≢false}
+use Rattle.std.proofs.Common.{◌≡◌, ℕ, suc, ◌<◌, ◌≤◌, ◌≢◌, true, List, [], ◌∷◌, length, Option, None, refl, sym, ◌∙◌, subst, arith, inl, inr, ⊎_elim, true≢false}
 use mathlib.Core.Option.{some}
 use lib.ListN.{get_elem?}
 use Rattle.dc_plain.specs.Facts.{Fact}
@@ -35,9 +35,6 @@ module _ (s : State) (j i : ℕ) (ok : Answers s (record { actor = j; act = Chec
     where
       below : (m n : ℕ) → (n ≤ m → ⊥) → m < n
       below m n h = omega arith
-
-  pub check_fresh : (note_of (actor_at s j).walk i).checked ≡ false
-  check_fresh = let t = passed (passed (passed (passed ok).1).1).1 in held_not (note_of (actor_at s j).walk i).checked (λ h. t.0 (inr (inr h)))
 
   pub check_spelled : Lives s → AreSpelled (walk_marked (actor_at s j).walk i).notes
   check_spelled (hist, ds, L) = let p = passed ok in let q = passed p.1 in let r = passed q.1 in let t = passed r.1 in let u = passed t.1 in let a : Actor = actor_at s j in

@@ -1,5 +1,5 @@
 -- What true facts give, and which of them stay true.
-use Rattle.std.proofs.Common.{◌≡◌, ℕ, zero, suc, ◌+◌, ◌%◌, ◌≤◌, ◌<◌, Bool, true, false, not, List, [], ◌∷◌, length, get_or, Option, Some, None, refl, sym, ap, ◌∙◌, subst, arith, true≢false}
+use Rattle.std.proofs.Common.{◌≡◌, ℕ, suc, ◌+◌, ◌%◌, ◌≤◌, ◌<◌, Bool, true, false, not, List, [], ◌∷◌, get_or, Option, Some, None, refl, sym, ap, ◌∙◌, subst, arith}
 use Rattle.std.specs.List.{AllByRecursion}
 use mathlib.Core.Option.{some}
 use lib.ListN.{get_elem?}
@@ -10,14 +10,13 @@ use Rattle.dc_plain.specs.IsWellFormed.{IsWellFormed}
 use Rattle.dc_plain.specs.Runs.{reply_of, tree_after, alters, Touches}
 use Rattle.dc_row.specs.Spelling.{Spells}
 use Rattle.dc_row.specs.declared.TheConstants.{ROW_WORDS}
-use Rattle.dc_row.specs.Decoding.{fact_in}
 use Rattle.dc_plain.specs.FactLaws.{answer_told}
 use Rattle.dc_plain.specs.Facts.{key_of}
 use Rattle.dc_events.specs.Laws.{TreeLaws}
-use Rattle.dc_events.specs.Views.{Note, Walk}
+use Rattle.dc_events.specs.Views.{Note}
 use Rattle.dc_events.specs.Rows.{base_of, count, row_words, IfFact, Tells, note_words, IsUntouched}
 use Rattle.dc_events.specs.Rule.{RowFits}
-use Rattle.dc_events.specs.Noted.{with_fact, facts_if, facts_in, answer_in}
+use Rattle.dc_events.specs.Noted.{with_fact, facts_if, facts_in}
 use Rattle.dc_events.proofs.Below.{FactsBelow}
 use Rattle.dc_events.proofs.Words.{row_words_same}
 

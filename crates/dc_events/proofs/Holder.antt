@@ -1,5 +1,5 @@
 -- The steps of the actor that has the lock, gets it or gives it.
-use Rattle.std.proofs.Common.{◌≡◌, ℕ, suc, ◌+◌, ◌%◌, ◌*◌, ◌<◌, ◌≤◌, ◌≢◌, ◌⊎◌, Bool, true, false, List, [], ◌∷◌, ◌++◌, length, get_or, set, sym, refl, ap, ◌∙◌, subst, ⊎_elim, inl, inr, arith, length-append, append-nil, length-set, get_or-set_same, get_or-set_other, true≢false, le_refl}
+use Rattle.std.proofs.Common.{◌≡◌, ℕ, ◌+◌, ◌%◌, ◌<◌, ◌≤◌, ◌≢◌, ◌⊎◌, true, false, List, [], ◌∷◌, ◌++◌, length, get_or, set, sym, refl, ap, ◌∙◌, subst, ⊎_elim, inl, inr, arith, length-append, append-nil, length-set, get_or-set_same, get_or-set_other, true≢false, le_refl}
 use mathlib.Core.Logic.{dite}
 use mathlib.Core.Option.{some, some-ne-none}
 use native.Mathlib.Decide.{ℕ_discrete}
@@ -7,10 +7,10 @@ use lib.ListN.{get_elem?}
 use Rattle.dc_plain.specs.Requests.{Request}
 use Rattle.dc_plain.specs.Runs.{alters}
 use Rattle.dc_row.specs.declared.TheConstants.{ROW_WORDS}
-use Rattle.dc_events.specs.Views.{Record, Walk, Book, View}
-use Rattle.dc_events.specs.Standing.{tree_of, Stands, weight, after, hit}
+use Rattle.dc_events.specs.Views.{Record, Book, View}
+use Rattle.dc_events.specs.Standing.{tree_of, Stands, weight, after}
 use Rattle.dc_events.specs.Rows.{most, base_of, count, row_words, Tells, IsUntouched}
-use Rattle.dc_events.specs.Rule.{WalkFits, BookFits, ViewFits, RowFits, once_below, AllEven, Rule}
+use Rattle.dc_events.specs.Rule.{WalkFits, BookFits, RowFits, once_below, AllEven, Rule}
 use Rattle.dc_events.specs.Walks.{no_walk}
 use Rattle.dc_events.specs.Effects.{taken, wrote, record_of, committed, gave, answered, with_seen, with_record}
 use Rattle.dc_events.specs.Laws.{TreeLaws}

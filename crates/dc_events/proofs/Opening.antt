@@ -1,5 +1,5 @@
 -- A new table keeps the rule.
-use Rattle.std.proofs.Common.{◌≡◌, ℕ, zero, suc, ◌+◌, ◌*◌, ◌<◌, ◌≤◌, ◌%◌, true, false, List, [], ◌∷◌, length, get_or, replicate, Option, Some, None, refl, sym, ap, ap₂, ◌∙◌, subst, inl, arith, true≢false, zero-add, le-ltb, cond}
+use Rattle.std.proofs.Common.{◌≡◌, ℕ, zero, suc, ◌*◌, ◌<◌, List, [], ◌∷◌, length, get_or, replicate, None, refl, sym, ap, ap₂, ◌∙◌, subst, inl, arith, true≢false, zero-add, le-ltb, cond}
 use Rattle.std.specs.Prelude.{slice_index}
 use Rattle.std.proofs.lemmas.List.{length-replicate}
 use Rattle.dc_names.specs.Words as words
@@ -9,7 +9,7 @@ use Rattle.dc_plain.specs.Trees.{empty_tree}
 use Rattle.dc_row.specs.Spelling.{Spells, fields_of, word_at}
 use Rattle.dc_row.specs.declared.TheConstants.{ROW_WORDS}
 use Rattle.dc_events.specs.Views.{View}
-use Rattle.dc_events.specs.Rows.{base_of, count, words_from, row_words, Tells, opening_words}
+use Rattle.dc_events.specs.Rows.{base_of, count, words_from, row_words, opening_words}
 use Rattle.dc_events.specs.Rule.{ViewFits, StrandFits, Rule, RowFits, total, view_hits, once_below}
 use Rattle.dc_events.specs.Effects.{nobody}
 use Rattle.dc_events.proofs.Holder.{walk_done}

@@ -7,8 +7,8 @@ use native.Mathlib.Decide.{ℕ_discrete}
 use lib.ListN.{get_elem?}
 use Rattle.dc_plain.specs.Requests.{Request}
 use Rattle.dc_events.specs.Views.{Record, Walk, Book, View}
-use Rattle.dc_events.specs.Standing.{hits, all_hits}
-use Rattle.dc_events.specs.Rule.{StrandFits, WalkFits, BookFits, ViewFits, total, view_hits, HoldFits, Locked, Rule}
+use Rattle.dc_events.specs.Standing.{all_hits}
+use Rattle.dc_events.specs.Rule.{StrandFits, WalkFits, BookFits, ViewFits, view_hits, HoldFits, Locked, Rule}
 use Rattle.dc_events.specs.Effects.{nobody}
 use Rattle.dc_events.specs.Walks.{no_walk}
 use Rattle.dc_events.specs.Passes.{newcomer, books_joined, joined_with}

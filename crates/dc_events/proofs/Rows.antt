@@ -1,6 +1,6 @@
 -- The three writes of the lock's holder, by name: a row is shut, a word of a shut row is written, a row is opened.
-use Rattle.std.proofs.Common.{◌≡◌, ℕ, zero, suc, ◌+◌, ◌-◌, ◌%◌, ◌*◌, ◌<◌, ◌≤◌, ◌≢◌, ◌⊎◌, true, List, [], ◌∷◌, length, get_or, set, sym, refl, ap, ◌∙◌, subst, inl, inr, arith, get_or-set_same, get_or-set_other}
-use Rattle.std.specs.Prelude.{Option, Some, None, slice_index}
+use Rattle.std.proofs.Common.{◌≡◌, ℕ, zero, suc, ◌+◌, ◌-◌, ◌%◌, ◌<◌, ◌≤◌, true, List, ◌∷◌, get_or, set, sym, refl, ap, ◌∙◌, subst, inl, inr, arith, get_or-set_same, get_or-set_other}
+use Rattle.std.specs.Prelude.{Option, None, slice_index}
 use mathlib.Core.Option.{some}
 use lib.ListN.{get_elem?}
 use Rattle.dc_plain.specs.Facts.{Fact}
@@ -9,8 +9,8 @@ use Rattle.dc_row.specs.Spelling.{Spells, fields_of}
 use Rattle.dc_row.specs.declared.TheConstants.{ROW_WORDS}
 use Rattle.dc_events.specs.Views.{View}
 use Rattle.dc_events.specs.Standing.{tree_of}
-use Rattle.dc_events.specs.Rows.{most, base_of, count, words_from, row_words, IfFact, Tells}
-use Rattle.dc_events.specs.Rule.{RowFits, Rule}
+use Rattle.dc_events.specs.Rows.{most, base_of, count, words_from, row_words, Tells}
+use Rattle.dc_events.specs.Rule.{Rule}
 use Rattle.dc_events.specs.Effects.{wrote}
 use Rattle.dc_events.proofs.Words.{words_from_same}
 use Rattle.dc_events.proofs.Holder.{writes}
@@ -28,9 +28,6 @@ words_after_count words row x = ap (λ xs. get_or (set words (base_of row) x) (b
     (words_from_same words (set words (base_of row) x) (suc (base_of row)) (ROW_WORDS - 1) (λ j low high. get_or-set_other words (base_of row) j x 0 (λ e. omega arith)))
 
 module _ {limit rows : ℕ} {words : List ℕ} {views : List View} {hist : List Request} (R : Rule limit rows words views hist) (id : ℕ) (v : View) (at : get_elem? views id ≡ some v) (has : v.hold.holds ≡ true) (row : ℕ) (inside : row < rows) where
-  now_there : (i x : ℕ) → i < ROW_WORDS → get_or (set words (base_of row + i) x) (base_of row + i) 0 ≡ x
-  now_there i x low = let wide = R.wide in get_or-set_same words (base_of row + i) x 0 (omega arith)
-
   pub shuts : count words row % 2 ≡ 0 → count words row < most → Rule limit rows (set words (base_of row) (count words row + 1)) (set views id (wrote v (base_of row) (count words row + 1))) hist
   shuts even low = let x : ℕ = count words row + 1 in let wide = R.wide in let now : count (set words (base_of row) x) row ≡ x = get_or-set_same words (base_of row) x 0 (omega arith) in
       writes R id v at has row 0 (base_of row) x inside (omega arith) (omega arith) (inl (refl, omega arith)) record { below = omega arith; told = λ e. absurd (omega arith); spent = λ full. absurd (omega arith) }

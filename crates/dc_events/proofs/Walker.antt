@@ -1,5 +1,5 @@
 -- What an actor that walks without the lock does to its own view.
-use Rattle.std.proofs.Common.{◌≡◌, ℕ, zero, suc, ◌+◌, ◌-◌, ◌%◌, ◌<◌, ◌≤◌, ◌≢◌, Bool, true, false, List, [], ◌∷◌, ◌++◌, length, get_or, set, take, Option, Some, None, sym, refl, ap, ap₂, ◌∙◌, subst, ⊎_elim, inl, inr, arith, length-append, append-nil, true≢false, le_refl, ◌⊎◌, cond}
+use Rattle.std.proofs.Common.{◌≡◌, ℕ, suc, ◌+◌, ◌-◌, ◌%◌, ◌<◌, ◌≢◌, Bool, true, false, List, [], ◌∷◌, ◌++◌, length, get_or, set, take, Option, Some, None, sym, refl, ap, ap₂, ◌∙◌, subst, ⊎_elim, inl, inr, arith, length-append, append-nil, true≢false, cond}
 use mathlib.Core.Option.{some, some-ne-none}
 use lib.ListN.{get_elem?}
 use Rattle.dc_plain.specs.Facts.{told_by}
@@ -7,14 +7,14 @@ use Rattle.dc_plain.specs.Trees.{Tree}
 use Rattle.dc_plain.specs.Requests.{Request, Answer}
 use Rattle.dc_row.specs.declared.TheConstants.{ROW_WORDS}
 use Rattle.dc_plain.specs.FactLaws.{answer_told}
-use Rattle.dc_events.specs.Views.{Note, Record, Walk, Book, View}
+use Rattle.dc_events.specs.Views.{Note, Record, Walk, View}
 use Rattle.dc_events.specs.Standing.{tree_of}
 use Rattle.dc_events.specs.Rows.{base_of, count, words_from, row_words, note_words, IsWhole, Tells}
-use Rattle.dc_events.specs.Rule.{NoteFits, Counts, WalkFits, BookFits, ViewFits, RowFits, view_hits, Rule}
-use Rattle.dc_events.specs.Walks.{extended, walk_turned, no_walk, no_note}
+use Rattle.dc_events.specs.Rule.{NoteFits, BookFits, ViewFits, RowFits, view_hits}
+use Rattle.dc_events.specs.Walks.{extended, walk_turned}
 use Rattle.dc_events.specs.Noted.{facts_in, answer_in}
-use Rattle.dc_events.specs.Effects.{begun, again, quit, noted, note_at, read, turned, pivoted, concluded, settled, marked, checked, with_seen, with_record, loaded}
-use Rattle.dc_events.proofs.Records.{hits_snoc, no_hit, strand_snoc, strand_more, take_whole}
+use Rattle.dc_events.specs.Effects.{begun, again, quit, noted, note_at, read, turned, pivoted, concluded, marked, with_seen}
+use Rattle.dc_events.proofs.Records.{hits_snoc, no_hit, strand_snoc, take_whole}
 use Rattle.dc_events.proofs.Below.{FactsBelow}
 use Rattle.dc_events.proofs.Facts.{facts_true, answer_true}
 use Rattle.dc_events.proofs.Words.{words_from-snoc}
@@ -61,9 +61,6 @@ module _ {limit rows : ℕ} {words : List ℕ} {hist : List Request} where
 
   pub quits : (v : View) → ViewFits limit rows words hist v → ViewFits limit rows words hist (quit v)
   quits v f = record { walk = walk_done limit rows words hist; book = f.book; follows = λ a _. absurd (true≢false (sym a)) }
-
-  pub loads_more : (v : View) → ViewFits limit rows words hist v → ViewFits limit rows words hist (loaded v)
-  loads_more v f = record { walk = f.walk; book = f.book; follows = f.follows }
 
   pub notes : (v : View) (row found : ℕ) → row < rows → found ≡ count words row → found % 2 ≡ 0 → v.walk.pivoted ≡ false → ViewFits limit rows words hist v → ViewFits limit rows words hist (noted v row found)
   notes v row found inside is even fresh f = let one : Note = record { row = row; count = found; words = []; checked = false } in

@@ -1,5 +1,5 @@
 -- Each event of an actor that walks keeps the rule.
-use Rattle.std.proofs.Common.{◌≡◌, ℕ, suc, ◌+◌, ◌-◌, ◌%◌, ◌<◌, true, false, List, length, get_or, set, refl, sym, ap, subst}
+use Rattle.std.proofs.Common.{◌≡◌, ℕ, ◌+◌, ◌-◌, ◌%◌, ◌<◌, true, false, List, length, get_or, set, refl, sym, ap, subst}
 use Rattle.std.proofs.lemmas.List.{set-set}
 use mathlib.Core.Option.{some}
 use lib.ListN.{get_elem?}

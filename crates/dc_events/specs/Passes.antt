@@ -1,5 +1,5 @@
 -- A pass that another has seen off, and one that takes in what another did and saw.
-use Rattle.std.specs.Prelude.{ℕ, [], ◌∷◌, ◌++◌, max}
+use Rattle.std.specs.Prelude.{◌∷◌, ◌++◌, max}
 use Rattle.dc_events.specs.Views.{Book, View}
 use Rattle.dc_events.specs.Effects.{with_seen, nobody}
 

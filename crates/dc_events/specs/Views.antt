@@ -1,5 +1,5 @@
 -- What an actor knows: its walk, the records of its calls, and, with the lock, the words and the history.
-use Rattle.std.specs.Prelude.{ℕ, List, [], ◌∷◌, Bool, true, false}
+use Rattle.std.specs.Prelude.{ℕ, List, Bool}
 use Rattle.dc_plain.specs.Requests.{Request, Answer}
 
 -- a row's count as a walk saw it, and the words read after it

@@ -112,16 +112,9 @@ none_if text not_so = go (is_numeral text) refl
     go true e = absurd (not_so e)
     go false e = refl
 
-not_false : (b : Bool) → not b ≡ false → b ≡ true
-not_false true e = refl
-not_false false e = cc
-
 not_true : (b : Bool) → not b ≡ true → b ≡ false
 not_true true e = cc
 not_true false e = refl
-
-number_is : (m n : ℕ) → (m == n) ≡ true → m ≡ n
-number_is m n e = grind (arith, nat_tests)
 
 number_differs : (m n : ℕ) → (m == n) ≡ false → m ≡ n → ⊥
 number_differs m n e is = grind (arith, nat_tests)

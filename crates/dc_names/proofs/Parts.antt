@@ -1,9 +1,7 @@
 -- The first piece of a text, and what comes after it.
-use Rattle.std.proofs.Common.{◌≡◌, ℕ, suc, ◌+◌, ◌≤◌, ◌==◌, ◌&&◌, ◌∷◌, [], List, take, drop, map, length, Bool, true, false, cond, not, refl, ap, sym, ◌∙◌, arith, Some, None, IsTrue, nat_lt}
-use Rattle.std.specs.Option.{unwrap_or}
+use Rattle.std.proofs.Common.{◌≡◌, ℕ, suc, ◌+◌, ◌≤◌, ◌==◌, ◌&&◌, ◌∷◌, [], List, take, drop, map, length, Bool, true, false, cond, not, refl, ap, sym, ◌∙◌, arith, IsTrue}
 use Rattle.std.specs.List.{position_or_len, onto_first, list_all, filter}
 use Rattle.std.proofs.lemmas.List.Sums.{prefix_len-le-length}
-use Rattle.std.proofs.lemmas.Grind.{common_steps}
 use Rattle.dc_names.specs.Bytes.{pieces, is_empty, is_part, has_parts}
 use Rattle.dc_names.specs.Paths.{words_of, parts_of, part_of}
 
@@ -74,6 +72,3 @@ both false b e = absurd (cc)
 
 pub valid_cut : {text piece rest : List ℕ} → IsCut text piece rest → IsTrue (has_parts text) → IsTrue (is_part piece) × IsTrue (has_parts rest)
 valid_cut {text} {piece} {rest} cut valid = both (is_part piece) (has_parts rest) (sym (first_valid cut) ∙ valid)
-
-pub end_of_position : (n len : ℕ) → n ≤ len → unwrap_or (cond (nat_lt n len) (Some n) None) len ≡ n
-end_of_position n len le = grind (arith, common_steps)

@@ -1,5 +1,5 @@
 -- What goes with its last name, and what a count says by its kind.
-use Rattle.std.proofs.Common.{◌≡◌, ◌≢◌, ℕ, ◌≤◌, ◌==◌, List, Bool, true, false, Option, Some, None, Ok, option_and_then, refl, ap, sym, ◌∙◌, arith, length, option_map, subst, cond, if◌then◌else◌, [], ◌∷◌, ◌+◌}
+use Rattle.std.proofs.Common.{◌≡◌, ◌≢◌, ℕ, ◌≤◌, ◌==◌, List, Bool, true, false, Option, Some, None, Ok, option_and_then, refl, ap, sym, ◌∙◌, arith, option_map, subst, cond, if◌then◌else◌, [], ◌∷◌, ◌+◌}
 use Rattle.dc_plain.specs.Facts.{Target}
 use Rattle.dc_plain.specs.Resolution.{is_directory}
 use Rattle.dc_plain.specs.TouchedKeys.{keys_gone, keys_at, own_keys}
@@ -7,7 +7,7 @@ use Rattle.std.specs.Bool.{then_some}
 use Rattle.std.specs.Ordering.{eq_by_cmp}
 use Rattle.std.specs.FinMap.Entries.{find as lookup}
 use Rattle.std.proofs.lemmas.Bool.{eq-eqb}
-use Rattle.dc_plain.specs.Trees.{Tree, Spot, spot_cmp, how_many, entry_number, Inode, inode_of, target_at, kind_of, names_of, names_in}
+use Rattle.dc_plain.specs.Trees.{Tree, Spot, spot_cmp, how_many, entry_number, Inode, inode_of, target_at, kind_of, names_of}
 use Rattle.dc_plain.specs.Trees.Inode.{Directory, Regular, Symbolic}
 use Rattle.dc_plain.specs.IsWellFormed.{IsWellFormed}
 use Rattle.dc_plain.specs.Reads.{count_at, stat}
@@ -56,13 +56,6 @@ directory_lives t place lives is = by_inode (λ p o. is_directory p ≡ true →
 pub single : (t : Tree) (place : Target) → IsWellFormed t → target_at t place.0 ≡ Some place → 1 ≤ names_of t place.0 → is_directory place ≡ true → (names_of t place.0 == 1) ≡ true
 single t place well lives named is =
     let alive = well.inodes place.0 Directory (directory_lives t place lives is) in rw (alive.reached.0 (is_root t place.0 well named)) refl
-
--- a count is of entries or of names, by the kind
-pub names_counted : (t : Tree) (place : Target) → target_at t place.0 ≡ Some place → is_directory place ≡ false → count_of t place.0 ≡ names_of t place.0
-names_counted t place lives is = rw (lives, is) refl
-
-pub entries_counted : (t : Tree) (place : Target) → target_at t place.0 ≡ Some place → is_directory place ≡ true → count_of t place.0 ≡ length (names_in t place.0)
-entries_counted t place lives is = rw (lives, is) refl
 
 -- what an entry leads to has a name
 pub named_by : (spot : Spot) (n : ℕ) (es : List (Spot × ℕ)) → lookup spot_cmp spot es ≡ Some n → 1 ≤ how_many (λ e. e.1 == n) es

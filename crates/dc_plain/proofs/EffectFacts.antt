@@ -1,13 +1,12 @@
 -- What each effect makes of entries, inodes, holders and counts.
-use Rattle.std.proofs.Common.{◌≡◌, ◌≢◌, ℕ, ◌+◌, ◌≤◌, ◌==◌, ◌&&◌, not, List, Bool, true, false, cond, Option, Some, None, IsTrue, refl, ap, sym, ◌∙◌, arith, option_map, is_ok, Ok, Err, subst, if◌then◌else◌}
+use Rattle.std.proofs.Common.{◌≡◌, ◌≢◌, ℕ, ◌+◌, ◌==◌, ◌&&◌, not, List, Bool, true, false, cond, Some, None, IsTrue, refl, ap, sym, ◌∙◌, arith, is_ok, Ok, Err, if◌then◌else◌}
 use Rattle.std.specs.Ordering.{eq_by_cmp}
-use Rattle.std.specs.FinMap.Entries.{find-put, find-where_key}
+use Rattle.std.specs.FinMap.Entries.{find-put}
 use Rattle.dc_names.specs.Bytes.{is_empty}
 use Rattle.dc_names.specs.Paths.{path_in}
-use Rattle.dc_plain.specs.Conditions.{IsFree, HasPath, CanMake, CanBeNamed, CanLose, is_full_directory}
-use Rattle.dc_plain.specs.EffectFacts.{MakesInode, AddsName, LosesName}
+use Rattle.dc_plain.specs.Conditions.{HasPath, is_full_directory}
 use Rattle.dc_plain.specs.EffectLaws.{NewKeepsWellFormed, FurtherNameKeepsWellFormed, LostNameKeepsWellFormed, NewChanges, FurtherNameChanges, LostNameChanges}
-use Rattle.dc_plain.specs.Effects.{with_new, with_entry_for, without_entry}
+use Rattle.dc_plain.specs.Effects.{without_entry}
 use Rattle.dc_plain.specs.IsWellFormed.{IsWellFormed}
 use Rattle.dc_plain.specs.Spots.{spot_at}
 use Rattle.dc_plain.specs.Trees.{Tree, Spot, Inode, spot_cmp, entry_number, inode_of, holder_of, names_of, names_in, is_directory_inode, is_live_directory, without_number}
@@ -15,7 +14,7 @@ use Rattle.dc_plain.specs.Trees.Inode.{Directory, Regular, Symbolic}
 use Rattle.dc_plain.proofs.Holders.{other_test, same_test, decided, decided_not}
 use Rattle.dc_plain.proofs.Linked.{names_linked, holder_else_linked, with_entry_for-IsWellFormed}
 use Rattle.dc_plain.proofs.Made.{IsGood, spots_total, other_number, some_in, inode_new, made, holder_new, holder_kept, one_leads, names_kept, with_new-IsWellFormed}
-use Rattle.dc_plain.proofs.Removed.{IsUnentered, left_of, names_left, holder_left, one_less, either_left, inode-left, inode_without, unentered_node, unentered_directory, without_entry-IsWellFormed}
+use Rattle.dc_plain.proofs.Removed.{IsUnentered, left_of, names_left, holder_left, either_left, inode-left, inode_without, unentered_node, unentered_directory, without_entry-IsWellFormed}
 use Rattle.dc_plain.proofs.SameFacts.{same_spot, tied}
 use Rattle.dc_plain.proofs.Takes.{lookup-take}
 

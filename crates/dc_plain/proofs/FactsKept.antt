@@ -1,16 +1,11 @@
 -- Facts whose keys aren't touched.
-use Rattle.std.proofs.Common.{◌≡◌, ◌⊎◌, inl, inr, ℕ, zero, suc, ◌<◌, List, [], ◌∷◌, Option, Some, None, refl, ap, sym, ◌∙◌, arith, length, get_or}
-use Rattle.std.specs.List.{Contains}
+use Rattle.std.proofs.Common.{◌≡◌, inl, inr, ℕ, List, Option, ap, ◌∙◌}
 use Rattle.dc_names.specs.Laws.{PartsAreNamesOrDots}
-use Rattle.dc_plain.specs.Facts.{Fact, Key, Label, Target, key_of}
+use Rattle.dc_plain.specs.Facts.{Fact, Target, key_of}
 use Rattle.dc_plain.specs.Facts.Label.{Entry, Parent, Text}
 use Rattle.dc_plain.specs.Facts.Fact.{Leads, Reads}
 use Rattle.dc_plain.specs.Trees.{Tree, Holds, fact_at}
-use Rattle.dc_plain.specs.Requests.{Request}
-use Rattle.dc_plain.specs.IsWellFormed.{IsWellFormed}
 use Rattle.dc_plain.specs.Runs.{tree_after}
-use Rattle.dc_plain.specs.TouchedKeys.{keys_touched}
-use Rattle.dc_plain.proofs.SameFacts.{IsAmong}
 use Rattle.dc_plain.proofs.KeysListed.{calls-exact}
 use Rattle.dc_plain.specs.FactLaws.{UntouchedStay}
 

@@ -5,19 +5,18 @@ use Rattle.std.proofs.lemmas.Slice.Eq.{bytes_eq-Decides}
 use Rattle.dc_names.specs.Paths.{path_of, Path}
 use Rattle.dc_names.specs.Refusals.{refusal_number, refusal_of}
 use Rattle.dc_names.specs.declared.fault.TextFault.{TextFault}
-use Rattle.dc_plain.specs.Facts.{Fact, Label, Target, Teller, told_by, same_label, same_bytes, entry_told, text_told}
+use Rattle.dc_plain.specs.Facts.{Fact, Label, Target, told_by, same_label, entry_told, text_told}
 use Rattle.dc_plain.specs.Facts.Label.{Entry, Parent, Text}
 use Rattle.dc_plain.specs.Facts.Fact.{Leads, Reads}
 use Rattle.dc_plain.specs.declared.call.Follow.{Follow}
 use Rattle.dc_plain.specs.Resolution.{Outcome, settled_walk}
 use Rattle.dc_plain.specs.Resolution.Outcome.{Found as Ends, Refused as Fails}
 use Rattle.dc_plain.specs.Places.{walk}
-use Rattle.dc_plain.specs.Refusals.{◌>>=◌, ended, path_or_fault, walk_on}
+use Rattle.dc_plain.specs.Refusals.{◌>>=◌, ended}
 use Rattle.dc_plain.specs.Trees.{Tree, Holds, entry_of, text_of, told_of}
 use Rattle.dc_plain.specs.Tellers.{Extends}
-use Rattle.dc_plain.specs.Reads.{look}
 use Rattle.dc_plain.specs.Operations.{left_alone, settled, operation}
-use Rattle.dc_plain.specs.Requests.{Request, Answer}
+use Rattle.dc_plain.specs.Requests.{Answer}
 use Rattle.dc_plain.specs.Requests.Request.{Look, Readlink, Stat, List_names, Mkdir, Create, Hard_link, Symlink, Unlink, Rmdir, Rename}
 use Rattle.dc_plain.specs.Requests.Answer.{Found, Refused}
 use Rattle.dc_plain.proofs.Later.{walk-stays}

@@ -1,14 +1,12 @@
 -- What a path, a name or a holder leads to lives.
-use Rattle.std.proofs.Common.{◌≡◌, ◌≢◌, ℕ, List, Bool, true, false, not, Option, Some, None, is_some, IsTrue, refl, ap, sym, ◌∙◌, subst, cond, [], ◌∷◌}
+use Rattle.std.proofs.Common.{◌≡◌, ℕ, List, Bool, true, false, not, Some, is_some, IsTrue, refl, ap, sym, ◌∙◌, subst, cond, [], ◌∷◌}
 use Rattle.std.specs.Ordering.{eq_by_cmp}
 use Rattle.std.specs.FinMap.Entries.{find as lookup}
 use Rattle.std.specs.List.{AllByRecursion}
-use Rattle.dc_plain.specs.IsWellFormed.{IsWellFormed, Stands}
+use Rattle.dc_plain.specs.IsWellFormed.{Stands}
 use Rattle.dc_plain.specs.LivingLaws.{WalksLeadToTheLiving, PlacesAreInLiveDirectories, TextsAreInLiveDirectories, NamesLeadToTheLiving, NamesLeadSomewhere, HoldersAreLiveDirectories, DirectoriesHaveOneName, NextNumberIsUnused, ClimbsEndUnheld, ClimbsGoByHolders, SpotsTie, AltersDecides, SameTreeDecides}
-use Rattle.dc_plain.specs.Requests.{Request}
-use Rattle.dc_plain.specs.Runs.{Alters, alters, same_tree, tree_after}
-use Rattle.dc_plain.specs.Spots.{spot_at}
-use Rattle.dc_plain.specs.Trees.{Tree, Spot, Inode, spot_cmp, entry_number, inode_of, is_live_directory}
+use Rattle.dc_plain.specs.Runs.{same_tree, tree_after}
+use Rattle.dc_plain.specs.Trees.{Tree, Spot, spot_cmp, inode_of, is_live_directory}
 use Rattle.dc_plain.specs.Trees.Inode.{Directory}
 use Rattle.dc_plain.proofs.Climbs.{climb-none, climb-up}
 use Rattle.dc_plain.proofs.Holders.{holder-live}

@@ -1,23 +1,22 @@
 -- What a move makes of entries, inodes, holders and counts.
-use Rattle.std.proofs.Common.{◌≡◌, ◌≢◌, ℕ, ◌+◌, ◌==◌, ◌&&◌, not, List, Bool, true, false, cond, Option, Some, None, IfSome, IsTrue, is_some, refl, ap, sym, ◌∙◌, arith, length, option_map, option_and_then, subst}
+use Rattle.std.proofs.Common.{◌≡◌, ◌≢◌, ℕ, ◌+◌, ◌==◌, ◌&&◌, not, List, false, cond, Option, Some, None, IfSome, IsTrue, refl, ap, sym, ◌∙◌, arith, length, option_map, option_and_then, subst}
 use Rattle.std.specs.Ordering.{eq_by_cmp}
 use Rattle.std.specs.FinMap.Entries.{find-put}
-use Rattle.dc_plain.specs.Conditions.{CanLose, CanStandAt, CanMove, is_full_directory}
+use Rattle.dc_plain.specs.Conditions.{CanStandAt, CanMove, is_full_directory}
 use Rattle.dc_plain.specs.EffectFacts.{LosesName, Clears, MovesName}
 use Rattle.dc_plain.specs.EffectLaws.{MoveKeepsWellFormed, MoveChanges}
 use Rattle.dc_plain.specs.Effects.{cleared, tree_moved, without_entry, without_there}
-use Rattle.dc_plain.specs.Facts.Label.{Entry}
-use Rattle.dc_plain.specs.IsWellFormed.{IsWellFormed, Stands}
+use Rattle.dc_plain.specs.IsWellFormed.{IsWellFormed}
 use Rattle.dc_plain.specs.Operations.{is_beneath}
 use Rattle.dc_plain.specs.Resolution.{is_directory}
 use Rattle.dc_plain.specs.Spots.{spot_at}
-use Rattle.dc_plain.specs.Trees.{Tree, Spot, Inode, spot_cmp, how_many, entry_number, entry_of, inode_of, target_at, kind_of, names_of, is_directory_inode, is_live_directory, without_spot}
+use Rattle.dc_plain.specs.Trees.{Tree, Spot, Inode, spot_cmp, how_many, entry_number, inode_of, target_at, kind_of, names_of, is_directory_inode, is_live_directory, without_spot}
 use Rattle.dc_plain.proofs.EffectFacts.{apart_by_cmp, empty-unentered, lost-changes}
 use Rattle.dc_plain.proofs.Found.{Leads, kind_is}
 use Rattle.dc_plain.proofs.FoundMoves.{ready_alone, ready_after}
 use Rattle.dc_plain.proofs.Holders.{same_test}
 use Rattle.dc_plain.proofs.Made.{spots_total, to_test, some_in}
-use Rattle.dc_plain.proofs.Moved.{IsReady, moved_to, moved-IsWellFormed, names_moved, holder_else, holder_moved, single}
+use Rattle.dc_plain.proofs.Moved.{IsReady, moved-IsWellFormed, names_moved, holder_else, holder_moved, single}
 use Rattle.dc_plain.proofs.SameFacts.{tied}
 use Rattle.dc_plain.proofs.Takes.{count-take, lookup-take}
 use Rattle.dc_plain.proofs.Keys.{target_lives}

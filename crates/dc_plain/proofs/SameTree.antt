@@ -114,10 +114,6 @@ by_trees : (t u : Tree) (b : Bool) → same_tree t u ≡ b → t ≢ u → IsTru
 by_trees t u true e other = absurd (other (same_tree_is t u e))
 by_trees t u false e other = refl
 
--- a call that leaves the tree alters nothing
-pub alters_not : (limit : ℕ) (t : Tree) (request : Request) → tree_after limit t request ≡ t → alters limit t request ≡ false
-alters_not limit t request same = ap (λ (u : Tree). not (same_tree u t)) same ∙ ap not (same_tree-refl t)
-
 -- a call that leaves another tree alters it
 pub alters_so : (limit : ℕ) (t : Tree) (request : Request) → tree_after limit t request ≢ t → alters limit t request ≡ true
 alters_so limit t request other = by_trees (tree_after limit t request) t (same_tree (tree_after limit t request) t) refl other

@@ -1,13 +1,13 @@
 -- Where the last part of a path is to be looked up: a live directory, and a name.
-use Rattle.std.proofs.Common.{◌≡◌, ℕ, ◌-◌, zero, suc, ◌==◌, ◌||◌, ◌&&◌, not, List, [], ◌∷◌, map, filter, if◌then◌else◌, Bool, true, false, cond, Option, Some, None, Result, Ok, Err, IsTrue, refl, ap, ◌∙◌, subst, length, take, slice_get, option_map, option_and_then}
+use Rattle.std.proofs.Common.{◌≡◌, ℕ, ◌-◌, zero, suc, ◌==◌, ◌||◌, not, List, [], ◌∷◌, Bool, true, false, cond, Option, Some, None, Result, Ok, Err, IsTrue, refl, ap, ◌∙◌, subst, length, take, slice_get, option_map, option_and_then}
 use Rattle.dc_names.specs.Laws.{IsNameOrDots, PartsAreNamesOrDots}
 use Rattle.dc_names.specs.declared.refusal.Refusal.{Refusal}
 use Rattle.dc_plain.specs.declared.TheConstants.{MOST_LINKS}
-use Rattle.dc_names.specs.Bytes.{is_name, is_empty, is_dot, is_dot_dot, pieces}
+use Rattle.dc_names.specs.Bytes.{is_name}
 use Rattle.dc_names.specs.Paths.Part.{Name as PartName, Dot, DotDot}
 use Rattle.dc_names.specs.declared.fault.TextFault.{TextFault}
-use Rattle.std.specs.List.{AllByRecursion, list_all}
-use Rattle.dc_names.specs.Paths.{Part, Path, path_in, fault_of, path_of, part_of}
+use Rattle.std.specs.List.{AllByRecursion}
+use Rattle.dc_names.specs.Paths.{Part, Path, path_in, fault_of, path_of}
 use Rattle.dc_names.specs.Refusals.{refusal_of}
 use Rattle.dc_names.specs.declared.kind.Kind.TheVariants.{Dir, File, Link}
 use Rattle.dc_plain.specs.declared.call.Follow.{Follow}
@@ -22,7 +22,7 @@ use Rattle.dc_names.specs.Lasts.{last_part}
 use Rattle.dc_plain.specs.Refusals.{where_on, place_on, path_or_fault, where_of, walk_on, ended}
 use Rattle.dc_plain.specs.Trees.{Tree, Inode, inode_of, target_at, kind_of, entry_of, told_of, is_live_directory, is_directory_inode, holder_of}
 use Rattle.dc_plain.specs.Trees.Inode.{Directory, Regular, Symbolic}
-use Rattle.dc_plain.proofs.Live.{Stands_at, Ends, resolve_stands, root_stands, and_last}
+use Rattle.dc_plain.proofs.Live.{Stands_at, Ends, resolve_stands, root_stands}
 use Rattle.dc_plain.proofs.Made.{is_directory_in}
 use Rattle.dc_plain.proofs.Chains.{after}
 

@@ -1,6 +1,5 @@
 -- What a path, a name or a holder leads to lives, and other facts of every well-formed tree.
 use Rattle.std.specs.Prelude.{◌≡◌, ◌≢◌, ◌↔◌, ℕ, ◌-◌, ◌<◌, List, false, None, Some, Ok, is_some, IsTrue}
-use Rattle.std.specs.Cmp.{IsTotalOrder}
 use Rattle.std.specs.Ordering.{eq_by_cmp}
 use Rattle.dc_names.specs.Paths.{Path}
 use Rattle.dc_plain.specs.declared.call.Follow.{Follow}

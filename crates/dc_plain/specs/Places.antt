@@ -1,5 +1,5 @@
 -- Where a whole path leads from a starting directory, and where its last part is to be looked up (POSIX.1-2017 XBD 4.13).
-use Rattle.std.specs.Prelude.{ℕ, List, Bool, false, ◌==◌, ◌||◌, ◌-◌, length, take, slice_get, option_map, Option, Some, None, if◌then◌else◌}
+use Rattle.std.specs.Prelude.{ℕ, Bool, false, ◌==◌, ◌||◌, ◌-◌, length, take, slice_get, option_map, Option, Some, None, if◌then◌else◌}
 use Rattle.dc_names.specs.declared.refusal.Refusal.{Refusal}
 use Rattle.dc_names.specs.declared.refusal.Refusal.TheVariants.{NotFound}
 use Rattle.dc_plain.specs.declared.TheConstants.{MOST_LINKS}

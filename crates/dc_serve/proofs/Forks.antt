@@ -20,9 +20,6 @@ allrise-append : (p : ℕ) (xs ys : List (List Record)) → AllRise p xs → All
 allrise-append p [] ys a b = b
 allrise-append p (x ∷ xs) ys a b = (a.0, allrise-append p xs ys a.1 b)
 
-pub took_none : (a : Book) (k : ℕ) → TookInSome k a a
-took_none a k = ([], record { own = refl; joined = sym (append-nil a.joined); rise = tt; seen = le_refl a.seen }, omega arith)
-
 took_weaker : (a b : Book) (j k : ℕ) → j ≤ k → TookInSome j a b → TookInSome k a b
 took_weaker a b j k le t = (t.0, t.1, (let x = t.2 in omega arith))
 

@@ -1,5 +1,5 @@
 -- The replies of a phase, as far as sessions have been taken in.
-use Rattle.std.proofs.Common.{◌≡◌, ℕ, ◌+◌, ◌<◌, ◌≤◌, List, [], length, sym, subst, ap₂, arith}
+use Rattle.std.proofs.Common.{◌≡◌, ℕ, ◌+◌, ◌<◌, List, [], length, sym, subst, ap₂}
 use Rattle.std.specs.Prelude.{Result, Ok, Err, IfOk, IsOkAnd, slice_index}
 use Rattle.dc_events.specs.Views.{Book}
 use Rattle.dc_lang.specs.Commands.{Order}
@@ -8,21 +8,10 @@ use Rattle.dc_serve.specs.Phases.{of_session}
 use Rattle.dc_serve.specs.Sessions.{Obeyed, ObeyedBelow, outcome, progress}
 use Rattle.dc_serve.specs.Threads.{Adds}
 use Rattle.dc_serve.specs.declared.fault.ServeFault.{ServeFault}
-use Rattle.dc_serve.specs.declared.fault.ServeFault.TheVariants.{BadSize, Read, BadLine, NoMemory, Spent, Write}
 use Rattle.dc_serve.specs.declared.phase.PhaseReplies.{PhaseReplies}
 use Rattle.dc_serve.specs.declared.session.SessionReplies.{SessionReplies}
 use Rattle.dc_serve.proofs.Forks.{obeyed_more, obeyed_skip}
 use Rattle.dc_serve.proofs.Shared.{Fork}
-use Rattle.dc_serve.specs.Bytes.{IsServiceFault}
-
--- what stops at some clock stops at a later one
-pub fault_later : (clock later : ℕ) (fault : ServeFault) → clock ≤ later → IsServiceFault clock fault → IsServiceFault later fault
-fault_later clock later NoMemory more is = tt
-fault_later clock later Spent more is = omega arith
-fault_later clock later BadSize more is = absurd is
-fault_later clock later Read more is = absurd is
-fault_later clock later (BadLine n) more is = absurd is
-fault_later clock later Write more is = absurd is
 
 pub obeyed_with : (v a u b c w : Known) (bases : List ℕ) (session count : ℕ) (orders : List Order) (others : Result PhaseReplies ServeFault) (told : Result SessionReplies ServeFault) (all : Result PhaseReplies ServeFault) → Fork v a u b c w
     → session < length bases → 0 < length (of_session session orders) → session + 1 ≡ count

@@ -1,5 +1,5 @@
 -- One more phase.
-use Rattle.std.proofs.Common.{drop, ◌≡◌, ℕ, ◌+◌, ◌<◌, ◌≤◌, List, [], ◌∷◌, ◌++◌, get_or, length, map, take, ◌^◌, Option, Some, None, refl, ap, ap₂, sym, ◌∙◌, subst, arith, le_refl}
+use Rattle.std.proofs.Common.{drop, ◌≡◌, ℕ, ◌+◌, ◌<◌, ◌≤◌, List, [], ◌∷◌, ◌++◌, get_or, length, map, take, Option, Some, None, ap, ap₂, sym, ◌∙◌, subst, arith, le_refl}
 use Rattle.std.proofs.lemmas.List.{append-nil, get_or-map, length-append, length-map, map-append, take-append-drop, take_more}
 use Rattle.std.proofs.lemmas.List.Concat.{flat_map-append}
 use Rattle.std.specs.Borrow.{Bor}
@@ -9,10 +9,10 @@ use Rattle.dc_events.specs.Views.{Book}
 use Rattle.dc_lang.specs.declared.TheConstants.{SESSIONS}
 use Rattle.dc_lang.specs.declared.line.Line.{Line}
 use Rattle.dc_lang.specs.Commands.{Order}
-use Rattle.dc_table.specs.Shares.{Known, first_known}
+use Rattle.dc_table.specs.Shares.{Known}
 use Rattle.dc_serve.specs.Bytes.{AppendsFront, IsServiceFault, WritesFront}
 use Rattle.dc_serve.specs.Phases.{by_session, in_order, ordered}
-use Rattle.dc_serve.specs.Rounds.{Goes, Holds, Rounds, StopsBy, Wrote}
+use Rattle.dc_serve.specs.Rounds.{Goes, Holds, Rounds, StopsBy}
 use Rattle.dc_serve.specs.Serving.{first_bases}
 use Rattle.dc_serve.specs.Sessions.{Between, ObeyedBelow, SameShare, TookInSome, outcome, present, size}
 use Rattle.dc_serve.specs.Turns.{AsAsked, Turn, all_of, bases_then, orders_of, strand, text_of}
@@ -30,18 +30,6 @@ all_of-next xs turns = flat_map-append (λ turns. turns) xs (turns ∷ []) ∙ a
 rounds_more : (p q w : ℕ) (xs : List (List Turn)) (turns : List Turn) → Rounds p xs q → Between q w turns → q ≤ w → Rounds p (xs ++ turns ∷ []) w
 rounds_more p q w [] turns le between up = (w, (λ s. (rising_from p q (strand s turns) le (between s).0, (let far = (between s).1 in let near = ends_from p q (strand s turns) le in omega arith))), le_refl w)
 rounds_more p q w (x ∷ xs) turns r between up = (r.0, r.1, rounds_more r.0 q w xs turns r.2 between up)
-
-holds_none : (limit rows : ℕ) (k : Known) → k ≡ first_known limit rows → Holds limit [] [] k.view.book.seen [] k
-holds_none limit rows k is = record {
-  orders_are = refl;
-  asked = tt;
-  own = ap (λ (z : Known). z.view.book.own) is;
-  joined = ap (λ (z : Known). z.view.book.joined) is;
-  rounds = omega arith;
-  rise = tt;
-  limit_is = ap (λ (z : Known). z.share.limit) is;
-  whole = ap (λ (z : Known). z.share.parts) is ∙ ap (λ (n : ℕ). 2 ^ n) (sym (ap (λ (z : Known). z.share.halvings) is));
-}
 
 -- a phase was served
 holds_more : {most : ℕ} → (limit : ℕ) (bases bases' : List ℕ) (phases : List (List Order)) (orders : List Order) (turns : List (List Turn)) (k l : Known) (text : List ℕ) → Holds limit phases turns k.view.book.seen [] k
@@ -95,15 +83,6 @@ pub none_written : (old : Option (List ℕ)) → Appends old old []
 none_written None = tt
 none_written (Some bytes) = sym (append-nil bytes)
 
-pub goes_none : (limit rows : ℕ) (old : Option (List ℕ)) (k : Known) → k ≡ first_known limit rows → Goes limit first_bases [] old old k
-goes_none limit rows old k is = record {
-  turns = [];
-  holds = holds_none limit rows k is;
-  last = refl;
-  few = let none = ap (λ (z : Known). size z.view.book.joined) is in omega arith;
-  written = none_written old;
-}
-
 in_order-next : (phases : List (List Order)) (orders : List Order) → length (in_order (phases ++ orders ∷ [])) ≡ length (in_order phases) + length (by_session orders)
 in_order-next phases orders =
     let l = ap length (flat_map-append by_session phases (orders ∷ []) ∙ ap (λ o. in_order phases ++ o) (append-nil (by_session orders))) in
@@ -143,9 +122,6 @@ goes_more limit bases bases' phases orders old mid new k l text so_far phase f a
       few = let more = few_more k.view.book l.view.book phases orders so_far.few phase.took in let n = in_order-next phases orders in omega arith;
       written = subst (Appends old new) (sym (text_next so_far.turns f.turns)) (appends_both old mid new (text_of (all_of so_far.turns)) (text_of f.turns) so_far.written (subst (Appends mid new) f.told appends));
     }
-
-pub goes_done : (limit : ℕ) (bases : List ℕ) (phases : List (List Order)) (old new : Option (List ℕ)) (k : Known) → Goes limit bases phases old new k → Wrote limit phases (Appends old new) k
-goes_done limit bases phases old new k g = record { turns = g.turns; clock = k.view.book.seen; more = []; holds = g.holds; written = g.written }
 
 pub goes_stops : (limit : ℕ) (bases : List ℕ) (phases : List (List Order)) (i : ℕ) (orders : List Order) (old new : Option (List ℕ)) (k l : Known) (fault : ServeFault) → Goes limit bases (take i phases) old new k
     → Phase k l orders → take (i + 1) phases ≡ take i phases ++ orders ∷ [] → IsServiceFault l.view.book.seen fault → StopsBy limit phases old new l fault

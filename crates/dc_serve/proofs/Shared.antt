@@ -1,5 +1,5 @@
 -- A share that was cut and put together again is as much as before.
-use Rattle.std.proofs.Common.{◌≡◌, ℕ, ◌+◌, ◌-◌, ◌*◌, ◌^◌, max, refl, ap, ap₂, sym, ◌∙◌, arith, pow-add, pow-suc, add-one}
+use Rattle.std.proofs.Common.{◌≡◌, ℕ, ◌+◌, ◌-◌, ◌*◌, ◌^◌, max, ap, ap₂, sym, ◌∙◌, arith, pow-add, pow-suc, add-one}
 use Rattle.std.proofs.Math.Nat.{max-eq_left}
 use Rattle.dc_table.specs.Shares.{IsWhole, Known, Share, both, kept_half, new_half}
 use Rattle.dc_serve.specs.Sessions.{SameShare}
@@ -9,9 +9,6 @@ pub record Fork (v a u b c w : Known) : Type 0 where
   pub cut : a ≡ kept_half v
   pub new : u ≡ new_half v
   pub joined : w ≡ both b c
-
-pub same_self : (s : Share) → SameShare s s
-same_self s = record { limit = refl; more = 0; parts = (let n : ℕ = s.parts in grind arith); halvings = omega arith }
 
 twice : (n d a b : ℕ) → a ≡ 0 → b ≡ d → n * 2 ^ d * 2 ^ a + n * 2 ^ b ≡ n * 2 ^ (d + 1)
 twice n d a b z e =

@@ -8,7 +8,7 @@ use Rattle.dc_events.specs.Views.{Book, Record, View}
 use Rattle.dc_lang.specs.Commands.{Order, request_from}
 use Rattle.dc_lang.specs.Replies.{reply_text}
 use Rattle.dc_plain.specs.Requests.{Answer, Request}
-use Rattle.dc_table.specs.Changes.{NothingNew, Recorded}
+use Rattle.dc_table.specs.Changes.{Recorded}
 use Rattle.dc_serve.specs.Sessions.{AskedBy, Obeyed, Progress, RecordedAll, RecordedSome, progress}
 use Rattle.dc_serve.specs.Serving.{base_after}
 use Rattle.dc_serve.specs.Turns.{Turn, orders_of, records_of, text_of, turn_text}
@@ -33,9 +33,6 @@ pub ends_up : (p : ℕ) (xs : List Record) → Rising p xs → p ≤ ends p xs
 ends_up p [] up = le_refl p
 ends_up p (x ∷ xs) up = let low = up.0 in let rest = ends_up (after x) xs up.1 in omega arith
 
-recorded_none : (a : Book) → RecordedAll a [] a
-recorded_none a = record { own = sym (append-nil a.own); joined = refl; rising = tt; within = le_refl a.seen }
-
 recorded_both : (a m b : Book) (xs ys : List Record) → RecordedAll a xs m → RecordedAll m ys b → RecordedAll a (xs ++ ys) b
 recorded_both a m b xs ys first then = record {
   own = then.own ∙ ap (λ l. l ++ ys) first.own ∙ append_assoc a.own xs ys;
@@ -55,13 +52,6 @@ some_both a m b j k first then =
 pub some_more : (a b : Book) (j k : ℕ) → j ≤ k → RecordedSome j a b → RecordedSome k a b
 some_more a b j k le s = (s.0, s.1, (let x = s.2 in omega arith))
 
-pub some_none : (a : Book) (k : ℕ) → RecordedSome k a a
-some_none a k = ([], recorded_none a, omega arith)
-
--- a call that was not answered
-pub some_nothing : (v w : View) (k : ℕ) → NothingNew v w → RecordedSome k v.book w.book
-some_nothing v w k none = ([], record { own = none.own ∙ sym (append-nil v.book.own); joined = none.joined; rising = tt; within = none.later }, omega arith)
-
 pub obeyed_some : (a b : Book) (before then : Progress) (orders : List Order) → Obeyed a before orders then b → RecordedSome (length orders) a b
 obeyed_some a b before then orders s = (records_of s.turns, s.recorded, few s.turns s.orders_are)
   where
@@ -80,9 +70,6 @@ orders-append xs ys = map-append (λ t. t.order) xs ys
 
 pub text-append : (xs ys : List Turn) → text_of (xs ++ ys) ≡ text_of xs ++ text_of ys
 text-append xs ys = flat_map-append turn_text xs ys
-
-pub obeyed_none : (a : Book) (at : Progress) → Obeyed a at [] at a
-obeyed_none a at = record { turns = []; orders_are = refl; asked = refl; told = sym (append-nil at.text); recorded = recorded_none a }
 
 pub obeyed_both : (a m b : Book) (x y z : Progress) (xs ys : List Order) → Obeyed a x xs y m → Obeyed m y ys z b → Obeyed a x (xs ++ ys) z b
 obeyed_both a m b x y z xs ys first then = record {
@@ -106,9 +93,6 @@ recorded_one v w call asked reply at is r = record {
     past : (b : Bool) → r.altered ≡ b → after (record { call = asked; reply = reply; at = at; altered = r.altered }) ≤ w.book.seen
     past true e = let less = r.past e in rw e (omega arith)
     past false e = let le = r.seen in rw e (omega arith)
-
-pub some_one : (v w : View) (call : Request) (reply : Answer) (at : ℕ) → Recorded v w call reply at → RecordedSome 1 v.book w.book
-some_one v w call reply at r = (record { call = call; reply = reply; at = at; altered = r.altered } ∷ [], recorded_one v w call call reply at refl r, omega arith)
 
 pub obeyed_one : (v w : View) (before : Progress) (order : Order) (call : Request) (reply : Answer) (at : ℕ) (line text : List ℕ) (base : ℕ) → call ≡ request_from before.base order → Recorded v w call reply at
     → line ≡ reply_text order.session reply at → text ≡ before.text ++ line → base ≡ base_after order.verb reply before.base → Obeyed v.book before (order ∷ []) (progress text base) w.book

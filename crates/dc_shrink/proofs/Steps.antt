@@ -1,5 +1,5 @@
 -- What the parts of a shrinker are after the steps of its calls.
-use Rattle.std.proofs.Common.{◌≡◌, ℕ, ◌*◌, ◌<◌, ◌≤◌, ◌/◌, Bool, true, false, not, ◌||◌, List, [], ◌∷◌, length, Option, Some, None, is_some, IfSome, map, slice_index_or, refl, ap, sym, subst, ◌∙◌, arith, nat_eq}
+use Rattle.std.proofs.Common.{◌≡◌, ℕ, ◌*◌, ◌<◌, ◌≤◌, ◌/◌, Bool, true, false, not, ◌||◌, List, [], ◌∷◌, length, Option, Some, None, is_some, map, slice_index_or, refl, ap, sym, subst, ◌∙◌, arith, nat_eq}
 use Rattle.std.specs.List.{filter, range_with_len, IsDistinct}
 use Rattle.std.specs.Int.{div_ceil}
 use Rattle.std.proofs.lemmas.List.Elements.{filter_agree}
@@ -51,13 +51,6 @@ module _ {n : ℕ} {listed : List ℕ} {pins : map.FinMap nat_cmp ℕ} {buckets 
   pub kept_added : (is_in listed row ≡ false) × (map.get pins row ≡ None) → row < n → IsKept (listing n (row ∷ listed) pins) (promoted_in buckets row)
   kept_added free below = subst (λ (l : List ℕ). IsKept (listing n (row ∷ l) pins) (promoted_in buckets row)) (without_absent row listed free.0) (kept_first free.1 below)
 
-  -- the bucket of a row can be found, and has the row once
-  pub has_bucket : row < n → row / 4 < length buckets
-  has_bucket below = omega (arith, kept.1.enough)
-
-  pub stands_once : row < n → length (filter (nat_eq row) (slice_index_or buckets (row / 4) [])) ≡ 1
-  stands_once below = (kept.1.each (row / 4) (has_bucket below)).once row ∙ rw (eq-eqb (row / 4) (row / 4) refl) refl
-
   pub kept_dropped : IsKept (listing n (without row listed) (map.remove pins row)) buckets
   kept_dropped = (listing_dropped kept.0 row, orders_dropped kept.1 row)
 
@@ -108,10 +101,6 @@ pins_none pins row e = rw e refl
 pub pins_some : (o : Option ℕ) → 0 < unwrap_or o 0 → is_some o ≡ true
 pins_some None h = absurd (omega arith)
 pins_some (Some v) h = refl
-
-pub pins_limit : (o : Option ℕ) → IfSome o (λ pins. (1 ≤ pins) × (pins ≤ MOST_PINS)) → unwrap_or o 0 ≤ MOST_PINS
-pins_limit None h = omega arith
-pins_limit (Some v) h = h.1
 
 -- a pinned row isn't in the list
 pub dropped_pinned : (s : Listing) → IsListing s → (row : ℕ) → 0 < pins_of s row → dropped s row ≡ listing s.rows s.listed (map.remove s.pins row)

@@ -1,6 +1,5 @@
 -- The names in a directory, found, put in and taken out by their bytes.
-use Rattle.std.proofs.Common.{◌≡◌, ℕ, List, [], ◌∷◌, ◌++◌, Option, Some, None, map, option_map, IsTrue, refl, ap, sym, ◌∙◌, subst}
-use Rattle.std.proofs.lemmas.List.{map-append}
+use Rattle.std.proofs.Common.{◌≡◌, ℕ, List, [], ◌∷◌, Option, Some, None, map, option_map, IsTrue, refl, ap, sym, ◌∙◌, subst}
 use Rattle.std.specs.BTreeMap.{is_at, insert_entry}
 use Rattle.std.specs.Cmp.Lexicographic.{slice_cmp, nat_list_cmp_total}
 use Rattle.std.specs.FinMap.Entries.{put, is_sorted, is_sorted-put, is_sorted-where_key}
@@ -41,8 +40,3 @@ module _ (entries : List (Vec ℕ × ℕ)) (key : Vec ℕ) (n : ℕ) {more : Lis
 pub names_kept : (entries : List (Vec ℕ × ℕ)) → map (λ (k : Vec ℕ). k.items) (map (λ (e : Vec ℕ × ℕ). e.0) entries) ≡ map (λ (e : List ℕ × ℕ). e.0) (map name_shown entries)
 names_kept [] = refl
 names_kept (e ∷ es) = ap (λ l. e.0.items ∷ l) (names_kept es)
-
--- one name more
-pub name_more : {X Y : Type 0} (f : X → List ℕ) (g : Y → List ℕ) (names : List Y) (name : Y) (keys : List X) (key : X) → g name ≡ f key → map g names ≡ map f keys → map g (names ++ name ∷ []) ≡ map f (keys ++ key ∷ [])
-name_more f g names name keys key is so_far =
-    map-append g names (name ∷ []) ∙ (λ i. so_far i ++ is i ∷ []) ∙ sym (map-append f keys (key ∷ []))

@@ -1,6 +1,5 @@
 -- The words of a row after a write.
-use Rattle.std.proofs.Common.{◌≡◌, ◌≢◌, ℕ, zero, suc, ◌+◌, ◌<◌, ◌≤◌, List, ◌∷◌, length, set, get_or, refl, sym, ap, ap₂, ◌∙◌, subst, arith, get_or-set_other, get_or-set_same, length-set, Option, inl, inr}
-use Rattle.std.proofs.lemmas.Bool.{cases_eq}
+use Rattle.std.proofs.Common.{◌≡◌, ◌≢◌, ℕ, zero, suc, ◌+◌, ◌<◌, ◌≤◌, List, ◌∷◌, length, set, get_or, refl, sym, ap, ap₂, ◌∙◌, arith, get_or-set_other, get_or-set_same, length-set, Option}
 use Rattle.dc_plain.specs.Facts.{Fact}
 use Rattle.dc_row.specs.Spelling.{Spells}
 use Rattle.dc_row.specs.declared.TheConstants.{ROW_WORDS}
@@ -14,15 +13,6 @@ words_from_set words k (suc n) i x apart = ap₂ (λ y ys. y ∷ ys) (get_or-set
 -- clock and lock lie before all rows
 pub row_low : (words : List ℕ) (i x row : ℕ) → i < 2 → row_words (set words i x) row ≡ row_words words row
 row_low words i x row low = words_from_set words (base_of row) ROW_WORDS i x (λ j a b. λ e. omega arith)
-
-pub row_other : (words : List ℕ) (row r i x : ℕ) → i < ROW_WORDS → r ≢ row → row_words (set words (base_of row + i) x) r ≡ row_words words r
-row_other words row r i x few ne = words_from_set words (base_of r) ROW_WORDS (base_of row + i) x (λ j a b e. ne (omega arith))
-
-pub cell_beside : (words : List ℕ) (row i j x : ℕ) → j ≢ i → cell (set words (base_of row + i) x) row j ≡ cell words row j
-cell_beside words row i j x ne = get_or-set_other words (base_of row + i) (base_of row + j) x 0 (λ e. ne (omega arith))
-
-pub cell_there : (words : List ℕ) (rows row i x : ℕ) → i < ROW_WORDS → row < rows → length words ≡ base_of rows → cell (set words (base_of row + i) x) row i ≡ x
-cell_there words rows row i x few inside size = get_or-set_same words (base_of row + i) x 0 (omega arith)
 
 from_at : (words : List ℕ) (k n i : ℕ) → i < n → get_or (words_from words k n) i 0 ≡ get_or words (k + i) 0
 from_at words k zero i few = absurd (omega arith)
@@ -48,18 +38,6 @@ spells_too words own row fact s same = record {
 
 pub count_now : (words : List ℕ) (rows row x : ℕ) → row < rows → length words ≡ base_of rows → count (set words (base_of row) x) row ≡ x
 count_now words rows row x inside size = get_or-set_same words (base_of row) x 0 (omega arith)
-
-pub one_written : (before after : List ℕ) (rows row : ℕ) (words : List ℕ) (i x : ℕ) → 0 < i → i < ROW_WORDS → row < rows → length before ≡ base_of rows → x ≡ get_or words i 0 → Writing before after row words i
-    → Writing before (set after (base_of row + i) x) row words (i + 1)
-one_written before after rows row words i x some few inside size is g = let len = g.size in record {
-  size = length-set after (base_of row + i) x ∙ g.size;
-  others = λ r ne. row_other after row r i x few ne ∙ g.others r ne;
-  count = get_or-set_other after (base_of row + i) (base_of row) x 0 (λ e. omega arith) ∙ g.count;
-  own = λ j sj lj. elim (cases_eq j i) [
-    | inl same ↦ subst (λ (k : ℕ). cell (set after (base_of row + i) x) row k ≡ get_or words k 0) (sym same) (cell_there after rows row i x few inside (omega arith) ∙ is)
-    | inr ne ↦ cell_beside after row i j x ne ∙ g.own j sj (omega arith)
-  ];
-}
 
 pub opened : (before after : List ℕ) (rows row : ℕ) (words : List ℕ) → row < rows → length before ≡ base_of rows → Writing before after row words ROW_WORDS → Wrote before (set after (base_of row) (count after row + 1)) row words 1
 opened before after rows row words inside size g = let len = g.size in let n : ℕ = count after row + 1 in let z : base_of row + 0 ≡ base_of row = omega arith in record {

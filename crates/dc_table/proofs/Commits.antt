@@ -68,13 +68,6 @@ module _ (read : SpelledIsRead) (touches : TouchesTheListed) (limit : ℕ) (t : 
     });
   }
 
--- with no key at all, the rows are as they are at home
-pub from_rest : (t : Tree) (rows : ℕ) (words : List ℕ) (slots : List Slot) (used : Listing) (keys : List Key) → Rest t rows words slots used → Stage t rows words slots used 0 0 keys
-from_rest t rows words slots used keys s = record {
-  fit = s.fit;
-  rest = λ row l. let a = s.rest row l in record { odd = λ key e b. let below = b.2 in absurd (omega arith); even = λ none. a.even (λ key e never. never); fits = a.fits; low = a.low };
-}
-
 pub to_rest : (t : Tree) (rows : ℕ) (words : List ℕ) (slots : List Slot) (used : Listing) (n : ℕ) (keys : List Key) → Stage t rows words slots used n n keys → Rest t rows words slots used
 to_rest t rows words slots used n keys s = record {
   fit = s.fit;

@@ -8,12 +8,12 @@ use Rattle.dc_plain.specs.Facts.{Key}
 use Rattle.dc_plain.specs.Trees.{Tree}
 use Rattle.dc_row.specs.Spelling.{Spells}
 use Rattle.dc_row.specs.declared.TheConstants.{EMPTY_ROW}
-use Rattle.dc_index.specs.Slots.{Slot, slot_of, has_key, cleared}
+use Rattle.dc_index.specs.Slots.{Slot, slot_of, has_key}
 use Rattle.dc_index.specs.Slots.Slot.{Free, Retired, Holds as Held}
 use Rattle.dc_shrink.specs.Listings.{Listing, is_in, last_of, pins_of}
 use Rattle.dc_shrink.specs.Uses.{SetsUse}
 use Rattle.dc_events.specs.Rows.{most, base_of, count, row_words}
-use Rattle.dc_table.specs.Rows.{At, OfNone, Agree, FitsSlot, IsOf, MayTell, MayStand, Rest, Wrote}
+use Rattle.dc_table.specs.Rows.{At, OfNone, Agree, FitsSlot, IsOf, MayTell, Rest, Wrote}
 use Rattle.dc_table.specs.Filling.{Redone, Emptied, Given}
 use Rattle.dc_table.proofs.Cells.{row_raised, count_now, spells_too}
 use Rattle.dc_table.proofs.Slots.{moved, agrees}
@@ -68,12 +68,6 @@ module _ (t : Tree) (rows : ℕ) (words : List ℕ) (row : ℕ) (inside : row < 
   pub one_up : count ws row ≡ count words row + 1
   one_up = ap (λ z. count z row) is ∙ count_now words rows row (count words row + 1) inside size
 
-  pub is_odd : count ws row % 2 ≡ 1
-  is_odd = let c = one_up in omega arith
-
-  pub is_low : count ws row < most
-  is_low = let c = one_up in omega arith
-
   pub sized : length ws ≡ base_of rows
   sized = ap length is ∙ (length-set words (base_of row) (count words row + 1) ∙ size)
 
@@ -86,17 +80,8 @@ module _ (t : Tree) (rows : ℕ) (words : List ℕ) (row : ℕ) (inside : row < 
     further = λ m. further m;
   }
 
-  pub tells_still : (own : List ℕ) → MayTell t own → count words row + 1 + 1 < most → MayStand t ws row own
-  tells_still own m few = let c = one_up in record { fact = m.fact; spelled = m.spelled; now = m.now; last = λ last. absurd (omega arith) }
-
-  pub tells_nothing : Spells EMPTY_ROW None → MayStand t ws row EMPTY_ROW
-  tells_nothing empty = record { fact = None; spelled = empty; now = tt; last = λ _. refl }
-
 pub may_tell : (t : Tree) (words : List ℕ) (key : Key) → IsOf t words key → MayTell t words
 may_tell t words key of = record { fact = Some of.fact; spelled = of.spelled; now = of.now }
-
-pub may_tell_nothing : (t : Tree) → Spells EMPTY_ROW None → MayTell t EMPTY_ROW
-may_tell_nothing t empty = record { fact = None; spelled = empty; now = tt }
 
 or_left : (a b : Bool) → a ≡ true → (a || b) ≡ true
 or_left true b e = refl
@@ -105,11 +90,6 @@ or_left false b e = absurd (true≢false (sym e))
 -- the row that goes next has a key
 pub victim_keyed : (slots : List Slot) (used : Listing) (row : ℕ) → Agree slots used → last_of used.listed ≡ Some row → has_key (slot_of slots row) ≡ true
 victim_keyed slots used row agree h = agree row ∙ or_left (is_in used.listed row) _ (any_passes_from_place (nat_eq row) used.listed (length used.listed - 1) row h (eq-eqb row row refl))
-
-pub cleared_free : (slot : Slot) → has_key slot ≡ true → cleared slot ≡ Free
-cleared_free Free e = refl
-cleared_free Retired e = absurd (true≢false (sym e))
-cleared_free (Held key) e = refl
 
 -- a row that was given a key is written
 module _ (t : Tree) (rows : ℕ) (words : List ℕ) (slots : List Slot) (used : Listing) (row : ℕ) (key : Key) (g : Given t rows words slots used row key) where

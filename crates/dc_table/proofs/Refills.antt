@@ -39,9 +39,6 @@ module _ (t : Tree) (rows : ℕ) (words : List ℕ) (slots : List Slot) (used : 
     pub may_tell : (own : List ℕ) → IsOf t own x → MayStand t words row own
     may_tell own of = record { fact = Some of.fact; spelled = of.spelled; now = of.now; last = λ e. let l = odd_row.1 in absurd (omega arith) }
 
-    pub may_clear : Spells EMPTY_ROW None → MayStand t words row EMPTY_ROW
-    may_clear empty = record { fact = None; spelled = empty; now = tt; last = λ _. refl }
-
     module _ (distinct : AreDistinct keys) (index : IsIndex slots) (u : List ℕ) where
       other_key : (r : ℕ) (key : Key) → r ≢ row → slot_of slots r ≡ Held key → Between i n keys key ↔ Between (i + 1) n keys key
       other_key r key ne f = rest_less keys i x key here (λ same. ne (index.one r row x (f ∙ ap Held same) held)) n

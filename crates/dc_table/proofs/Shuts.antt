@@ -13,7 +13,7 @@ use Rattle.dc_ops.specs.Keys.{AreDistinct}
 use Rattle.dc_row.specs.Spelling.{Spells}
 use Rattle.dc_row.specs.declared.TheConstants.{EMPTY_ROW}
 use Rattle.dc_events.specs.Rows.{most, base_of, count, row_words}
-use Rattle.dc_table.specs.Rows.{At, Between, Stage, MayStand, Wrote}
+use Rattle.dc_table.specs.Rows.{At, Between, Stage, Wrote}
 use Rattle.dc_table.proofs.Cells.{count_now, row_raised, spells_too}
 use Rattle.dc_table.proofs.Slots.{held_two, held_within, retired_held, unheld, at_for, moved, first_more, agrees}
 
@@ -59,9 +59,6 @@ module _ (t : Tree) (rows : ℕ) (words : List ℕ) (slots : List Slot) (used : 
 
       others : (r : ℕ) → r ≢ row → row_words ws r ≡ row_words words r
       others r ne = ap (λ z. row_words z r) is ∙ row_raised words row r (count words row + 1) ne
-
-      pub may_empty : Spells EMPTY_ROW None → MayStand t ws row EMPTY_ROW
-      may_empty empty = record { fact = None; spelled = empty; now = tt; last = λ _. refl }
 
       other_key : IsIndex slots → (r : ℕ) (key : Key) → r ≢ row → slot_of slots r ≡ Held key → Between 0 i keys key ↔ Between 0 (i + 1) keys key
       other_key index r key ne f = first_more keys i x key here (λ same. ne (index.one r row x (f ∙ ap Held same) held))

@@ -1,13 +1,13 @@
 -- What a finder over pinned rows knows after the lock was had and given back, and after a question.
-use Rattle.std.proofs.Common.{◌≡◌, ℕ, ◌≤◌, List, ◌∷◌, [], Bool, true, false, not, Option, Some, None, is_some, if◌then◌else◌, map, refl, ap, sym, ◌∙◌, subst, arith}
+use Rattle.std.proofs.Common.{◌≡◌, ℕ, ◌≤◌, List, ◌∷◌, [], not, Option, Some, None, is_some, if◌then◌else◌, map, ap, sym, ◌∙◌, subst, arith}
 use Rattle.std.proofs.lemmas.List.{map-append}
 use Rattle.dc_plain.specs.Facts.{Key, Teller, told_by}
 use Rattle.dc_plain.specs.Resolution.{Outcome}
 use Rattle.dc_plain.specs.FactLaws.{outcome_answer}
-use Rattle.dc_plain.specs.Requests.{Request, Answer}
+use Rattle.dc_plain.specs.Requests.{Answer}
 use Rattle.dc_plain.specs.Tellers.{Extends}
 use Rattle.dc_events.specs.Views.{View, Book}
-use Rattle.dc_events.specs.Effects.{begins, with_seen, empty_hold}
+use Rattle.dc_events.specs.Effects.{begins}
 use Rattle.dc_table.specs.Changes.{NothingNew, Rested}
 use Rattle.dc_table.specs.Passes.{Pass, view}
 use Rattle.dc_walk.specs.Uses.{Use, facts_of}
@@ -34,17 +34,6 @@ module _ {v w : View} (r : Rested v w) where
     joined = ap (λ (z : View). z.book.joined) r.same;
     later = omega arith;
   }
-
-  rested_notes : (b : Bool) (call : Request) → (begins b w call).walk ≡ (begins b v call).walk
-  rested_notes true call = refl
-  rested_notes false call = ap (λ (z : View). z.walk) r.same
-
-  rested_walk : (b : Bool) (call : Request) {outcome : Teller → Option Outcome} {us : List Use} {k : ℕ} → IsWalk outcome (begins b v call) us k → IsWalk outcome (begins b w call) us k
-  rested_walk b call {outcome} {us} {k} is = subst (λ z. IsWalk outcome (begins b z call) us k) (sym r.same) (there b is)
-    where
-      there : (b : Bool) → IsWalk outcome (begins b v call) us k → IsWalk outcome (begins b (record v { book = with_seen v.book r.clock; hold = empty_hold }) call) us k
-      there true is = record { busy = is.busy; early = is.early; marked = is.marked; few = is.few; loads = is.loads; needed = is.needed; distinct = is.distinct }
-      there false is = record { busy = is.busy; early = is.early; marked = is.marked; few = is.few; loads = is.loads; needed = is.needed; distinct = is.distinct }
 
 module _ {f g : Rows} (s : SameRows f g) where
   same_told : g.used.now ≡ f.used.now → Extends (said_in f) (said_in g)

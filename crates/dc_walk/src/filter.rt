@@ -16,7 +16,9 @@ pub(crate) struct KeyFilter {
 
 impl KeyFilter {
     /// The filter of no keys.
-    pub(crate) fn new() -> KeyFilter {
+    pub(crate) fn new() -> KeyFilter
+        ensures { (hash : ℕ) → MayHold result hash → ⊥ }
+    {
         KeyFilter {
             places: [false; FILTER_PLACES],
         }
