@@ -1,3 +1,5 @@
 -- What a caller knows of its pass, and what a call leaves in it.
+pub mod Calls
 pub mod Passes
 pub mod Answers
+pub mod Fillings

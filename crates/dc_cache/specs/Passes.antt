@@ -2,6 +2,9 @@
 use Rattle.std.specs.Prelude.{ℕ}
 use Rattle.dc_events.specs.Views.{View}
 use Rattle.dc_table.specs.Passes as seats
+use Rattle.dc_ops.specs.Asked as asked
+use Rattle.dc_plain.specs.declared.call.Call.{Call}
+use Rattle.dc_table.specs.Shares as shares
 use Rattle.dc_table.specs.Shares.{Known, Share}
 use Rattle.dc_walk.specs.Findings as walks
 use Rattle.dc_cache.specs.declared.cache.Dcache.{Dcache}
@@ -23,3 +26,11 @@ buckets_of p = walks.buckets_of p.seat
 -- the pass is one of the cache, which has a bucket, and has not the lock
 abbrev pub Fits : Dcache → Pass → Type 0
 Fits cache p = walks.CanWalk cache.shared p.seat
+
+-- a share that is the whole, as that of the first pass
+abbrev pub IsWhole : Share → Type 0
+IsWhole s = shares.IsWhole s
+
+-- a call that may alter the tree
+abbrev pub IsChange : Call → Type 0
+IsChange call = asked.IsChange call

@@ -1,9 +1,10 @@
 //! The cache, and what its callers hold.
 
-use arrayvec::ArrayVec;
 use dc_store::SlabStore;
 use dc_table::{Pass as Seat, Shared};
-use dc_walk::{MOST_USED, Used};
+use dc_walk::Room;
+use std::error::Error;
+use std::fmt;
 
 /// A cache of directory entries before an inode store in memory. Threads share it by `&`, each with a
 /// pass of its own.
@@ -17,16 +18,26 @@ pub struct Dcache {
 #[derive(Drop)]
 pub struct Pass {
     pub(crate) seat: Seat,
-    pub(crate) used: ArrayVec<Used, MOST_USED>,
+    pub(crate) room: Room,
 }
 
-/// What is left of a cache: the tree, and how many calls altered it.
+/// What is left of a cache that was closed.
 #[derive(Drop)]
 pub struct Ended {
+    /// The tree, which answers by the trait `Store`.
     pub store: SlabStore,
+    /// How many calls have altered it.
     pub clock: u64,
 }
 
 /// A point that hasn't come yet: so many calls have altered the tree so far.
 #[derive(Clone, Copy, Debug, PartialEq, Eq)]
 pub struct NotYet(pub u64);
+
+impl fmt::Display for NotYet {
+    fn fmt<W: fmt::Write>(&self, f: &mut fmt::Formatter<W>) -> fmt::Result {
+        write!(f, "the tree was altered {} times so far", self.0)
+    }
+}
+
+impl Error for NotYet {}

@@ -3,20 +3,22 @@
 ghost use Rattle.std.specs.Prelude.{◌≡◌, ◌≤◌, IfOk, IfErr};
 ghost use Rattle.dc_cache.specs.Answers.{Answered};
 ghost use Rattle.dc_cache.specs.Passes.{view, share, Fits};
+ghost use Rattle.dc_events.specs.Rows.{most};
 ghost use Rattle.dc_ops.specs.Asked.{IsChange};
 ghost use Rattle.dc_plain.specs.Requests.{request_of};
-ghost use Rattle.dc_table.specs.Changes.{Failed, NothingNew};
+ghost use Rattle.dc_rows.specs.Changes.{Failed};
+ghost use Rattle.dc_table.specs.Changes.{NothingNew};
 
 use crate::cache::{Dcache, Pass};
 use dc_plain::{Call, Stamped};
-use dc_table::ChangeFault;
+use dc_rows::{ChangeFault, change, shrink};
 use std::alloc::Global;
 use std::sync::Wait;
 
 impl Dcache {
     /// Makes a change. It waits for the lock. `Spent` where it would alter the tree for more than the
     /// 2^62nd time, `NoMemory` where memory was refused: then nothing has changed. A change that is
-    /// refused, an `Unlink` and a `Rmdir` take no memory.
+    /// refused, an `Unlink`, a `Rmdir` and an exchange take no memory.
     pub fn change<R: Wait>(
         &self,
         rt: &R,
@@ -28,9 +30,11 @@ impl Dcache {
         requires change { IsChange call.now }
         ensures same { Fits self.now pass.new × (share pass.new ≡ share pass.old) }
         ensures done { IfOk result (Answered pass.old pass.new (request_of call.now)) }
-        ensures fault { IfErr result (Failed (view pass.old) (view pass.new)) }
+        ensures fault { IfErr result (Failed (share pass.old).limit (view pass.old) (view pass.new)
+            (request_of call.now)) }
+        ensures within { (view pass.new).book.seen ≤ most }
     {
-        let (reply, at) = self.shared.change(rt, alloc, &mut pass.seat, call)?;
+        let (reply, at) = change(&self.shared, rt, alloc, &mut pass.seat, call)?;
         Ok(Stamped { reply, at })
     }
 
@@ -42,6 +46,6 @@ impl Dcache {
         ensures nothing { NothingNew (view pass.old) (view pass.new) }
         ensures few { result ≤ most }
     {
-        self.shared.shrink(rt, &mut pass.seat, most)
+        shrink(&self.shared, rt, &mut pass.seat, most)
     }
 }

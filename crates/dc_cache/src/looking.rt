@@ -6,21 +6,22 @@ ghost use Rattle.dc_cache.specs.Passes.{buckets_of, view, share, Fits};
 ghost use Rattle.dc_names.specs.Paths.{fault_of};
 ghost use Rattle.dc_plain.specs.Facts.{told_by};
 ghost use Rattle.dc_plain.specs.Requests.Request.{Look};
-ghost use Rattle.dc_walk.specs.Fasts.{Keeps, IfAgain, IsLongAgain, outcome_by};
+ghost use Rattle.dc_walk.specs.Fasts.{Keeps, IfAgain, IsLongAgain, Tried};
+ghost use Rattle.dc_walk.specs.Looks.{outcome_by};
 ghost use Rattle.dc_walk.specs.Long.{has_long_name};
-ghost use Rattle.dc_walk.specs.Pinned.{Tried};
 ghost use Rattle.dc_walk.specs.declared.TheConstants.{MOST_LOADS};
 
 use crate::cache::{Dcache, Pass};
 use dc_names::{PathText, TextFault, parse};
 use dc_plain::{Call, Follow, Reply, Stamped};
-use dc_walk::{Quick as Fast, counted, fast, locked};
+use dc_walk::{Fast, walk_counted, walk_fast, walk_locked};
 use std::alloc::Global;
 use std::sync::Wait;
 
 impl Dcache {
     /// Where a path leads, by the rows of the cache alone: it takes no lock and no memory, never waits,
     /// and makes at most `MOST_LOADS` loads. `Again` says why the rows don't answer.
+    #[must_use]
     pub fn look_fast(&self, pass: &mut Pass, base: u64, path: PathText<'_>, follow: Follow) -> Fast
         requires pass { Fits self.now pass.old }
         ensures same { Fits self.now pass.new × (share pass.new ≡ share pass.old) }
@@ -30,13 +31,14 @@ impl Dcache {
         ensures long { has_long_name path.entry.bytes.now ≡ true → IsLongAgain result }
         ensures loads { (view pass.new).loads ≤ (view pass.old).loads + MOST_LOADS }
     {
-        let Pass { seat, used } = pass;
-        fast(&self.shared, seat, used, base, path, follow)
+        let look = dc_walk::Look { base, path, follow };
+        walk_fast(self.shared.reader(), &mut pass.seat, &mut pass.room, look)
     }
 
     /// Where a path leads, by rows that are filled from the tree where none has the key. It waits for
     /// the lock, once for each question. `Again` says why no row could be had or didn't stay, `Memory`
     /// where memory for one was refused.
+    #[must_use]
     pub fn look_counted<R: Wait>(
         &self,
         rt: &R,
@@ -51,8 +53,15 @@ impl Dcache {
         ensures tried { Tried (Look base path.entry.bytes.now follow) (view pass.old)
             (view pass.new) result }
     {
-        let Pass { seat, used } = pass;
-        counted(&self.shared, rt, alloc, seat, used, base, path, follow)
+        let look = dc_walk::Look { base, path, follow };
+        walk_counted(
+            &self.shared,
+            rt,
+            alloc,
+            &mut pass.seat,
+            &mut pass.room,
+            look,
+        )
     }
 
     /// Where a path leads, always answered. It goes by the rows alone, else by rows that it fills, else
@@ -82,11 +91,11 @@ impl Dcache {
             return stamped;
         }
         let call = Call::Look { base, path, follow };
-        locked(&self.shared, rt, &mut pass.seat, &call)
+        walk_locked(&self.shared, rt, &mut pass.seat, &call)
     }
 
     /// Answers a look-up whose text is refused, which asks no question.
-    fn refuse(
+    pub(crate) fn refuse(
         &self,
         pass: &mut Pass,
         base: u64,
@@ -101,6 +110,7 @@ impl Dcache {
     {
         let at = self
             .shared
+            .reader()
             .pivot(&mut pass.seat, &Call::Look { base, path, follow }, true);
         Stamped {
             reply: Reply::Refused(fault.number()),

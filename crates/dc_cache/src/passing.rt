@@ -1,6 +1,7 @@
 //! How a cache begins and ends, how passes are cut and put together, and what one learns of another.
 
 ghost use Rattle.std.specs.Prelude.{◌≡◌, ◌*◌, ◌≤◌, ◌↔◌, false, Err, IsOk, IfOk, IfErr, IfSome, IsSome};
+ghost use Rattle.dc_cache.specs.Answers.{Loaded};
 ghost use Rattle.dc_cache.specs.Passes.{known, view, share, Fits};
 ghost use Rattle.dc_events.specs.Sizes.{are_right};
 ghost use Rattle.dc_events.specs.declared.sizes.MakeFault.TheVariants.{BadSize};
@@ -9,8 +10,8 @@ ghost use Rattle.dc_table.specs.Ends.{Ends};
 ghost use Rattle.dc_table.specs.Shares.{IsWhole, first_known, kept_half, new_half, both};
 
 use crate::cache::{Dcache, Ended, NotYet, Pass};
-use arrayvec::ArrayVec;
 use dc_table::{MakeFault, Shared};
+use dc_walk::Room;
 use std::alloc::Global;
 
 impl Dcache {
@@ -23,11 +24,12 @@ impl Dcache {
         ensures size { (result ≡ Err BadSize) ↔ (are_right buckets max_inodes ≡ false) }
     {
         let (shared, seat) = Shared::new(alloc, buckets, max_inodes)?;
-        let used = ArrayVec::new();
-        Ok((Dcache { shared }, Pass { seat, used }))
+        let room = Room::new();
+        Ok((Dcache { shared }, Pass { seat, room }))
     }
 
     /// A pass for another thread, which has seen what this one has. It gets half of the share.
+    #[must_use]
     pub fn split(&self, pass: &mut Pass) -> Pass
         requires pass { Fits self.now pass.old }
         ensures kept { Fits self.now pass.new × (known pass.new ≡ kept_half (known pass.old)) }
@@ -35,7 +37,7 @@ impl Dcache {
     {
         Pass {
             seat: self.shared.split(&mut pass.seat),
-            used: ArrayVec::new(),
+            room: Room::new(),
         }
     }
 
@@ -46,7 +48,7 @@ impl Dcache {
         ensures pass { Fits self.now pass.new }
         ensures both { known pass.new ≡ both (known pass.old) (known other) }
     {
-        let Pass { seat, used: _ } = other;
+        let Pass { seat, room: _ } = other;
         self.shared.join(&mut pass.seat, seat);
     }
 
@@ -56,6 +58,7 @@ impl Dcache {
         requires pass { Fits self.now pass.old }
         ensures same { Fits self.now pass.new × (share pass.new ≡ share pass.old) }
         ensures nothing { NothingNew (view pass.old) (view pass.new) }
+        ensures loaded { Loaded (view pass.old) (view pass.new) }
         ensures come { IsOk result ↔ (at ≤ (view pass.new).book.seen) }
         ensures not_yet { IfErr result (λ e. e.0 ≡ (view pass.new).book.seen) }
     {
@@ -69,6 +72,7 @@ impl Dcache {
     /// Ends the cache: the tree, and how many calls altered it, are those of a history in which the
     /// records of the pass stand. `None` where another pass has the lock and so the tree, which is then
     /// lost; never where this one has the whole share.
+    #[must_use]
     pub fn close(self, pass: Pass) -> Option<Ended>
         requires pass { Fits self pass }
         ensures tree { IfSome result (λ ended.
@@ -76,7 +80,7 @@ impl Dcache {
         ensures whole { IsWhole (share pass) → IsSome result }
     {
         let Dcache { shared } = self;
-        let Pass { seat, used: _ } = pass;
+        let Pass { seat, room: _ } = pass;
         let value = shared.close(seat)?;
         Some(Ended {
             store: value.store,

@@ -1,18 +1,18 @@
 //! Reads under the lock.
 
-ghost use Rattle.std.specs.Prelude.{◌≡◌, IfOk, OnErr};
-ghost use Rattle.dc_cache.specs.Answers.{Answered};
+ghost use Rattle.std.specs.Prelude.{◌≡◌};
+ghost use Rattle.dc_cache.specs.Answers.{Answered, Told};
 ghost use Rattle.dc_cache.specs.Passes.{view, share, Fits};
 ghost use Rattle.dc_ops.specs.Asked.{IsToldAtLength};
 ghost use Rattle.dc_plain.specs.Requests.{request_of};
 ghost use Rattle.dc_plain.specs.Requests.Request.{Stat, Readlink, List_names};
-ghost use Rattle.dc_table.specs.Changes.{NothingNew};
 
 use crate::cache::{Dcache, Pass};
+use crate::held::ask_held;
 use dc_names::NoMemory;
-use dc_ops::ask;
 use dc_plain::{Call, Stamped};
-use dc_walk::locked;
+use dc_rows::Guard;
+use dc_walk::walk_locked;
 use std::alloc::Global;
 use std::sync::Wait;
 
@@ -24,11 +24,11 @@ impl Dcache {
         ensures same { Fits self.now pass.new × (share pass.new ≡ share pass.old) }
         ensures answered { Answered pass.old pass.new (Stat base path.now) result }
     {
-        locked(&self.shared, rt, &mut pass.seat, &Call::Stat { base, path })
+        walk_locked(&self.shared, rt, &mut pass.seat, &Call::Stat { base, path })
     }
 
     /// The text of the symbolic link that a path leads to; a last link isn't followed. It waits for the
-    /// lock. `NoMemory` where memory for the text was refused.
+    /// lock. `NoMemory` if memory for the text was refused; a refusal takes none.
     pub fn readlink<R: Wait>(
         &self,
         rt: &R,
@@ -39,14 +39,13 @@ impl Dcache {
     ) -> Result<Stamped, NoMemory>
         requires pass { Fits self.now pass.old }
         ensures same { Fits self.now pass.new × (share pass.new ≡ share pass.old) }
-        ensures read { IfOk result (Answered pass.old pass.new (Readlink base path.now)) }
-        ensures nothing { OnErr result (NothingNew (view pass.old) (view pass.new)) }
+        ensures told { Told pass.old pass.new (Readlink base path.now) result }
     {
         self.tell(rt, alloc, pass, &Call::Readlink { base, path })
     }
 
     /// The names in the directory that a path leads to, by their bytes. It waits for the lock.
-    /// `NoMemory` where memory for the names was refused.
+    /// `NoMemory` if memory for the names was refused; a refusal takes none.
     pub fn list<R: Wait>(
         &self,
         rt: &R,
@@ -57,8 +56,7 @@ impl Dcache {
     ) -> Result<Stamped, NoMemory>
         requires pass { Fits self.now pass.old }
         ensures same { Fits self.now pass.new × (share pass.new ≡ share pass.old) }
-        ensures listed { IfOk result (Answered pass.old pass.new (List_names base path.now)) }
-        ensures nothing { OnErr result (NothingNew (view pass.old) (view pass.new)) }
+        ensures told { Told pass.old pass.new (List_names base path.now) result }
     {
         self.tell(rt, alloc, pass, &Call::List { base, path })
     }
@@ -74,20 +72,12 @@ impl Dcache {
         requires pass { Fits self.now pass.old }
         requires call { IsToldAtLength call.now }
         ensures same { Fits self.now pass.new × (share pass.new ≡ share pass.old) }
-        ensures told { IfOk result (Answered pass.old pass.new (request_of call.now)) }
-        ensures nothing { OnErr result (NothingNew (view pass.old) (view pass.new)) }
+        ensures told { Told pass.old pass.new (request_of call.now) result }
     {
-        let kept = self.shared.take(rt, &mut pass.seat);
-        let at = kept.clock;
-        match ask(alloc, &kept.store, call) {
-            Ok(reply) => {
-                self.shared.answer(&mut pass.seat, kept, call);
-                Ok(Stamped { reply, at })
-            }
-            Err(NoMemory) => {
-                self.shared.give(&mut pass.seat, kept);
-                Err(NoMemory)
-            }
-        }
+        let guard = Guard::lock(&self.shared, rt, &mut pass.seat);
+        let (back, told) = ask_held(guard, alloc, call);
+        // For the proof: the seat is back as it is bound.
+        let _seat = back;
+        told
     }
 }

@@ -1,3 +1,8 @@
+//! One thread and two, with values that come from the rules of POSIX.
+
+mod races;
+mod trying;
+
 ghost use Rattle.std.specs.Thread.{IsSync};
 ghost use Rattle.dc_cache.specs.Passes.{Fits};
 ghost use Rattle.dc_ops.specs.Asked.{IsChange};

@@ -8,3 +8,7 @@ pub mod Exact
 pub mod Steps
 pub mod Floors
 pub mod Sorted
+pub mod Ends
+pub mod Items
+pub mod InOrder
+pub mod Pairing

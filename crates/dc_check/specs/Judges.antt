@@ -1,12 +1,16 @@
 -- What the judge of the program stands for.
-use Rattle.std.specs.Prelude.{List, map, option_map}
+use Rattle.std.specs.Prelude.{ℕ, ◌+◌, List, Bool, map, option_map, nat_lt, ◌&&◌, if◌then◌else◌}
+use Rattle.std.specs.List.{list_any}
+use Rattle.dc_lang.specs.Spans.{Span}
 use Rattle.dc_plain.specs.Legal.{Stamp}
 use Rattle.dc_check.specs.declared.fault.Fault as rust_fault
 use Rattle.dc_check.specs.declared.fault.Fault.TheVariants as faults
 use Rattle.dc_check.specs.declared.judge.Judge as rust_judge
 use Rattle.dc_check.specs.declared.stamp.Numbered as rust_numbered
 use Rattle.dc_check.specs.Stamps.{stamp_of}
+use Rattle.dc_check.specs.declared.stamp.Mark as rust_mark
 use Rattle.dc_check.specs.Judging.{Judge}
+use Rattle.dc_check.specs.Phases.{Phased}
 
 -- a stamp without its line
 abbrev pub numbered_of : rust_numbered.Numbered → Stamp
@@ -24,3 +28,24 @@ Blames (faults.Reply line) = Unit {0}
 Blames (faults.Order line) = Unit {0}
 Blames (faults.Gap point) = Unit {0}
 Blames faults.NoMemory = ⊥
+
+-- a stamp with its phase
+abbrev pub phased_of : rust_numbered.Numbered → Phased
+phased_of numbered = record { phase = numbered.phase; stamp = numbered_of numbered }
+
+abbrev pub all_phased : List rust_numbered.Numbered → List Phased
+all_phased numbered = map phased_of numbered
+
+-- the least point of a call that comes after a marked one
+abbrev pub end_of : rust_mark.Mark → ℕ
+end_of mark = if mark.altered then mark.at + 1 else mark.at
+
+abbrev pub span_of : rust_mark.Mark → Span
+span_of mark = record { phase = mark.phase; at = mark.at; end = end_of mark }
+
+abbrev pub all_spans : List rust_mark.Mark → List Span
+all_spans marks = map span_of marks
+
+-- some call of an earlier phase ends above its point
+abbrev pub is_behind : List rust_mark.Mark → rust_mark.Mark → Bool
+is_behind marks mark = list_any (λ other. nat_lt other.phase mark.phase && nat_lt mark.at (end_of other)) marks

@@ -1,8 +1,10 @@
 -- How stamps by their points are judged one after the other.
 use Rattle.std.specs.Prelude.{◌≡◌, ◌≢◌, ℕ, ◌+◌, ◌≤◌, List, [], ◌∷◌, Bool, true, false, ◌==◌, Option, Some, None, filter, if◌then◌else◌}
 use Rattle.dc_plain.specs.Trees.{Tree, empty_tree}
-use Rattle.dc_plain.specs.Runs.{reply_of, tree_after, alters}
+use Rattle.dc_lang.specs.Spans.{Span}
+use Rattle.dc_plain.specs.Runs.{reply_of, tree_after, alters, clock_after}
 use Rattle.dc_plain.specs.Legal.{Stamp, of_actor}
+use Rattle.dc_check.specs.Phases.{Phased}
 
 -- the points don't fall, and the first isn't below this one
 abbrev pub Rises : ℕ → List Stamp → Type 0
@@ -39,10 +41,14 @@ abbrev pub IsAnothers : Option Stamp → Stamp → Type 0
 IsAnothers None stamp = Unit {0}
 IsAnothers (Some change) stamp = change.actor ≢ stamp.actor
 
--- the first that alters the tree, or one that is answered rightly and follows no change of its actor
+-- one that is answered rightly and follows no change of its actor
+abbrev pub IsPassed : Judge → Stamp → Type 0
+IsPassed judge stamp = IsAnswered judge stamp × IsAnothers judge.change stamp
+
+-- the first that alters the tree, or one that doesn't and passes
 abbrev pub IsGoodIf : Bool → Judge → Stamp → Type 0
 IsGoodIf true judge stamp = judge.change ≡ None
-IsGoodIf false judge stamp = IsAnswered judge stamp × IsAnothers judge.change stamp
+IsGoodIf false judge stamp = IsPassed judge stamp
 
 abbrev pub IsGood : Judge → Stamp → Type 0
 IsGood judge stamp = IsGoodIf (is_change judge stamp) judge stamp
@@ -92,7 +98,24 @@ Takes judge stamp = Reaches judge stamp.at × IsGood (reached judge stamp.at) st
 abbrev pub taken : Judge → Stamp → Judge
 taken judge stamp = with_met (reached judge stamp.at) stamp
 
+-- its call alters the tree at its point
+abbrev pub alters_at : Judge → Stamp → Bool
+alters_at judge stamp = is_change (reached judge stamp.at) stamp
+
 -- all of the stamps are good, and the last change is answered rightly
 abbrev pub Passes : List Stamp → Judge → Type 0
 Passes [] judge = IsSettled judge
 Passes (stamp ∷ stamps) judge = Takes judge stamp × Passes stamps (taken judge stamp)
+
+-- where a stamp takes effect that the judge takes
+abbrev pub span_in : Judge → Phased → Span
+span_in judge phased = record {
+  phase = phased.phase;
+  at = phased.stamp.at;
+  end = clock_after judge.limit judge.tree phased.stamp.request phased.stamp.at;
+}
+
+-- where all of them do, one after the other
+abbrev pub spans_in : Judge → List Phased → List Span
+spans_in judge [] = []
+spans_in judge (phased ∷ rest) = span_in (reached judge phased.stamp.at) phased ∷ spans_in (taken judge phased.stamp) rest

@@ -3,3 +3,5 @@ pub mod Stamps
 pub mod Judging
 pub mod Judges
 pub mod Phases
+pub mod Verdicts
+pub mod Records

@@ -1,8 +1,10 @@
+//! Why the judge takes no stamp.
+
 ghost use Rattle.std.specs.Prelude.{◌≡◌};
 ghost use Rattle.dc_check.specs.declared.fault.Fault.TheVariants.{NoMemory as NoRoom};
 
 use dc_names::NoMemory;
-use std::alloc::AllocError;
+use std::alloc::{AllocError, AllocFailed};
 
 /// Why a stamp isn't taken.
 #[derive(Clone, Copy)]
@@ -28,6 +30,14 @@ impl From<AllocError> for Fault {
     ghost from_gives = { λ _ fault. fault ≡ NoRoom };
 
     fn from(_fault: AllocError) -> Fault {
+        Fault::NoMemory
+    }
+}
+
+impl<T: Drop> From<AllocFailed<T>> for Fault {
+    ghost from_gives = { λ _ fault. fault ≡ NoRoom };
+
+    fn from(_fault: AllocFailed<T>) -> Fault {
         Fault::NoMemory
     }
 }

@@ -1,9 +1,11 @@
+//! The judge: it takes stamps by their points, one after the other.
+
 ghost use Rattle.std.specs.Prelude.{◌≡◌, ◌≤◌, ◌↔◌, false, IsTrue, IfOk, OnOk, IfErr};
 ghost use Rattle.dc_plain.specs.Requests.{answer_of};
-ghost use Rattle.dc_plain.specs.declared.TheConstants.{MOST_INODES};
+ghost use Rattle.dc_names.specs.declared.limits.TheConstants.{MOST_INODES};
 ghost use Rattle.dc_check.specs.Stamps.{stamp_of};
 ghost use Rattle.dc_check.specs.Judges.{judge_of, numbered_of, Blames};
-ghost use Rattle.dc_check.specs.Judging.{opening, is_change, IsAnswered, IsAnothers, IsGood, with_met, IsSettled, settled, Reaches, reached, Takes, taken};
+ghost use Rattle.dc_check.specs.Judging.{opening, is_change, IsGood, IsPassed, with_met, IsSettled, settled, Reaches, reached, Takes, taken, alters_at};
 
 use crate::fault::Fault;
 use crate::stamp::{Numbered, Stamp};
@@ -94,18 +96,15 @@ impl<'a> Judge<'a> {
     }
 
     /// Judges a stamp that doesn't alter the tree.
-    fn pass(&mut self, alloc: Global, numbered: Numbered) -> Result<(), Fault>
+    fn judge_read(&mut self, alloc: Global, numbered: Numbered) -> Result<(), Fault>
         requires { is_change (judge_of self.old) (numbered_of numbered) ≡ false }
-        ensures answered { OnOk result (IsAnswered (judge_of self.old) (numbered_of numbered.entry)) }
-        ensures anothers { OnOk result
-            (IsAnothers (judge_of self.old).change (numbered_of numbered.entry)) }
+        ensures ok { OnOk result (IsPassed (judge_of self.old) (numbered_of numbered.entry)) }
         ensures same { OnOk result (judge_of self.new ≡ judge_of self.old) }
         ensures err { IfErr result (λ fault. Blames fault
-            → IsAnswered (judge_of self.old) (numbered_of numbered.entry)
-            → IsAnothers (judge_of self.old).change (numbered_of numbered.entry) → ⊥) }
+            → IsPassed (judge_of self.old) (numbered_of numbered.entry) → ⊥) }
     {
         same_tree_tells_whether_trees_are_one();
-        let Numbered { line, stamp } = numbered;
+        let Numbered { line, stamp, .. } = numbered;
         let reply = self.tree.apply(alloc, &stamp.call.as_call())?;
         if !is_same(&reply, &stamp.reply) {
             return Err(self.first_fault(alloc, Fault::Reply(line)));
@@ -118,30 +117,35 @@ impl<'a> Judge<'a> {
         }
     }
 
-    /// Judges a stamp at the point that was reached.
-    fn meet(&mut self, alloc: Global, numbered: Numbered<'a>) -> Result<(), Fault>
+    /// Judges a stamp at the point that was reached. Answers whether its call alters the tree.
+    fn meet(&mut self, alloc: Global, numbered: Numbered<'a>) -> Result<bool, Fault>
         ensures ok { OnOk result (IsGood (judge_of self.old) (numbered_of numbered.entry)) }
         ensures new { OnOk result (judge_of self.new
             ≡ with_met (judge_of self.old) (numbered_of numbered.entry)) }
+        ensures altered { IfOk result (λ altered.
+            altered ≡ is_change (judge_of self.old) (numbered_of numbered.entry)) }
         ensures err { IfErr result (λ fault. Blames fault
             → IsGood (judge_of self.old) (numbered_of numbered.entry) → ⊥) }
     {
         if !self.is_change(alloc, numbered.stamp)? {
-            return self.pass(alloc, numbered);
+            self.judge_read(alloc, numbered)?;
+            return Ok(false);
         }
         if self.change.is_some() {
             return Err(self.first_fault(alloc, Fault::Order(numbered.line)));
         }
         // Its reply is judged as the change is made, since others at this point need the tree as it is.
         self.change = Some(numbered);
-        Ok(())
+        Ok(true)
     }
 
-    /// Judges the next stamp by its point.
-    pub fn take(&mut self, alloc: Global, numbered: Numbered<'a>) -> Result<(), Fault>
+    /// Judges the next stamp by its point. Answers whether its call alters the tree.
+    pub fn take(&mut self, alloc: Global, numbered: Numbered<'a>) -> Result<bool, Fault>
         ensures ok { OnOk result (Takes (judge_of self.old) (numbered_of numbered.entry)) }
         ensures new { OnOk result (judge_of self.new
             ≡ taken (judge_of self.old) (numbered_of numbered.entry)) }
+        ensures altered { IfOk result (λ altered.
+            altered ≡ alters_at (judge_of self.old) (numbered_of numbered.entry)) }
         ensures err { IfErr result (λ fault. Blames fault
             → Takes (judge_of self.old) (numbered_of numbered.entry) → ⊥) }
     {

@@ -9,10 +9,9 @@ mod phases;
 mod record;
 mod stamp;
 
-pub use checking::check;
-pub use phases::{Phased, check_phases};
-pub use record::{RecordFault, Served, commands_of, count_lines, record_of};
-pub use stamp::{Stamp, Verdict};
+pub use checking::{check, check_phases};
+pub use record::{RecordFault, record_of};
+pub use stamp::{PhasedVerdict, Stamp, Verdict};
 
 #[cfg(test)]
 mod tests;

@@ -1,6 +1,9 @@
-ghost use Rattle.std.specs.Prelude.{◌≡◌, ◌↔◌, None, IfOk, map};
+//! The stamps by their points.
+
+ghost use Rattle.std.specs.Prelude.{◌≡◌, ◌↔◌, None, IfOk, slice_index};
 ghost use Rattle.dc_check.specs.Stamps.{stamps_of};
-ghost use Rattle.dc_check.specs.Judges.{all_numbered};
+ghost use Rattle.dc_check.specs.Judges.{all_numbered, all_phased};
+ghost use Rattle.dc_check.specs.Phases.{SameItems, with_phases};
 ghost use Rattle.dc_check.specs.Judging.{RisesByActor, IsByPoint};
 
 use crate::stamp::{Numbered, Stamp};
@@ -23,24 +26,48 @@ pub fn first_falling(alloc: Global, stamps: &[Stamp]) -> Result<Option<u64>, NoM
     Ok(None)
 }
 
-/// The stamps with their lines.
-fn numbered(alloc: Global, stamps: &[Stamp]) -> Result<Vec<Numbered<'_>>, AllocError>
-    ensures { IfOk result (λ numbered. all_numbered numbered.items ≡ stamps_of stamps.now) }
+/// The number at a place, 0 where there is none.
+fn phase_at(phases: &[u64], i: usize) -> u64
+    ensures { result ≡ slice_index phases.now i }
+{
+    match phases.get(i) {
+        Some(phase) => *phase,
+        None => 0,
+    }
+}
+
+/// The stamps with their lines and their phases.
+fn numbered<'a>(
+    alloc: Global,
+    stamps: &'a [Stamp],
+    phases: &[u64],
+) -> Result<Vec<Numbered<'a>>, AllocError>
+    ensures { IfOk result (λ numbered.
+        all_phased numbered.items ≡ with_phases phases.now (stamps_of stamps.now)) }
 {
     let mut numbered = Vec::new(alloc);
     for (i, stamp) in stamps.iter().enumerate() {
-        let line = i as u64 + 1;
-        numbered.push(Numbered { line, stamp })?;
+        numbered.push(Numbered {
+            line: i as u64 + 1,
+            phase: phase_at(phases, i),
+            stamp,
+        })?;
     }
     Ok(numbered)
 }
 
 /// The stamps by their points, those of one point in the order of their lines.
-pub fn by_point(alloc: Global, stamps: &[Stamp]) -> Result<Vec<Numbered<'_>>, NoMemory>
-    ensures { IfOk result (λ sorted.
+pub fn by_point<'a>(
+    alloc: Global,
+    stamps: &'a [Stamp],
+    phases: &[u64],
+) -> Result<Vec<Numbered<'a>>, NoMemory>
+    ensures stamps { IfOk result (λ sorted.
         IsByPoint (stamps_of stamps.now) (all_numbered sorted.items)) }
+    ensures phased { IfOk result (λ sorted.
+        SameItems (with_phases phases.now (stamps_of stamps.now)) (all_phased sorted.items)) }
 {
-    let mut sorted = numbered(alloc, stamps)?;
+    let mut sorted = numbered(alloc, stamps, phases)?;
     sorted.sort_by_key(|numbered| numbered.stamp.at)?;
     Ok(sorted)
 }

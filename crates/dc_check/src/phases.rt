@@ -1,38 +1,38 @@
-ghost use Rattle.std.specs.Prelude.{◌≡◌, ◌+◌, option_map, position};
-ghost use Rattle.dc_check.specs.Phases.{is_behind};
+//! Calls that took effect before one of an earlier phase.
 
-/// The phase of a reply and its point.
-#[derive(Clone, Copy, Debug, PartialEq, Eq)]
-pub struct Phased {
-    /// Phases are numbered in their order.
-    pub phase: u64,
-    /// How many changes came before the reply.
-    pub at: u64,
+ghost use Rattle.std.specs.Prelude.{◌≡◌, ◌↔◌, None, nat_lt};
+ghost use Rattle.dc_lang.specs.Spans.{InPhases};
+ghost use Rattle.dc_check.specs.Judges.{all_spans, end_of, is_behind};
+
+use crate::stamp::Mark;
+
+/// Whether a call ends above a point. One that altered the tree ends one above its own.
+fn ends_above(mark: &Mark, at: u64) -> bool
+    ensures { result ≡ nat_lt at (end_of mark.now) }
+{
+    at < mark.at || (mark.altered && at == mark.at)
 }
 
-/// Whether some reply of an earlier phase has a higher point.
-fn is_behind(replies: &[Phased], reply: &Phased) -> bool
-    ensures { result ≡ is_behind replies.now reply.now }
+/// Whether some call of an earlier phase ends above the point of this one.
+fn is_behind(marks: &[Mark], mark: &Mark) -> bool
+    ensures { result ≡ is_behind marks.now mark.now }
 {
-    replies
-        .iter()
-        .any(|other| other.phase < reply.phase && reply.at < other.at)
+    marks.iter().any(|other| other.phase < mark.phase && ends_above(other, mark.at))
 }
 
-/// The place of the first reply that is behind.
-fn first_behind(replies: &[Phased]) -> Option<usize>
-    ensures { result ≡ position (is_behind replies.now) replies.now }
+/// The first line whose call took effect before one of an earlier phase. It compares all calls with all
+/// others.
+pub fn first_behind(marks: &[Mark]) -> Option<u64>
+    ensures { (result ≡ None) ↔ InPhases (all_spans marks.now) }
 {
-    replies.iter().position(|reply| is_behind(replies, reply))
-}
-
-/// The line of the first reply whose point is below that of a reply of an earlier phase. Lines are
-/// counted from 1. It compares all replies with all others.
-pub fn check_phases(replies: &[Phased]) -> Option<u64>
-    ensures { result ≡ option_map (λ i. i + 1) (position (is_behind replies.now) replies.now) }
-{
-    match first_behind(replies) {
-        Some(i) => Some(i as u64 + 1),
-        None => None,
+    let mut first: Option<u64> = None;
+    for mark in marks {
+        if is_behind(marks, mark) {
+            first = Some(match first {
+                Some(line) => line.min(mark.line),
+                None => mark.line,
+            });
+        }
     }
+    first
 }

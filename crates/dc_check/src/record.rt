@@ -1,8 +1,22 @@
+//! A server's input and output as stamps.
+
+ghost use Rattle.std.specs.Prelude.{◌≡◌, IfOk, IfErr, map};
+ghost use Rattle.dc_lang.specs.Commands.{order_of};
+ghost use Rattle.dc_lang.specs.Inputs.{AllTell};
+ghost use Rattle.dc_lang.specs.Lines.{whole_lines};
+ghost use Rattle.dc_lang.specs.Responses.{response_of};
+ghost use Rattle.dc_check.specs.Records.{AreSessions, AreStamped, IsOutputFault, IsPairFault, IsRecord, IsRecordFault, from_input, served_orders, stamp_from};
+ghost use Rattle.dc_check.specs.Stamps.{stamp_of, stamps_of};
+ghost use Rattle.dc_check.specs.declared.record.RecordFault.TheVariants.{NoMemory as NoMemoryFault};
+
 use crate::Stamp;
-use dc_lang::{Command, Line, LineFault, Verb, call, read_line, read_reply};
+use dc_lang::{
+    Command, InputFault, Served, base_after, call, read_lines, read_replies, serving_order,
+};
 use dc_names::NoMemory;
-use dc_plain::{OwnCall, Reply, Stamped};
+use dc_plain::{OwnCall, Stamped};
 use std::alloc::{AllocError, AllocFailed, Global};
+use std::collections::VecDeque;
 use std::error::Error;
 use std::fmt;
 
@@ -32,132 +46,119 @@ impl fmt::Display for RecordFault {
 impl Error for RecordFault {}
 
 impl From<NoMemory> for RecordFault {
+    ghost from_gives = { λ _ fault. fault ≡ NoMemoryFault };
+
     fn from(_fault: NoMemory) -> RecordFault {
         RecordFault::NoMemory
     }
 }
 
 impl From<AllocError> for RecordFault {
+    ghost from_gives = { λ _ fault. fault ≡ NoMemoryFault };
+
     fn from(_fault: AllocError) -> RecordFault {
         RecordFault::NoMemory
     }
 }
 
 impl<T: Drop> From<AllocFailed<T>> for RecordFault {
+    ghost from_gives = { λ _ fault. fault ≡ NoMemoryFault };
+
     fn from(_fault: AllocFailed<T>) -> RecordFault {
         RecordFault::NoMemory
     }
 }
 
-/// A command as it is served: its phase, counted from 0, and what it is.
-#[derive(Debug, Drop, PartialEq, Eq)]
-pub struct Served {
-    pub phase: u64,
-    pub command: Command,
-}
+impl From<InputFault> for RecordFault {
+    ghost from_gives = { λ error fault. fault ≡ from_input error };
 
-/// The fault of a line.
-fn at_line(line: u64, fault: LineFault) -> RecordFault {
-    match fault {
-        LineFault::Bad => RecordFault::BadLine(line),
-        LineFault::NoMemory => RecordFault::NoMemory,
-    }
-}
-
-/// The lines of an input. The last may lack its newline.
-fn input_lines(alloc: Global, input: &[u8]) -> Result<Vec<&[u8]>, RecordFault> {
-    let mut lines: Vec<&[u8]> = input.split(|byte| *byte == b'\n').collect(alloc)?;
-    // Behind the last newline there is no line, unless it has bytes.
-    if lines.last().is_some_and(|line| line.is_empty()) {
-        let _ = lines.pop();
-    }
-    Ok(lines)
-}
-
-/// How many lines an input has.
-pub fn count_lines(alloc: Global, input: &[u8]) -> Result<u64, NoMemory> {
-    match input_lines(alloc, input) {
-        Ok(lines) => Ok(lines.len() as u64),
-        Err(_) => Err(NoMemory),
-    }
-}
-
-/// The commands of an input in the order of their replies: by phase, session and line.
-pub fn commands_of(alloc: Global, input: &[u8]) -> Result<Vec<Served>, RecordFault> {
-    let lines = input_lines(alloc, input)?;
-    let mut served = Vec::new(alloc);
-    let mut phase = 0u64;
-    for (i, line) in lines.iter().enumerate() {
-        let number = i as u64 + 1;
-        match read_line(alloc, line) {
-            Ok(Line::Sync) => phase = phase.saturating_add(1),
-            Ok(Line::Command(command)) => served.push(Served { phase, command })?,
-            Err(fault) => return Err(at_line(number, fault)),
+    fn from(error: InputFault) -> RecordFault {
+        match error {
+            InputFault::BadLine(line) => RecordFault::BadLine(line),
+            InputFault::NoMemory => RecordFault::NoMemory,
         }
     }
-    served.sort_by_key(|one| (one.phase, one.command.session))?;
-    Ok(served)
 }
 
-/// The replies of an output, whose first line has this number.
-fn replies(alloc: Global, first: u64, output: &[u8]) -> Result<Vec<(u64, Stamped)>, RecordFault> {
-    let mut replies = Vec::new(alloc);
-    for (i, line) in output.split_inclusive(|byte| *byte == b'\n').enumerate() {
-        let number = first.saturating_add(i as u64);
-        let reply = read_reply(alloc, line).map_err(|fault| at_line(number, fault))?;
-        replies.push(reply)?;
+/// The replies of an output, whose lines are counted on behind so many.
+fn read_output(
+    alloc: Global,
+    before: u64,
+    output: &[u8],
+) -> Result<Vec<(u64, Stamped)>, RecordFault>
+    ensures ok { IfOk result (λ told. AllTell (whole_lines output.now) (map response_of told.items)) }
+    ensures err { IfErr result (IsOutputFault before (whole_lines output.now)) }
+{
+    match read_replies(alloc, output) {
+        Ok(replies) => Ok(replies),
+        // Both texts lie in memory, which has no room for 2^64 lines.
+        Err(InputFault::BadLine(line)) => match before.checked_add(line) {
+            Some(number) => Err(RecordFault::BadLine(number)),
+            None => Err(RecordFault::NoMemory),
+        },
+        Err(InputFault::NoMemory) => Err(RecordFault::NoMemory),
     }
-    Ok(replies)
 }
 
-/// Where each session starts.
-#[derive(Drop)]
-struct Bases {
-    numbers: [u64; 16],
+/// The stamp of a command whose session starts at `base`.
+fn stamp(alloc: Global, command: &Command, base: u64, stamped: Stamped) -> Result<Stamp, NoMemory>
+    ensures { IfOk result (λ stamp. stamp_of stamp
+        ≡ stamp_from base (order_of command.now) (response_of (command.now.session, stamped))) }
+{
+    let own = OwnCall::of(alloc, &call(command, base))?;
+    let Stamped { reply, at } = stamped;
+    Ok(Stamp {
+        session: command.session,
+        call: own,
+        reply,
+        at,
+    })
 }
 
-impl Bases {
-    /// The stamp of a command, after which its session starts where a `cd` led.
-    fn stamp(
-        &mut self,
-        alloc: Global,
-        command: &Command,
-        stamped: Stamped,
-    ) -> Result<Stamp, RecordFault> {
-        // A session that was read is below `SESSIONS`, so its number is there.
-        let Some(base) = self.numbers.get_mut(command.session as usize) else {
+/// The stamps of commands with their replies. Each session starts at the root, and then where its last
+/// `cd` led.
+fn stamps_in(
+    alloc: Global,
+    served: &[Served],
+    replies: Vec<(u64, Stamped)>,
+) -> Result<Vec<Stamp>, RecordFault>
+    requires { AreSessions (map response_of replies.items) }
+    ensures ok { IfOk result (λ stamps. AreStamped (served_orders served.now)
+        (map response_of replies.items) (stamps_of stamps.items)) }
+    ensures err { IfErr result (IsPairFault (served_orders served.now)
+        (map response_of replies.items)) }
+{
+    let mut bases = [1u64; 16];
+    let mut left = VecDeque::from_vec(replies);
+    let mut stamps = Vec::new(alloc);
+    for one in served {
+        let Some((session, stamped)) = left.pop_front() else {
             return Err(RecordFault::Unpaired);
         };
-        let own = OwnCall::of(alloc, &call(command, *base))?;
-        if let (Verb::Cd, Reply::Found(number, _)) = (command.verb, &stamped.reply) {
-            *base = *number;
+        if one.command.session != session {
+            return Err(RecordFault::Unpaired);
         }
-        let Stamped { reply, at } = stamped;
-        Ok(Stamp {
-            session: command.session,
-            call: own,
-            reply,
-            at,
-        })
+        let base = bases[session as usize];
+        bases[session as usize] = base_after(one.command, &stamped.reply, base);
+        stamps.push(stamp(alloc, one.command, base, stamped)?)?;
+    }
+    if left.is_empty() {
+        Ok(stamps)
+    } else {
+        Err(RecordFault::Unpaired)
     }
 }
 
 /// The stamps of a server's input and output: each command with its reply, in the order of the output.
 /// The input is read first. Each session starts at the root, and then where its last `cd` led.
-pub fn record_of(alloc: Global, input: &[u8], output: &[u8]) -> Result<Vec<Stamp>, RecordFault> {
-    let commands = commands_of(alloc, input)?;
-    let first = count_lines(alloc, input)?.saturating_add(1);
-    let replies = replies(alloc, first, output)?;
-    if commands.len() != replies.len() {
-        return Err(RecordFault::Unpaired);
-    }
-    let mut bases = Bases { numbers: [1; 16] };
-    let mut stamps = Vec::new(alloc);
-    for (served, (session, stamped)) in commands.iter().zip(replies) {
-        if served.command.session != session {
-            return Err(RecordFault::Unpaired);
-        }
-        stamps.push(bases.stamp(alloc, &served.command, stamped)?)?;
-    }
-    Ok(stamps)
+pub fn record_of(alloc: Global, input: &[u8], output: &[u8]) -> Result<Vec<Stamp>, RecordFault>
+    // Exactly the stamps of the commands with their replies.
+    ensures ok { IfOk result (λ stamps. IsRecord input.now output.now (stamps_of stamps.items)) }
+    // What each fault says of the texts: each comes only where none of the others is due.
+    ensures err { IfErr result (IsRecordFault input.now output.now) }
+{
+    let lines = read_lines(alloc, input)?;
+    let replies = read_output(alloc, lines.len() as u64, output)?;
+    let served = serving_order(alloc, &lines)?;
+    stamps_in(alloc, &served, replies)
 }

@@ -1,3 +1,5 @@
+//! What the checker is given, what it notes of it, and what it says.
+
 use dc_plain::{OwnCall, Reply};
 
 /// What a session called and was answered, and where in the run.
@@ -25,10 +27,61 @@ pub enum Verdict {
     BadOrder(u64),
 }
 
-/// A stamp with its line.
+/// What becomes of a list of stamps whose calls were made phase by phase. Lines are counted as those of
+/// a `Verdict`.
+#[derive(Clone, Copy, Debug, PartialEq, Eq)]
+pub enum PhasedVerdict {
+    /// One tree answers all of them, in an order that keeps each session's, and no call took effect
+    /// before one of an earlier phase.
+    Legal,
+    /// As `Verdict::BadReply`.
+    BadReply(u64),
+    /// As `Verdict::BadOrder`.
+    BadOrder(u64),
+    /// One tree answers all of them, but the call of this line took effect before one of an earlier
+    /// phase.
+    BadPhase(u64),
+}
+
+/// A stamp with its line and its phase.
 #[derive(Clone, Copy)]
 pub struct Numbered<'a> {
     /// Counted from 1.
     pub line: u64,
+    pub phase: u64,
     pub stamp: &'a Stamp,
+}
+
+/// Where the call of a line took effect.
+#[derive(Clone, Copy)]
+pub struct Mark {
+    pub line: u64,
+    pub phase: u64,
+    pub at: u64,
+    /// Whether it altered the tree: a call that comes after it then has a higher point.
+    pub altered: bool,
+}
+
+/// What the judge makes of stamps.
+#[derive(Drop)]
+pub enum Judged {
+    /// They are legal, and their calls took effect here.
+    Legal(Vec<Mark>),
+    /// They are not.
+    Other(Verdict),
+}
+
+impl PhasedVerdict {
+    ghost use Rattle.std.specs.Prelude.{◌≡◌, ◌↔◌};
+
+    /// The same of stamps with phases.
+    pub fn of(verdict: Verdict) -> PhasedVerdict
+        ensures { (result ≡ PhasedVerdict.Legal) ↔ (verdict ≡ Verdict.Legal) }
+    {
+        match verdict {
+            Verdict::Legal => PhasedVerdict::Legal,
+            Verdict::BadReply(line) => PhasedVerdict::BadReply(line),
+            Verdict::BadOrder(line) => PhasedVerdict::BadOrder(line),
+        }
+    }
 }

@@ -1,7 +1,7 @@
-use crate::{
-    Phased, RecordFault, Stamp, Verdict, check, check_phases, commands_of, count_lines, record_of,
-};
-use dc_lang::write_line;
+//! Records that are read and judged.
+
+use crate::{PhasedVerdict, RecordFault, Stamp, Verdict, check, check_phases, record_of};
+use dc_lang::{read_lines, serving_order};
 use dc_names::{Kind, NoMemory};
 use dc_plain::{Call, Follow, OwnCall, Reply};
 use std::alloc::Global;
@@ -206,45 +206,76 @@ fn names_the_first_fault(rt: HostRuntime) -> Result<(), Fail> {
     Ok(())
 }
 
-/// A reply of the second phase that took effect before one of the first is legal, as `check` knows no
-/// phases.
-#[test]
-fn tells_a_reply_of_an_earlier_phase(rt: HostRuntime) -> Result<(), Fail> {
-    let alloc = rt.alloc();
-    let input = "0 mkdir /a\nsync\n1 look /\n1 look /a\n2 look /";
-    let output = "0 ok 2 @0\n1 is 1 dir @0\n1 is 2 dir @1\n2 is 1 dir @1\n";
-    assert_eq!(rt; verdict(alloc, input, output)?, Verdict::Legal);
-    let phased = [(0, 4), (0, 5), (1, 5), (1, 4), (2, 6), (2, 3)];
-    let phased = phased.map(|(phase, at)| Phased { phase, at });
-    assert_eq!(rt; check_phases(&phased), Some(4));
-    assert_eq!(rt; check_phases(&phased[..3]), None);
-    assert_eq!(rt; check_phases(&phased[4..]), None);
-    Ok(())
+/// The verdict on an output for an input, with the phases of the input.
+fn phased_verdict(alloc: Global, input: &str, output: &str) -> Result<PhasedVerdict, Fail> {
+    let stamps = record_of(alloc, input.as_bytes(), output.as_bytes())?;
+    let lines = read_lines(alloc, input.as_bytes())?;
+    let served = serving_order(alloc, &lines)?;
+    let phases: Vec<u64> = served.iter().map(|one| one.phase).collect(alloc)?;
+    if phases.len() != stamps.len() {
+        return Err(Fail::from("another number of phases"));
+    }
+    Ok(check_phases(alloc, 16, &stamps, &phases)?)
 }
 
+/// Records that `check` finds legal, since it knows no phases.
+const PHASED: [(&str, &str, PhasedVerdict); 7] = [
+    // A stale absence behind a barrier: the change at its point came before it.
+    (
+        "0 mkdir /a\nsync\n1 look /a\n",
+        "0 ok 2 @0\n1 no 2 @0\n",
+        PhasedVerdict::BadPhase(2),
+    ),
+    // An empty phase in between is no leave.
+    (
+        "0 mkdir /a\nsync\nsync\n1 look /a\n",
+        "0 ok 2 @0\n1 no 2 @0\n",
+        PhasedVerdict::BadPhase(2),
+    ),
+    (
+        "0 mkdir /a\nsync\n1 look /a\n",
+        "0 ok 2 @0\n1 is 2 dir @1\n",
+        PhasedVerdict::Legal,
+    ),
+    // Within a phase the look may come first.
+    (
+        "0 mkdir /a\n1 look /a\n",
+        "0 ok 2 @0\n1 no 2 @0\n",
+        PhasedVerdict::Legal,
+    ),
+    // Two reads at one point, and a change of the later phase there.
+    (
+        "0 look /a\nsync\n1 look /a\n2 mkdir /a\n",
+        "0 no 2 @0\n1 no 2 @0\n2 ok 2 @0\n",
+        PhasedVerdict::Legal,
+    ),
+    // A read of the first phase above one of the second.
+    (
+        "0 mkdir /a\n1 look /a\nsync\n2 look /b\n2 look /a\n",
+        "0 ok 2 @0\n1 is 2 dir @1\n2 no 2 @0\n2 is 2 dir @1\n",
+        PhasedVerdict::BadPhase(3),
+    ),
+    // What isn't legal at all.
+    (
+        "0 mkdir /a\nsync\n1 look /a\n",
+        "0 ok 2 @0\n1 no 2 @1\n",
+        PhasedVerdict::BadReply(2),
+    ),
+];
+
 #[test]
-fn serves_by_phase_session_and_line(rt: HostRuntime) -> Result<(), Fail> {
+fn keeps_the_order_of_the_phases(rt: HostRuntime) -> Result<(), Fail> {
     let alloc = rt.alloc();
-    let order = [
-        (0u64, "0 look /a"),
-        (0, "0 create /b"),
-        (0, "0 look /a"),
-        (0, "1 mkdir /a"),
-        (1, "2 list /"),
-        (1, "2 unlink /b"),
-    ];
-    let served = commands_of(alloc, SHARED.as_bytes())?;
-    assert_eq!(rt; served.len(), order.len());
-    for (one, (phase, line)) in served.into_iter().zip(order) {
-        let text = write_line(alloc, &dc_lang::Line::Command(one.command))?;
-        assert!(rt;
-            one.phase == phase && text.as_slice() == line.as_bytes(),
-            "{line}"
-        );
+    for (input, output, want) in PHASED {
+        let found = phased_verdict(alloc, input, output)?;
+        assert!(rt; found == want, "{input}{output}: {found:?}");
+        if !matches!(want, PhasedVerdict::BadReply(_)) {
+            assert!(rt;
+                verdict(alloc, input, output)? == Verdict::Legal,
+                "{input}{output}"
+            );
+        }
     }
-    assert_eq!(rt; count_lines(alloc, SHARED.as_bytes())?, 7);
-    assert_eq!(rt; count_lines(alloc, b"")?, 0);
-    assert_eq!(rt; count_lines(alloc, b"sync\n\n")?, 2);
     Ok(())
 }
 

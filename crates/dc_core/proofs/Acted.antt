@@ -6,8 +6,8 @@ use Rattle.dc_row.specs.declared.TheConstants.{ROW_WORDS}
 use Rattle.dc_core.specs.Machine.{State, Actor, idle}
 use Rattle.dc_core.specs.Lives.{view_of, Lives}
 use Rattle.dc_core.specs.Shown.{actor_shown, note_shown, state_of}
-use Rattle.dc_core.specs.declared.seat.Actor as rust_actor
-use Rattle.dc_core.specs.declared.seat.Note as rust_note
+use Rattle.dc_core.specs.declared.actor.Actor as rust_actor
+use Rattle.dc_core.specs.declared.actor.Note as rust_note
 use Rattle.dc_core.specs.declared.state.State as rust_state
 use Rattle.dc_core.proofs.Shown.{set_shown, same_shown}
 use Rattle.dc_core.proofs.Seats.{here, passed}

@@ -1,6 +1,8 @@
 -- Giving the lock back, and a read, keep the rule of the core.
-use Rattle.std.proofs.Common.{◌≡◌, ℕ, ◌%◌, true, false, List, [], ◌∷◌, ◌++◌, length, set, None, refl, sym, ap, ◌∙◌, subst, arith, true≢false, not}
+use Rattle.std.proofs.Common.{◌≡◌, ℕ, ◌%◌, ◌≢◌, true, false, List, [], ◌∷◌, ◌++◌, length, set, None, refl, sym, ap, ◌∙◌, subst, arith, true≢false, not}
 use Rattle.std.proofs.lemmas.List.{map-append}
+use mathlib.Core.Option.{some}
+use lib.ListN.{get_elem?}
 use Rattle.dc_plain.specs.Requests.{Request}
 use Rattle.dc_plain.specs.LivingLaws.{SameTreeDecides}
 use Rattle.dc_plain.specs.Runs.{reply_of, tree_after, alters, same_tree}
@@ -11,9 +13,11 @@ use Rattle.dc_events.specs.Rows.{count}
 use Rattle.dc_events.specs.Rule.{Rule}
 use Rattle.dc_events.specs.Walks.{no_walk}
 use Rattle.dc_events.specs.Effects.{answered, record_of, empty_hold}
-use Rattle.dc_core.specs.Machine.{State, Actor, actor_at, clock_of, done}
+use Rattle.dc_core.specs.Machine.{State, Actor, actor_at, clock_of, event_by}
 use Rattle.dc_core.specs.Machine.Act.{Give}
-use Rattle.dc_core.specs.Lives.{Done, finished_of, strand, hold_of, view_of, views_from, Lives}
+use Rattle.dc_core.specs.Lives.{Done, finished_of, strand, hold_of, view_of, views_from, LivesWith}
+use Rattle.dc_core.specs.AsTable.{IsStep}
+use Rattle.dc_core.proofs.Stepping.{agreed, stepped}
 use Rattle.dc_core.specs.Refusals.{Answers, Unless, Passes, IsOdd}
 use Rattle.dc_core.specs.Refusals.Refusal.{OddRow, NoCall, Alters}
 use Rattle.dc_core.proofs.Seats.{one_known, still_known, passed, held_not, held_so, set_all, unheld, here, other_holds_not}
@@ -24,15 +28,16 @@ use Rattle.dc_core.proofs.Commits.{passed_row, strand_mine, strand_other}
 pub even_if : (n : ℕ) → (n % 2 ≡ 1 → ⊥) → n % 2 ≡ 0
 even_if n other = omega arith
 
-pub give_kept : EventsBelow → (s : State) (j : ℕ) → Lives s → Answers s (record { actor = j; act = Give false }) None → Lives (done s j (Give false))
-give_kept laws s j (hist, ds, L) ok = let p = passed ok in let q = passed p.1 in let x = passed_row s.rows (IsOdd s) OddRow Passes q.1 in let a : Actor = actor_at s j in let at = there s j p.0 in let has = held_so a.holds q.0 in
+pub give_kept : EventsBelow → (s : State) (j : ℕ) (hist : List Request) (ds : List Done) → LivesWith s hist ds → Answers s (event_by j (Give false)) None → IsStep s hist ds (event_by j (Give false))
+give_kept laws s j hist ds L ok = let p = passed ok in let q = passed p.1 in let x = passed_row s.rows (IsOdd s) OddRow Passes q.1 in let a : Actor = actor_at s j in let at = there s j p.0 in let has = held_so a.holds q.0 in
     let v : View = view_of s.words hist ds j a in let words : List ℕ = set s.words 1 0 in let a' : Actor = record a { holds = false } in
     let kept = laws.holders.give _ _ _ _ _ j v L.rule (here s hist ds L j a at) (ap (λ b. (hold_of b s.words hist).holds) has) (λ row less. even_if (count s.words row) (x.0 row less)) in
-    let views = set_all s.words words hist hist ds ds j s.actors a' (λ i u ne e. unheld s.words words hist hist ds ds i u (other_holds_not s hist ds L j a at has i u ne e) refl) in
-    (hist, ds, record { rule = subst (λ vs. Rule s.limit s.rows words vs hist) views kept; tree = L.tree; finished = L.finished; known = still_known ds s.actors j a' L.known })
+    let others : (i : ℕ) (u : Actor) → i ≢ j → get_elem? s.actors i ≡ some u → view_of s.words hist ds i u ≡ view_of words hist ds i u = λ i u ne e. unheld s.words words hist hist ds ds i u (other_holds_not s hist ds L j a at has i u ne e) refl in
+    let views = set_all s.words words hist hist ds ds j s.actors a' others in
+    stepped s j hist ds p.0 (Give false) a' ds refl (agreed _ _ refl) others record { rule = subst (λ vs. Rule s.limit s.rows words vs hist) views kept; tree = L.tree; finished = L.finished; known = still_known ds s.actors j a' L.known }
 
-pub answer_kept : EventsBelow → (s : State) (j : ℕ) → Lives s → Answers s (record { actor = j; act = Give true }) None → Lives (done s j (Give true))
-answer_kept laws s j (hist, ds, L) ok = let p = passed ok in let q = passed p.1 in let a : Actor = actor_at s j in let call : Request = a.walk.call in
+pub answer_kept : EventsBelow → (s : State) (j : ℕ) (hist : List Request) (ds : List Done) → LivesWith s hist ds → Answers s (event_by j (Give true)) None → IsStep s hist ds (event_by j (Give true))
+answer_kept laws s j hist ds L ok = let p = passed ok in let q = passed p.1 in let a : Actor = actor_at s j in let call : Request = a.walk.call in
     let x = passed_row s.rows (IsOdd s) OddRow (Unless (a.walk.busy ≡ false) NoCall (Unless (alters s.limit s.tree call ≡ true) Alters Passes)) q.1 in let y = passed x.1 in let z = passed y.1 in
     let at = there s j p.0 in let has = held_so a.holds q.0 in
     let v : View = view_of s.words hist ds j a in let words : List ℕ = set s.words 1 0 in let a' : Actor = record a { walk = no_walk; seen = clock_of s; holds = false } in
@@ -49,17 +54,15 @@ answer_kept laws s j (hist, ds, L) ok = let p = passed ok in let q = passed p.1 
       first_load = 0;
       faults = [];
     } in
-    let views = ap (λ w. set (views_from s.words hist ds 0 s.actors) j w) same
-    ∙ set_all s.words words hist hist ds (ds ++ d ∷ []) j s.actors a' (λ i u ne e. unheld s.words words hist hist ds (ds ++ d ∷ []) i u (other_holds_not s hist ds L j a at has i u ne e) (sym (strand_other i j ds d refl ne))) in (
-      hist,
-      ds ++ d ∷ [],
-      record {
-        rule = subst (λ vs. Rule s.limit s.rows words vs hist) views kept;
-        tree = L.tree;
-        finished = (λ i. L.finished i ++ record { actor = j; call = call; reply = reply_of s.limit (L.tree i) call; at = clock i } ∷ []) ∙ sym (map-append finished_of ds (d ∷ []));
-        known = one_known ds s.actors j a a' d at refl L.known;
-      },
-    )
+    let others : (i : ℕ) (u : Actor) → i ≢ j → get_elem? s.actors i ≡ some u → view_of s.words hist ds i u ≡ view_of words hist (ds ++ d ∷ []) i u =
+    λ i u ne e. unheld s.words words hist hist ds (ds ++ d ∷ []) i u (other_holds_not s hist ds L j a at has i u ne e) (sym (strand_other i j ds d refl ne)) in
+    let views = ap (λ w. set (views_from s.words hist ds 0 s.actors) j w) same ∙ set_all s.words words hist hist ds (ds ++ d ∷ []) j s.actors a' others in
+    stepped s j hist ds p.0 (Give true) a' (ds ++ d ∷ []) refl (agreed _ _ (sym same)) others record {
+      rule = subst (λ vs. Rule s.limit s.rows words vs hist) views kept;
+      tree = L.tree;
+      finished = (λ i. L.finished i ++ record { actor = j; call = call; reply = reply_of s.limit (L.tree i) call; at = clock i } ∷ []) ∙ sym (map-append finished_of ds (d ∷ []));
+      known = one_known ds s.actors j a a' d at refl L.known;
+    }
 
 -- a call that may be answered alters nothing
 pub answer_flat : (s : State) (j : ℕ) → Answers s (record { actor = j; act = Give true }) None → alters s.limit s.tree (actor_at s j).walk.call ≡ false

@@ -2,6 +2,7 @@ pub mod Below
 pub mod Told
 pub mod Shown
 pub mod Seats
+pub mod Stepping
 pub mod Kept
 pub mod Trace
 pub mod Traces
@@ -16,6 +17,7 @@ pub mod Ran
 pub mod Acted
 pub mod Rowed
 pub mod Stepped
+pub mod Lacking
 pub mod Spelled
 pub mod Recorded
 pub mod NotesRead

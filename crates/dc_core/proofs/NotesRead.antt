@@ -3,7 +3,7 @@ use Rattle.std.proofs.Common.{◌≡◌, ℕ, ◌-◌, ◌<◌, List, length, ge
 use Rattle.atomic_table.proofs.Lists.{at_index}
 use Rattle.dc_events.specs.Walks.{extended, no_note}
 use Rattle.dc_core.specs.Shown.{note_shown}
-use Rattle.dc_core.specs.declared.seat.Note as rust_note
+use Rattle.dc_core.specs.declared.actor.Note as rust_note
 use Rattle.dc_core.proofs.Shown.{set_shown, same_shown, map_length}
 
 module _ (notes : List rust_note.Note) (n : ℕ) (x x' : rust_note.Note) where

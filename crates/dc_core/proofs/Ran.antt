@@ -1,15 +1,14 @@
 -- A list of events that were done one after the other.
-use Rattle.std.proofs.Common.{◌≡◌, ℕ, zero, suc, ◌+◌, ◌<◌, ◌≤◌, ◌⊎◌, ⊎_elim, inl, inr, List, [], ◌∷◌, length, take, map, get_or, None, refl, sym, ap, ◌∙◌, subst, arith}
+use Rattle.std.proofs.Common.{◌≡◌, ℕ, zero, suc, ◌+◌, ◌<◌, ◌≤◌, List, [], ◌∷◌, length, take, map, get_or, None, refl, sym, ap, ◌∙◌, subst, arith}
 use mathlib.Core.Option.{some, some-injective, some-ne-none}
 use lib.ListN.{get_elem?}
 use Rattle.dc_core.specs.Machine.{State, Event, after, after_all}
 use Rattle.dc_core.specs.Refusals.{Answers}
 use Rattle.dc_core.specs.Listed.{AllDone, AreSpanned, IsNew, StopsFor}
-use Rattle.dc_core.specs.Shown.{event_shown, refusal_shown}
+use Rattle.dc_core.specs.Shown.{event_shown}
 use Rattle.dc_core.specs.declared.event.Event as rust_event
 use Rattle.dc_core.specs.declared.refused.Refused as rust_refused
-use Rattle.dc_core.specs.declared.refused.Refused.TheVariants as refusals
-use Rattle.dc_core.proofs.Stepped.{right}
+use Rattle.dc_core.specs.Memory.{RefusedAs}
 use Rattle.dc_core.proofs.Traces.{Traced}
 use Rattle.dc_core.proofs.Whole.{traced_all}
 use Rattle.dc_core.proofs.Opening.{opening_traced}
@@ -62,12 +61,12 @@ module _ (events : List rust_event.Event) (i : ℕ) (d : rust_event.Event) (less
   e = event_shown (get_or events i d)
 
   -- the next event was done
-  pub goes_on : (s self new : State) → self ≡ after_all s (take i es) → AllDone s (take i es) → (⊥ ⊎ Answers self e None) → new ≡ after self e → (new ≡ after_all s (take (i + 1) es)) × AllDone s (take (i + 1) es)
+  pub goes_on : (s self new : State) → self ≡ after_all s (take i es) → AllDone s (take i es) → Answers self e None → new ≡ after self e → (new ≡ after_all s (take (i + 1) es)) × AllDone s (take (i + 1) es)
   goes_on s self new is all ok done = let at = at_or_shown event_shown events i d less in let next : suc i ≡ i + 1 = omega arith in (
     done ∙ ap (λ (t : State). after t e) is ∙ sym (all_more s es i e at) ∙ ap (λ n. after_all s (take n es)) next,
-    subst (λ n. AllDone s (take n es)) next (done_more s es i e at all (subst (λ (t : State). Answers t e None) is (right ok))),
+    subst (λ n. AllDone s (take n es)) next (done_more s es i e at all (subst (λ (t : State). Answers t e None) is ok)),
   )
 
   -- or refused
-  pub stops_there : (self new : State) (place : ℕ) (why : rust_refused.Refused) → place ≡ i → (why ≡ refusals.NoMemory) ⊎ Answers self e (refusal_shown why) → new ≡ self → StopsFor new es place why
-  stops_there self new place why here how same = (e, ap (get_elem? es) here ∙ at_or_shown event_shown events i d less, ⊎_elim inl (λ a. inr (subst (λ (t : State). Answers t e (refusal_shown why)) (sym same) a)) how)
+  pub stops_there : (self new : State) (place : ℕ) (why : rust_refused.Refused) → place ≡ i → RefusedAs self e why → new ≡ self → StopsFor new es place why
+  stops_there self new place why here how same = (e, ap (get_elem? es) here ∙ at_or_shown event_shown events i d less, subst (λ (t : State). RefusedAs t e why) (sym same) how)

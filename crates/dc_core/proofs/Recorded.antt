@@ -4,7 +4,7 @@ use Rattle.dc_plain.specs.Requests.{Answer}
 use Rattle.dc_events.specs.Noted.{answer_in}
 use Rattle.dc_core.specs.Machine.{State, Actor, idle, ended, recorded, concluding, settling, with_finished}
 use Rattle.dc_core.specs.Shown.{actor_shown, finished_shown}
-use Rattle.dc_core.specs.declared.seat.Actor as rust_actor
+use Rattle.dc_core.specs.declared.actor.Actor as rust_actor
 use Rattle.dc_core.specs.declared.state.Finished as rust_finished
 use Rattle.dc_core.proofs.Acted.{acted, unacted, this_one, finished_more, concluding_is}
 

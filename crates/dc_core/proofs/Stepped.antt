@@ -1,13 +1,15 @@
 -- Whatever the event, the rule is kept; and what a step that was refused says.
-use Rattle.std.proofs.Common.{◌≡◌, ◌⊎◌, ◌↔◌, ℕ, Bool, true, false, not, Option, Some, None, Result, Ok, Err, MatchResult, IsTrue, refl, sym, ap, ◌∙◌, subst, inl, inr, true≢false}
-use Rattle.dc_core.specs.Machine.{State, Act, Event, after}
+use Rattle.std.proofs.Common.{◌≡◌, ◌↔◌, ℕ, List, Bool, true, false, not, Option, Some, None, Result, Ok, Err, MatchResult, IsTrue, refl, sym, ap, ◌∙◌, subst, inl, inr, true≢false}
+use Rattle.dc_plain.specs.Requests.{Request}
+use Rattle.dc_core.specs.Machine.{State, Act, Event, actor_at, event_by}
 use Rattle.dc_core.specs.Machine.Act.{Begin, Take, Shut, Write, Open, Commit, Give, Note, Read, Pivot, Check, Again, Quit}
-use Rattle.dc_core.specs.Lives.{Lives}
+use Rattle.dc_core.specs.AsTable.{history_after, IsStep, EventsAreSteps}
+use Rattle.dc_core.specs.Lives.{Done, LivesWith, Lives}
 use Rattle.dc_core.specs.Refusals.{Refusal, Answers, Unless, Needs, Passes}
-use Rattle.dc_core.specs.Shown.{reason, refusal_shown}
+use Rattle.dc_core.specs.Memory.{RefusedAs, RefusedBy, TestedBy}
+use Rattle.dc_core.specs.Shown.{refusal_shown}
 use Rattle.dc_core.specs.Steps.{Steps}
 use Rattle.dc_core.specs.declared.refused.Refused as rust_refused
-use Rattle.dc_core.specs.declared.refused.Refused.TheVariants as refusals
 use Rattle.dc_core.proofs.Below.{EventsBelow}
 use Rattle.dc_core.proofs.Seats.{passed}
 use Rattle.dc_core.proofs.Kept.{take_kept, shut_kept, write_kept, open_kept, note_kept, begin_kept, again_kept, quit_kept}
@@ -15,7 +17,7 @@ use Rattle.dc_core.proofs.Commits.{commit_kept}
 use Rattle.dc_core.proofs.Settles.{pivot_kept, check_kept, read_kept}
 use Rattle.dc_core.proofs.Gives.{give_kept, answer_kept}
 
-pub event_kept : EventsBelow → (s : State) (j : ℕ) (act : Act) → Lives s → Answers s (record { actor = j; act = act }) None → Lives (after s (record { actor = j; act = act }))
+pub event_kept : EventsBelow → (s : State) (j : ℕ) (act : Act) (hist : List Request) (ds : List Done) → LivesWith s hist ds → Answers s (event_by j act) None → IsStep s hist ds (event_by j act)
 event_kept laws s j (Begin call) = begin_kept laws s j call
 event_kept laws s j Take = take_kept laws s j
 event_kept laws s j (Shut row) = shut_kept laws s j row
@@ -31,15 +33,14 @@ event_kept laws s j (Check i) = check_kept laws s j i
 event_kept laws s j Again = again_kept laws s j
 event_kept laws s j Quit = quit_kept laws s j
 
-pub right : {X : Type 0} → ⊥ ⊎ X → X
-right (inl never) = absurd never
-right (inr x) = x
+pub all_steps : EventsBelow → EventsAreSteps
+all_steps laws s e hist ds L ok = event_kept laws s e.actor e.act hist ds L ok
 
 pub stepped_lives : {A : Type 0} → EventsBelow → (s s' : State) (e : Event) (r : Result A rust_refused.Refused) → Lives s → Steps s e r s' → Lives s'
-stepped_lives laws s s' e (Ok value) lives step = subst Lives (sym step.done) (event_kept laws s e.actor e.act lives (right step.refused))
+stepped_lives laws s s' e (Ok value) (hist, ds, L) step = let k = event_kept laws s e.actor e.act hist ds L step.refused in subst Lives (sym step.done) (history_after hist (actor_at s e.actor) e.act, k.next, k.lives)
 stepped_lives laws s s' e (Err why) lives step = subst Lives (sym step.err) lives
 
-pub refused_as : {A : Type 0} (s : State) (e : Event) (r : Result A rust_refused.Refused) (why : rust_refused.Refused) → r ≡ Err why → (why ≡ refusals.NoMemory) ⊎ Answers s e (refusal_shown why) → Steps s e r s
+pub refused_as : {A : Type 0} (s : State) (e : Event) (r : Result A rust_refused.Refused) (why : rust_refused.Refused) → r ≡ Err why → RefusedAs s e why → Steps s e r s
 refused_as {A} s e r why is how = subst (λ (r : Result A rust_refused.Refused). Steps s e r s) (sym is) record { refused = how; done = tt; err = refl }
 
 pub not_false : (b : Bool) → not b ≡ false → b ≡ true
@@ -47,9 +48,9 @@ not_false true e = refl
 not_false false e = absurd (true≢false e)
 
 -- the last of the tests of an event
-pub last_test : {A : Type 0} (P : Type 0) (b : Bool) (because : rust_refused.Refused) (named : Refusal) (r : Result A rust_refused.Refused) → refusal_shown because ≡ Some named → MatchResult r (λ _. not b ≡ false) (λ x. (not b ≡ true) × (x ≡ because)) → (IsTrue b ↔ P) → Needs P named Passes (reason r)
+pub last_test : {A : Type 0} (P : Type 0) (b : Bool) (because : rust_refused.Refused) (named : Refusal) (r : Result A rust_refused.Refused) → refusal_shown because ≡ Some named → MatchResult r (λ _. not b ≡ false) (λ x. (not b ≡ true) × (x ≡ because)) → (IsTrue b ↔ P) → TestedBy (Needs P named Passes) ⊥ r
 last_test P b because named (Ok value) name e so = inr (so.0 (not_false b e), refl)
-last_test P b because named (Err x) name e so = inl ((λ p. both b (so.1 p) e.0), ap refusal_shown e.1 ∙ name)
+last_test P b because named (Err x) name e so = subst (RefusedBy (Needs P named Passes) ⊥) (sym (ap refusal_shown e.1 ∙ name)) (inl ((λ p. both b (so.1 p) e.0), refl))
   where
     both : (b : Bool) → IsTrue b → not b ≡ true → ⊥
     both true t e = true≢false (sym e)
@@ -79,34 +80,3 @@ module _ {A B C : Type 0} {a b c : Refusal} (next : Option Refusal → Type 0) w
 
 pub alters_on : (x y : Bool) → x ≡ y → not x ≡ false → y ≡ false → ⊥
 alters_on x y is e f = true≢false (sym (not_false x e) ∙ is ∙ f)
-
-pub named_once : {r : Refusal} → Some r ≡ None → ⊥
-named_once e = cc
-
--- want of memory, or a refusal by a name
-pub has_name : (why : rust_refused.Refused) → (why ≡ refusals.NoMemory) ⊎ (refusal_shown why ≡ None → ⊥)
-has_name why = by_cases why
-  where
-    by_cases : (why : rust_refused.Refused) → (why ≡ refusals.NoMemory) ⊎ (refusal_shown why ≡ None → ⊥)
-    by_cases refusals.Actor = inr named_once
-    by_cases refusals.Holder = inr named_once
-    by_cases refusals.Unfinished = inr named_once
-    by_cases refusals.Held = inr named_once
-    by_cases refusals.NotHolder = inr named_once
-    by_cases refusals.NoRow = inr named_once
-    by_cases refusals.Odd = inr named_once
-    by_cases refusals.Even = inr named_once
-    by_cases refusals.Spent = inr named_once
-    by_cases refusals.NoWord = inr named_once
-    by_cases refusals.Untrue = inr named_once
-    by_cases refusals.NoCall = inr named_once
-    by_cases refusals.Unaltered = inr named_once
-    by_cases refusals.Full = inr named_once
-    by_cases (refusals.Touched row) = inr named_once
-    by_cases (refusals.OddRow row) = inr named_once
-    by_cases refusals.Alters = inr named_once
-    by_cases refusals.Late = inr named_once
-    by_cases refusals.Early = inr named_once
-    by_cases refusals.NoNote = inr named_once
-    by_cases (refusals.Changed row noted found) = inr named_once
-    by_cases refusals.NoMemory = inl refl

@@ -12,7 +12,7 @@ use Rattle.dc_events.specs.Noted.{with_fact, facts_if, facts_in}
 use Rattle.dc_events.specs.Walks.{no_note}
 use Rattle.dc_core.specs.Shown.{note_shown}
 use Rattle.dc_core.specs.Told.{AreSpelled, AreRows, facts_told}
-use Rattle.dc_core.specs.declared.seat.Note as rust_note
+use Rattle.dc_core.specs.declared.actor.Note as rust_note
 
 front : (o : Option Fact) (l m n : List Fact) → l ≡ m ++ n → with_fact (Some o) l ≡ with_fact (Some o) m ++ n
 front None l m n e = e

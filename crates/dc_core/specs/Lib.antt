@@ -4,8 +4,10 @@ pub mod Refusals
 pub mod Lives
 pub mod Spans
 pub mod Shown
+pub mod Memory
 pub mod Told
 pub mod Labels
 pub mod Listed
 pub mod Steps
+pub mod AsTable
 pub mod Cores

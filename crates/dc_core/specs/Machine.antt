@@ -48,6 +48,9 @@ pub record Event : Type 0 where
   pub actor : ℕ
   pub act : Act
 
+abbrev pub event_by : ℕ → Act → Event
+event_by actor act = record { actor = actor; act = act }
+
 abbrev pub idle : Actor
 idle = record { walk = nobody.walk; seen = 0; holds = false; loads = 0 }
 
@@ -73,6 +76,18 @@ with_finished s j call reply at = record s { finished = s.finished ++ record { a
 -- the actor's walk becomes this one by one more load
 abbrev pub walking : Actor → Walk → Actor
 walking a w = record a { walk = w; loads = a.loads + 1 }
+
+abbrev pub having_noted : Actor → ℕ → ℕ → Actor
+having_noted a row count = walking a (walk_noted a.walk row count)
+
+abbrev pub having_read : Actor → ℕ → Actor
+having_read a word = walking a (walk_read a.walk word)
+
+abbrev pub having_checked : Actor → ℕ → Actor
+having_checked a i = walking a (walk_marked a.walk i)
+
+abbrev pub gone_again : Actor → Actor
+gone_again a = record a { walk = walk_again a.walk }
 
 -- by a load of the clock, which is the pivot of an unanswered call
 abbrev pub turning : Actor → ℕ → Actor
@@ -114,11 +129,11 @@ done s j Commit = let a = actor_at s j in
 done s j (Give false) = with_actor (with_word s 1 0) j (record (actor_at s j) { holds = false })
 done s j (Give true) = let a = actor_at s j in
     with_finished (with_actor (with_word s 1 0) j (record a { walk = no_walk; seen = clock_of s; holds = false })) j a.walk.call (reply_of s.limit s.tree a.walk.call) (clock_of s)
-done s j (Note row) = with_actor s j (walking (actor_at s j) (walk_noted (actor_at s j).walk row (count s.words row)))
-done s j Read = with_actor s j (walking (actor_at s j) (walk_read (actor_at s j).walk (next_word s (actor_at s j).walk)))
+done s j (Note row) = with_actor s j (having_noted (actor_at s j) row (count s.words row))
+done s j Read = with_actor s j (having_read (actor_at s j) (next_word s (actor_at s j).walk))
 done s j Pivot = settling s j (turning (actor_at s j) (clock_of s))
-done s j (Check i) = settling s j (walking (actor_at s j) (walk_marked (actor_at s j).walk i))
-done s j Again = with_actor s j (record (actor_at s j) { walk = walk_again (actor_at s j).walk })
+done s j (Check i) = settling s j (having_checked (actor_at s j) i)
+done s j Again = with_actor s j (gone_again (actor_at s j))
 done s j Quit = with_actor s j (record (actor_at s j) { walk = no_walk })
 
 abbrev pub after : State → Event → State

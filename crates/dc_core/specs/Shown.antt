@@ -1,15 +1,19 @@
 -- What the core of the program stands for.
-use Rattle.std.specs.Prelude.{◌≡◌, ℕ, List, map, drop, get_or, Option, Some, None, is_some, Result, Ok, Err}
+use Rattle.std.specs.Prelude.{ℕ, List, map, drop, get_or, Option, Some, None, is_some, option_map}
 use Rattle.dc_plain.specs.OwnCalls.{own_request}
-use Rattle.dc_plain.specs.Requests.{Request, request_of, answer_of}
+use Rattle.dc_plain.specs.Machines.{Machine}
+use Rattle.dc_plain.specs.Requests.{Request, Answer, request_of, answer_of}
+use Rattle.dc_plain.specs.Runs.{reply_of, tree_after}
+use Rattle.dc_plain.specs.Trees.{Tree}
+use Rattle.dc_plain.specs.declared.call.Reply.{Reply}
 use Rattle.dc_plain.specs.declared.own_call.OwnCall.{OwnCall}
 use Rattle.dc_events.specs.Views.{Note as Noted, Walk}
 use Rattle.dc_events.specs.Walks.{no_walk}
-use Rattle.dc_core.specs.Machine.{Act, Event, Actor, Finished, State}
+use Rattle.dc_core.specs.Machine.{Act, Event, Actor, Finished, State, recorded}
 use Rattle.dc_core.specs.Machine.Act.{Begin, Take, Shut, Write, Open, Commit, Give, Note, Read, Pivot, Check, Again, Quit}
 use Rattle.dc_core.specs.Refusals.{Refusal}
-use Rattle.dc_core.specs.declared.seat.Note as rust_note
-use Rattle.dc_core.specs.declared.seat.Actor as rust_actor
+use Rattle.dc_core.specs.declared.actor.Note as rust_note
+use Rattle.dc_core.specs.declared.actor.Actor as rust_actor
 use Rattle.dc_core.specs.declared.state.Finished as rust_finished
 use Rattle.dc_core.specs.declared.state.State as rust_state
 use Rattle.dc_core.specs.declared.event.Act as rust_act
@@ -37,6 +41,24 @@ actor_shown a = record { walk = walk_shown a.call a.notes.items a.pivot; seen = 
 
 abbrev pub finished_shown : rust_finished.Finished → Finished
 finished_shown f = record { actor = f.actor; call = own_request f.call; reply = answer_of f.reply; at = f.at }
+
+abbrev pub all_shown : List rust_finished.Finished → List Finished
+all_shown fs = map finished_shown fs
+
+-- the record that a reply makes, if there is one
+abbrev pub made_by : ℕ → rust_actor.Actor → Option Reply → List Finished
+made_by j a reply = recorded j (actor_shown a) (option_map answer_of reply)
+
+-- the unanswered call of an actor
+abbrev pub call_of : rust_actor.Actor → Request
+call_of a = (actor_shown a).walk.call
+
+-- the reply of a call on a tree of the program, and the tree after it
+abbrev pub reply_in : Machine → Request → Answer
+reply_in t call = reply_of t.limit t.tree call
+
+abbrev pub tree_in : Machine → Request → Tree
+tree_in t call = tree_after t.limit t.tree call
 
 abbrev pub state_of : rust_state.State → State
 state_of s = record {
@@ -90,11 +112,3 @@ refusal_shown refusals.Early = Some Refusal.Early
 refusal_shown refusals.NoNote = Some Refusal.NoNote
 refusal_shown (refusals.Changed row noted found) = Some (Refusal.Changed row noted found)
 refusal_shown refusals.NoMemory = None
-
-abbrev pub reason : {A : Type 0} → Result A rust_refused.Refused → Option Refusal
-reason (Ok value) = None
-reason (Err r) = refusal_shown r
-
-abbrev pub IsMemory : {A : Type 0} → Result A rust_refused.Refused → Type 0
-IsMemory (Ok value) = ⊥
-IsMemory (Err r) = r ≡ refusals.NoMemory

@@ -6,14 +6,21 @@ use Rattle.dc_row.specs.Spelling.{Spells, has_spelling}
 use Rattle.dc_row.specs.declared.row.Row.{Row}
 use Rattle.dc_events.specs.Views.{Note}
 use Rattle.dc_events.specs.Rows.{note_words}
-use Rattle.dc_events.specs.Noted.{with_fact}
+use Rattle.dc_events.specs.Noted.{facts_if, with_fact}
 use Rattle.dc_events.specs.Walks.{note_of}
 use Rattle.dc_core.specs.Machine.{Actor}
 
--- each checked note spells a row
+-- a note that is checked spells a row
+abbrev pub IsSpelled : Note → Type 0
+IsSpelled x = x.checked ≡ true → (fact : Option Fact) × Spells (note_words x) fact
+
 abbrev pub AreSpelled : List Note → Type 0
 AreSpelled [] = Unit {0}
-AreSpelled (x ∷ xs) = (x.checked ≡ true → (fact : Option Fact) × Spells (note_words x) fact) × AreSpelled xs
+AreSpelled (x ∷ xs) = IsSpelled x × AreSpelled xs
+
+-- the fact of a note, if it is checked and has one
+abbrev pub told_in : Note → List Fact
+told_in x = facts_if x.checked (note_words x) []
 
 -- the facts of rows, of which an empty one has none
 abbrev pub facts_told : List Row → List Fact

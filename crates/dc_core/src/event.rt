@@ -1,3 +1,5 @@
+//! Who does what: the events of a core.
+
 use dc_plain::Call;
 
 /// One step of one actor on one shared word, or an act that touches no word.
@@ -18,7 +20,7 @@ pub enum Act<'a> {
     Take,
     /// The count of a row becomes odd.
     Shut(u64),
-    /// A word of an odd row gets a value: the row, the word, the value.
+    /// A word of an odd row gets a value: the row, the word, the value, in this order.
     Write(u64, u64, u64),
     /// The count of a row becomes even.
     Open(u64),

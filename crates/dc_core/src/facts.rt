@@ -1,23 +1,22 @@
 //! From the words of notes to facts.
 
-ghost use Rattle.std.specs.Prelude.{◌≡◌, ◌++◌, [], true, Option, map, option_map, IsTrue, IfOk, OnOk};
+ghost use Rattle.std.specs.Prelude.{◌≡◌, ◌++◌, map, option_map, IsTrue, IfOk, OnOk};
 ghost use Rattle.dc_core.specs.Shown.{note_shown};
-ghost use Rattle.dc_core.specs.Told.{AreSpelled, AreRows, facts_told};
-ghost use Rattle.dc_events.specs.Noted.{facts_in, facts_if};
-ghost use Rattle.dc_events.specs.Rows.{note_words};
-ghost use Rattle.dc_plain.specs.Facts.{Fact};
+ghost use Rattle.dc_core.specs.Told.{AreSpelled, AreRows, IsSpelled, facts_told, told_in};
+ghost use Rattle.dc_events.specs.Noted.{facts_in};
 ghost use Rattle.dc_plain.specs.FactsShown.{fact_shown};
 ghost use Rattle.dc_plain.specs.KeysShown.{label_shown};
 ghost use Rattle.dc_row.specs.Rows.{row_shown, label_shown as row_label_shown};
-ghost use Rattle.dc_row.specs.Spelling.{Spells, has_spelling};
+ghost use Rattle.dc_row.specs.Spelling.{has_spelling};
 ghost use Rattle.dc_core.specs.Labels.{IsLabel};
 
-use crate::seat::Note;
+use crate::actor::Note;
 use dc_names::{Name, NoMemory, PathText};
 use dc_plain::{Fact as Said, Label};
 use dc_row::{Row, RowLabel, decode, words_have_the_fact_they_spell};
 use std::alloc::Global;
 
+/// The label of a row, as the tree has it.
 fn label_of(label: &RowLabel) -> Label<'_>
     requires { IsLabel (row_label_shown label.now) }
     ensures { label_shown result ≡ row_label_shown label.now }
@@ -36,17 +35,16 @@ pub(crate) fn fact_of(row: &Row) -> Option<Said<'_>>
     match row {
         Row::Empty => None,
         Row::Entry(number, label, target) => Some(Said::Entry(*number, label_of(label), *target)),
-        Row::Link(number, text) => Some(Said::Text(*number, PathText::new(text.bytes()))),
+        Row::Link(number, text) => Some(Said::Text(*number, PathText::known(text.bytes()))),
     }
 }
 
 /// Adds the row that a note spells, if it is checked.
 fn push_row(rows: &mut Vec<Row>, note: &Note) -> Result<(), NoMemory>
     requires rows { AreRows rows.old.items }
-    requires spelled { (note_shown note.now).checked ≡ true →
-        (fact : Option Fact) × Spells (note_words (note_shown note.now)) fact }
-    ensures facts { OnOk result (facts_told rows.new.items ≡ facts_told rows.old.items
-        ++ facts_if (note_shown note.now).checked (note_words (note_shown note.now)) []) }
+    requires spelled { IsSpelled (note_shown note.now) }
+    ensures facts { OnOk result (facts_told rows.new.items
+        ≡ facts_told rows.old.items ++ told_in (note_shown note.now)) }
     ensures rows { OnOk result (AreRows rows.new.items) }
 {
     words_have_the_fact_they_spell();

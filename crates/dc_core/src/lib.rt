@@ -7,19 +7,21 @@ mod allowed;
 mod effects;
 mod event;
 mod facts;
+mod laws;
 mod machine;
 mod making;
 mod refused;
 mod rows;
-mod seat;
 mod state;
 mod steps;
 #[cfg(test)]
 mod tests;
 mod truths;
+mod walk;
 
 pub use dc_events::MakeFault;
 pub use event::{Act, Event};
+pub use laws::events_are_steps_of_the_table;
 pub use machine::Core;
 pub use refused::Refused;
 pub use state::Finished;

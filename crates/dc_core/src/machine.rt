@@ -1,11 +1,11 @@
 //! The core: every event is done or refused.
 
-ghost use Rattle.std.specs.Prelude.{◌≡◌, ◌⊎◌, ◌<◌, ◌≤◌, ◌*◌, ◌↔◌, false, Err, IfOk, IfErr, OnOk, OnErr, map};
+ghost use Rattle.std.specs.Prelude.{◌≡◌, ◌<◌, ◌≤◌, ◌*◌, ◌↔◌, false, Err, IfOk, IfErr, OnOk, OnErr, map};
 ghost use Rattle.dc_core.specs.Listed.{AllDone, AreSpanned, IsNew, StopsFor, done_of};
 ghost use Rattle.dc_core.specs.Machine.{after, after_all, clock_of, opening};
 ghost use Rattle.dc_core.specs.Lives.{Lives, AreLegal};
-ghost use Rattle.dc_core.specs.Refusals.{Answers};
-ghost use Rattle.dc_core.specs.Shown.{event_shown, finished_shown, reason, IsMemory};
+ghost use Rattle.dc_core.specs.Memory.{AnsweredAs};
+ghost use Rattle.dc_core.specs.Shown.{event_shown, finished_shown};
 ghost use Rattle.dc_events.specs.Rows.{count};
 ghost use Rattle.dc_events.specs.Sizes.{are_right};
 ghost use Rattle.dc_events.specs.declared.sizes.MakeFault.TheVariants.{BadSize};
@@ -16,6 +16,7 @@ use dc_events::{
     MakeFault, are_right, events_keep_the_rule, loads_tell_nothing, new_tables_have_the_rule,
     records_are_legal,
 };
+use dc_names::BUCKET_ROWS;
 use std::alloc::Global;
 use std::marker::Model;
 
@@ -38,26 +39,26 @@ impl Model for Core {
 }
 
 impl Core {
-    /// Empty rows, four in each of the buckets, and actors without calls, over the root directory
+    /// Empty rows, `BUCKET_ROWS` in each of the buckets, and actors without calls, over the root directory
     /// alone.
     pub fn new(alloc: Global, buckets: u64, actors: u64, max_inodes: u64) -> Result<Core, MakeFault>
-        ensures made { IfOk result (λ core. core ≡ opening max_inodes (buckets * 4) actors) }
+        ensures made { IfOk result (λ core. core ≡ opening max_inodes (buckets * BUCKET_ROWS) actors) }
         ensures size { result ≡ Err BadSize ↔ are_right buckets max_inodes ≡ false }
     {
         if !are_right(buckets, max_inodes) {
             return Err(MakeFault::BadSize);
         }
         new_tables_have_the_rule();
-        let state = State::new(alloc, buckets * 4, actors, max_inodes)?;
+        let state = State::new(alloc, buckets * BUCKET_ROWS, actors, max_inodes)?;
         Ok(Core { state })
     }
 
-    /// Does an event, or refuses it: exactly where the table of events says, by the first test that
-    /// holds. After a refusal the core is as it was. Want of memory may stand in the place of
-    /// `Unaltered`, `Full`, `Touched` or `Alters`; else it comes last.
+    /// Does an event, or refuses it: exactly where its tests say, by the first that holds. After a
+    /// refusal the core is as it was. Want of memory is an answer to `Begin`, `Commit`, `Give(true)`,
+    /// `Note`, `Read`, `Pivot` and `Check` alone; it may stand in the place of `Unaltered`, `Full`,
+    /// `Touched` or `Alters`, and else comes after all tests.
     pub fn step(&mut self, alloc: Global, event: Event) -> Result<(), Refused>
-        ensures refused { IsMemory result
-            ⊎ Answers self.old (event_shown event.entry) (reason result) }
+        ensures refused { AnsweredAs self.old (event_shown event.entry) result }
         ensures done { OnOk result (self.new ≡ after self.old (event_shown event.entry)) }
         ensures err { OnErr result (self.new ≡ self.old) }
         ensures rule { Lives self.new }
@@ -68,7 +69,8 @@ impl Core {
     }
 
     /// Does the events one after the other, up to the first that is refused; its place counts from
-    /// 0, and those before it stand.
+    /// 0, and those before it stand. The n-th record of a core that was new has a begin of its call, a
+    /// point at which the clock is the record's, and an end among the events.
     pub fn run(&mut self, alloc: Global, events: &[Event]) -> Result<(), (u64, Refused)>
         ensures state { self.new ≡ after_all self.old (done_of result (map event_shown events.now)) }
         ensures done { AllDone self.old (done_of result (map event_shown events.now)) }
@@ -87,8 +89,9 @@ impl Core {
         Ok(())
     }
 
+    /// Does an event that stands in a list.
     fn follow(&mut self, alloc: Global, event: &Event) -> Result<(), Refused>
-        ensures refused { IsMemory result ⊎ Answers self.old (event_shown event.now) (reason result) }
+        ensures refused { AnsweredAs self.old (event_shown event.now) result }
         ensures done { OnOk result (self.new ≡ after self.old (event_shown event.now)) }
         ensures err { OnErr result (self.new ≡ self.old) }
     {
@@ -112,12 +115,15 @@ impl Core {
         self.state.rows
     }
 
-    /// The count of a row.
+    /// The count of a row, or 0 where there is no such row.
     pub fn count(&self, row: u64) -> u64
-        requires { row < self.now.rows }
         ensures { result ≡ count self.now.words row }
     {
-        self.state.count(row)
+        if row < self.state.rows {
+            self.state.count(row)
+        } else {
+            0
+        }
     }
 
     /// How many calls have altered the tree.

@@ -3,9 +3,9 @@
 ghost use Rattle.std.specs.Prelude.{◌≡◌, ◌≤◌, map, replicate, IfOk};
 ghost use Rattle.dc_core.specs.Machine.{idle, opening};
 ghost use Rattle.dc_core.specs.Shown.{actor_shown, state_of};
-ghost use Rattle.dc_plain.specs.declared.TheConstants.{MOST_INODES};
+ghost use Rattle.dc_names.specs.declared.limits.TheConstants.{MOST_INODES, MOST_ROWS};
 
-use crate::seat::Actor;
+use crate::actor::Actor;
 use crate::state::State;
 use dc_names::NoMemory;
 use dc_plain::PlainTree;
@@ -15,7 +15,7 @@ use std::alloc::Global;
 impl State {
     /// Empty rows and actors without calls over the root directory alone.
     pub fn new(alloc: Global, rows: u64, actors: u64, max_inodes: u64) -> Result<State, NoMemory>
-        requires few { rows ≤ 4096 }
+        requires few { rows ≤ MOST_ROWS }
         requires least { 1 ≤ max_inodes }
         requires most { max_inodes ≤ MOST_INODES }
         ensures { IfOk result (λ state. state_of state ≡ opening max_inodes rows actors) }
@@ -30,6 +30,7 @@ impl State {
     }
 }
 
+/// Actors without calls.
 fn idle_actors(alloc: Global, actors: u64) -> Result<Vec<Actor>, NoMemory>
     ensures { IfOk result (λ idlers. map actor_shown idlers.items ≡ replicate actors idle) }
 {

@@ -1,8 +1,12 @@
+//! Why an event is not done.
+
 ghost use Rattle.std.specs.Prelude.{◌≡◌, true, false, MatchResult};
 ghost use Rattle.dc_core.specs.declared.refused.Refused.TheVariants.{NoMemory as WantOfMemory};
 
 use dc_names::NoMemory;
 use std::alloc::AllocError;
+use std::error::Error;
+use std::fmt;
 
 /// Why an event was not done.
 #[derive(Clone, Copy, Debug, PartialEq, Eq)]
@@ -47,7 +51,7 @@ pub enum Refused {
     Early,
     /// There is no such note, or none that may be read or checked.
     NoNote,
-    /// The row of a note has another count: the row, the count noted, the count found.
+    /// The row of a note has another count: the row, the count noted, the count found, in this order.
     Changed(u64, u64, u64),
     /// No memory.
     NoMemory,
@@ -68,6 +72,39 @@ impl From<AllocError> for Refused {
         Refused::NoMemory
     }
 }
+
+impl fmt::Display for Refused {
+    fn fmt<W: fmt::Write>(&self, f: &mut fmt::Formatter<W>) -> fmt::Result {
+        match self {
+            Refused::Actor => f.write_str("no such actor"),
+            Refused::Holder => f.write_str("the actor has the lock"),
+            Refused::Unfinished => f.write_str("the actor has an unanswered call"),
+            Refused::Held => f.write_str("the lock is held"),
+            Refused::NotHolder => f.write_str("the actor does not have the lock"),
+            Refused::NoRow => f.write_str("no such row"),
+            Refused::Odd => f.write_str("the row is odd"),
+            Refused::Even => f.write_str("the row is even"),
+            Refused::Spent => f.write_str("the row has no count left"),
+            Refused::NoWord => f.write_str("no such word"),
+            Refused::Untrue => f.write_str("the words are not true of the tree"),
+            Refused::NoCall => f.write_str("the actor has no unanswered call"),
+            Refused::Unaltered => f.write_str("the call leaves the tree as it is"),
+            Refused::Full => f.write_str("the clock has its last value"),
+            Refused::Touched(row) => write!(f, "row {row} has a key that the call touches"),
+            Refused::OddRow(row) => write!(f, "row {row} is odd"),
+            Refused::Alters => f.write_str("the call alters the tree"),
+            Refused::Late => f.write_str("the pivot is made"),
+            Refused::Early => f.write_str("there is no pivot"),
+            Refused::NoNote => f.write_str("no such note"),
+            Refused::Changed(row, noted, found) => {
+                write!(f, "row {row} had count {noted} and has {found}")
+            }
+            Refused::NoMemory => f.write_str("no memory"),
+        }
+    }
+}
+
+impl Error for Refused {}
 
 /// Refuses as this where a test holds.
 pub(crate) fn refuse(test: bool, because: Refused) -> Result<(), Refused>

@@ -3,7 +3,7 @@
 ghost use Rattle.std.specs.Prelude.{◌≡◌, ◌<◌, ◌+◌, get_or, length};
 ghost use Rattle.dc_events.specs.Rows.{base_of, count, row_words};
 
-use crate::seat::Note;
+use crate::actor::Note;
 use crate::state::State;
 use dc_row::ROW_WORDS;
 

@@ -1,6 +1,6 @@
 //! The words, the tree, the actors and the records of a core.
 
-use crate::seat::Actor;
+use crate::actor::Actor;
 use dc_plain::{OwnCall, PlainTree, Reply};
 
 /// An answered call.

@@ -1,6 +1,7 @@
 //! Each act: its tests, and then its effect.
 
 ghost use Rattle.dc_core.specs.Lives.{Lives};
+ghost use Rattle.dc_core.specs.Machine.{event_by};
 ghost use Rattle.dc_core.specs.Machine.Act.{Begin, Take, Shut, Write, Open, Commit, Give, Note as Noting, Read, Pivot, Check, Again, Quit};
 ghost use Rattle.dc_core.specs.Shown.{state_of, event_shown};
 ghost use Rattle.dc_core.specs.Steps.{Steps};
@@ -35,9 +36,10 @@ impl State {
         }
     }
 
+    /// The tests of a begin, and then its effect.
     fn begin(&mut self, alloc: Global, actor: u64, call: &Call) -> Result<(), Refused>
         requires { Lives (state_of self.old) }
-        ensures { Steps (state_of self.old) (record { actor = actor; act = Begin (request_of call.now) }) result
+        ensures { Steps (state_of self.old) (event_by actor (Begin (request_of call.now))) result
             (state_of self.new) }
     {
         self.may_begin(actor, call)?;
@@ -45,9 +47,10 @@ impl State {
         Ok(())
     }
 
+    /// The tests of a take, and then its effect.
     fn take(&mut self, actor: u64) -> Result<(), Refused>
         requires { Lives (state_of self.old) }
-        ensures { Steps (state_of self.old) (record { actor = actor; act = Take }) result
+        ensures { Steps (state_of self.old) (event_by actor Take) result
             (state_of self.new) }
     {
         self.may_take(actor)?;
@@ -55,9 +58,10 @@ impl State {
         Ok(())
     }
 
+    /// The tests of a shut, and then its effect.
     fn shut(&mut self, actor: u64, row: u64) -> Result<(), Refused>
         requires { Lives (state_of self.old) }
-        ensures { Steps (state_of self.old) (record { actor = actor; act = Shut row }) result
+        ensures { Steps (state_of self.old) (event_by actor (Shut row)) result
             (state_of self.new) }
     {
         self.may_shut(actor, row)?;
@@ -65,9 +69,10 @@ impl State {
         Ok(())
     }
 
+    /// The tests of a write, and then its effect.
     fn write(&mut self, actor: u64, row: u64, word: u64, value: u64) -> Result<(), Refused>
         requires { Lives (state_of self.old) }
-        ensures { Steps (state_of self.old) (record { actor = actor; act = Write row word value }) result
+        ensures { Steps (state_of self.old) (event_by actor (Write row word value)) result
             (state_of self.new) }
     {
         self.may_write(actor, row, word, value)?;
@@ -75,9 +80,10 @@ impl State {
         Ok(())
     }
 
+    /// The tests of an open, and then its effect.
     fn open(&mut self, actor: u64, row: u64) -> Result<(), Refused>
         requires { Lives (state_of self.old) }
-        ensures { Steps (state_of self.old) (record { actor = actor; act = Open row }) result
+        ensures { Steps (state_of self.old) (event_by actor (Open row)) result
             (state_of self.new) }
     {
         self.may_open(actor, row)?;
@@ -85,9 +91,10 @@ impl State {
         Ok(())
     }
 
+    /// The tests of a commit, and then its effect.
     fn commit(&mut self, alloc: Global, actor: u64) -> Result<(), Refused>
         requires { Lives (state_of self.old) }
-        ensures { Steps (state_of self.old) (record { actor = actor; act = Commit }) result
+        ensures { Steps (state_of self.old) (event_by actor Commit) result
             (state_of self.new) }
     {
         self.may_commit(alloc, actor)?;
@@ -95,9 +102,10 @@ impl State {
         Ok(())
     }
 
+    /// The tests of a give, with an answer or without, and then its effect.
     fn give(&mut self, alloc: Global, actor: u64, answer: bool) -> Result<(), Refused>
         requires { Lives (state_of self.old) }
-        ensures { Steps (state_of self.old) (record { actor = actor; act = Give answer }) result
+        ensures { Steps (state_of self.old) (event_by actor (Give answer)) result
             (state_of self.new) }
     {
         if answer {
@@ -110,9 +118,10 @@ impl State {
         Ok(())
     }
 
+    /// The tests of a note, and then its effect.
     fn note(&mut self, alloc: Global, actor: u64, row: u64) -> Result<(), Refused>
         requires { Lives (state_of self.old) }
-        ensures { Steps (state_of self.old) (record { actor = actor; act = Noting row }) result
+        ensures { Steps (state_of self.old) (event_by actor (Noting row)) result
             (state_of self.new) }
     {
         self.may_note(actor, row)?;
@@ -120,9 +129,10 @@ impl State {
         Ok(())
     }
 
+    /// The tests of a read, and then its effect.
     fn read(&mut self, actor: u64) -> Result<(), Refused>
         requires { Lives (state_of self.old) }
-        ensures { Steps (state_of self.old) (record { actor = actor; act = Read }) result
+        ensures { Steps (state_of self.old) (event_by actor Read) result
             (state_of self.new) }
     {
         self.may_read(actor)?;
@@ -130,9 +140,10 @@ impl State {
         Ok(())
     }
 
+    /// The tests of a pivot, and then its effect.
     fn pivot(&mut self, alloc: Global, actor: u64) -> Result<(), Refused>
         requires { Lives (state_of self.old) }
-        ensures { Steps (state_of self.old) (record { actor = actor; act = Pivot }) result
+        ensures { Steps (state_of self.old) (event_by actor Pivot) result
             (state_of self.new) }
     {
         self.may_pivot(actor)?;
@@ -140,9 +151,10 @@ impl State {
         Ok(())
     }
 
+    /// The tests of a check, and then its effect.
     fn check(&mut self, alloc: Global, actor: u64, i: u64) -> Result<(), Refused>
         requires { Lives (state_of self.old) }
-        ensures { Steps (state_of self.old) (record { actor = actor; act = Check i }) result
+        ensures { Steps (state_of self.old) (event_by actor (Check i)) result
             (state_of self.new) }
     {
         self.may_check(actor, i)?;
@@ -150,9 +162,10 @@ impl State {
         Ok(())
     }
 
+    /// The tests of an again, and then its effect.
     fn again(&mut self, actor: u64) -> Result<(), Refused>
         requires { Lives (state_of self.old) }
-        ensures { Steps (state_of self.old) (record { actor = actor; act = Again }) result
+        ensures { Steps (state_of self.old) (event_by actor Again) result
             (state_of self.new) }
     {
         self.may_go_again(actor)?;
@@ -160,9 +173,10 @@ impl State {
         Ok(())
     }
 
+    /// The tests of a quit, and then its effect.
     fn quit(&mut self, actor: u64) -> Result<(), Refused>
         requires { Lives (state_of self.old) }
-        ensures { Steps (state_of self.old) (record { actor = actor; act = Quit }) result
+        ensures { Steps (state_of self.old) (event_by actor Quit) result
             (state_of self.new) }
     {
         self.may_go_again(actor)?;

@@ -1,6 +1,6 @@
 use crate::{Act, Core, Event, Finished, MakeFault, Refused};
 use dc_names::Kind;
-use dc_plain::{Call, Follow, Reply};
+use dc_plain::{Call, Flags, Follow, Reply};
 use dc_row::{EMPTY_ROW, ROW_WORDS, Row, RowLabel, RowText, encode};
 use std::alloc::Global;
 use std::test::Fail;
@@ -25,7 +25,12 @@ fn create<'a>(path: &'a [u8]) -> Call<'a> {
 }
 
 fn rename<'a>(old: &'a [u8], new: &'a [u8]) -> Call<'a> {
-    Call::Rename { base: 1, old, new }
+    Call::Rename {
+        base: 1,
+        old,
+        new,
+        flags: Flags::default(),
+    }
 }
 
 /// The words of a row for a name in a directory.
@@ -106,15 +111,6 @@ fn note(core: &mut Core, alloc: Global, actor: u64, row: u64) -> Result<(), Refu
     Ok(())
 }
 
-/// The count of a row, if there is such a row.
-fn count(core: &Core, row: u64) -> Option<u64> {
-    if row < core.rows() {
-        Some(core.count(row))
-    } else {
-        None
-    }
-}
-
 /// The last record, if its actor, its reply and its point are these.
 fn is_last(core: &Core, actor: u64, reply: &Reply, at: u64) -> bool {
     match core.finished().last() {
@@ -153,7 +149,7 @@ fn half_walked(alloc: Global) -> Result<Core, Fail> {
 fn a_path_that_never_was_is_not_answered(rt: HostRuntime) -> Result<(), Fail> {
     let alloc = rt.alloc();
     let mut core = half_walked(alloc)?;
-    assert_eq!(rt; (count(&core, 0), count(&core, 1)), (Some(2), Some(2)));
+    assert_eq!(rt; (core.count(0), core.count(1)), (2, 2));
     let gone = named(2, b"d", None)?;
     change_row(&mut core, alloc, 1, rename(b"/a/d", b"/b"), 1, &gone)?;
     change(&mut core, alloc, 1, create(b"/b/f"))?;
@@ -213,12 +209,12 @@ fn a_row_that_was_refilled_is_another(rt: HostRuntime) -> Result<(), Fail> {
     change(&mut core, alloc, 1, mkdir(b"/a"))?;
     let words = named(1, b"a", Some((2, Kind::Dir)))?;
     fill(&mut core, alloc, 1, 0, &words)?;
-    assert_eq!(rt; count(&core, 0), Some(2));
+    assert_eq!(rt; core.count(0), 2);
     step(&mut core, alloc, 0, Act::Begin(look(b"/a")))?;
     note(&mut core, alloc, 0, 0)?;
     step(&mut core, alloc, 0, Act::Pivot)?;
     fill(&mut core, alloc, 1, 0, &EMPTY_ROW)?;
-    assert_eq!(rt; count(&core, 0), Some(4));
+    assert_eq!(rt; core.count(0), 4);
     fill(&mut core, alloc, 1, 0, &words)?;
     let refused = step(&mut core, alloc, 0, Act::Check(0));
     assert_eq!(rt; refused, Err(Refused::Changed(0, 2, 6)));
@@ -260,7 +256,7 @@ fn a_change_shuts_what_it_touches(rt: HostRuntime) -> Result<(), Fail> {
     let refused = step(&mut core, alloc, 0, Act::Give(true));
     assert_eq!(rt; refused, Err(Refused::NoCall));
     step(&mut core, alloc, 0, Act::Give(false))?;
-    assert_eq!(rt; (count(&core, 0), core.clock()), (Some(4), 1));
+    assert_eq!(rt; (core.count(0), core.clock()), (4, 1));
     Ok(())
 }
 
@@ -274,8 +270,13 @@ fn a_list_stops_at_the_first_refusal(rt: HostRuntime) -> Result<(), Fail> {
     assert_eq!(rt; core.run(alloc, &events[2..]), Ok(()));
     assert_eq!(rt; core.run(alloc, &events[3..]), Err((0, Refused::Even)));
     assert_eq!(rt;
-        (core.rows(), count(&core, 0), count(&core, 4)),
-        (4, Some(4), None)
+        (
+            core.rows(),
+            core.count(0),
+            core.count(4),
+            core.count(u64::MAX)
+        ),
+        (4, 4, 0, 0)
     );
     Ok(())
 }

@@ -10,11 +10,11 @@ use Rattle.dc_row.specs.declared.TheConstants.{ROW_WORDS}
 use Rattle.dc_events.specs.Views.{Record, Book, View}
 use Rattle.dc_events.specs.Standing.{tree_of, Stands, weight, after}
 use Rattle.dc_events.specs.Rows.{most, base_of, count, row_words, Tells, IsUntouched}
-use Rattle.dc_events.specs.Rule.{WalkFits, BookFits, RowFits, once_below, AllEven, Rule}
+use Rattle.dc_events.specs.Rule.{WalkFits, BookFits, FaultsFit, RowFits, once_below, AllEven, Rule}
 use Rattle.dc_events.specs.Walks.{no_walk}
 use Rattle.dc_events.specs.Effects.{taken, wrote, record_of, committed, gave, answered, with_seen, with_record}
 use Rattle.dc_events.specs.Laws.{TreeLaws}
-use Rattle.dc_events.proofs.Later.{Later, view_later, walk_later, book_later}
+use Rattle.dc_events.proofs.Later.{Later, view_later, walk_later, book_later, fault_later}
 use Rattle.dc_events.proofs.Records.{tree_of-snoc, well_formed, stands_now, stands_committed, hits_snoc, strand_snoc, strand_more, no_hit, hit_here}
 use Rattle.dc_events.proofs.Facts.{tells_still, row_fits_same}
 use Rattle.dc_events.proofs.Steps.{alone}
@@ -37,6 +37,9 @@ book_sees limit hist b f = let s = f.seen in record {
 -- no call, no notes
 pub walk_done : (limit rows : ℕ) (words : List ℕ) (hist : List Request) → WalkFits limit rows words hist no_walk
 walk_done limit rows words hist = record { noted = λ i x e. absurd (some-ne-none x (sym e)); bound = λ a _. absurd (true≢false (sym a)); told = λ a _. absurd (true≢false (sym a)); unchecked = λ a _. absurd (true≢false (sym a)) }
+
+pub no_faults : (rows : ℕ) (words : List ℕ) → FaultsFit rows words []
+no_faults rows words i why e = absurd (some-ne-none why (sym e))
 
 module _ {limit rows : ℕ} {words : List ℕ} {views : List View} {hist : List Request} (R : Rule limit rows words views hist) (id : ℕ) (v : View) (at : get_elem? views id ≡ some v) where
   pub others_free : v.hold.holds ≡ true → (j : ℕ) (u : View) → j ≢ id → get_elem? views j ≡ some u → u.hold.holds ≡ true → ⊥
@@ -62,7 +65,7 @@ module _ {limit rows : ℕ} {words : List ℕ} {views : List View} {hist : List 
       (λ r l. dite (ℕ_discrete r row) (λ same. subst (λ z. RowFits (tree_of limit hist) (set words k x) z) (sym same) fits)
       (λ ne. row_fits_same (tree_of limit hist) (tree_of limit hist) words (set words k x) r (λ j low high. other_words j (λ e. ne (omega arith))) (λ _ told. told) (R.row r l)))
       (inr (other_words 1 (λ e. omega arith) ∙ H.locked, has, H.knows_history, ap (λ l. set l k x) H.knows_words))
-      (λ p. refl) (let f = view_later L limit v (R.fits id v at) in record { walk = f.walk; book = f.book; follows = f.follows })
+      (λ p. refl) (let f = view_later L limit v (R.fits id v at) in record { walk = f.walk; book = f.book; follows = f.follows; faults = f.faults })
 
   set_high : (k x : ℕ) → k < 2 → (z : ℕ) → 2 ≤ z → get_or (set words k x) z 0 ≡ get_or words z 0
   set_high k x l z m = get_or-set_other words k z x 0 (λ e. omega arith)
@@ -80,14 +83,14 @@ module _ {limit rows : ℕ} {words : List ℕ} {views : List View} {hist : List 
       let L = nothing_new rows words (set words 1 1) hist (set_high 1 1 (omega arith)) in let f = R.fits id v at in
       alone R id v (taken v (set words 1 1) hist) at (set words 1 1) hist (λ j u _ there has. let l = (R.held j u there has).locked in omega arith) L (get_or-set_other words 1 0 1 0 (λ e. omega arith) ∙ R.clock) R.early (length-set words 1 1)
       (same_rows 1 1 hist (omega arith) (λ i _ _ h. h)) (inr (now, refl, refl, refl)) (λ p. refl)
-      record { walk = walk_later L limit v.walk f.walk; book = book_sees limit hist v.book f.book; follows = λ a b. let p = f.follows a b in let s = f.book.seen in ((let q = p.0 in omega arith), p.1) }
+      record { walk = walk_later L limit v.walk f.walk; book = book_sees limit hist v.book f.book; follows = λ a b. let p = f.follows a b in let s = f.book.seen in ((let q = p.0 in omega arith), p.1); faults = λ i why there. fault_later L why (f.faults i why there) }
 
   pub gives : v.hold.holds ≡ true → AllEven rows words → Rule limit rows (set words 1 0) (set views id (gave v)) hist
   gives has even = let wide = R.wide in let now : get_or (set words 1 0) 1 0 ≡ 0 = get_or-set_same words 1 0 0 (omega arith) in
       let L = nothing_new rows words (set words 1 0) hist (set_high 1 0 (omega arith)) in let f = view_later L limit v (R.fits id v at) in
       alone R id v (gave v) at (set words 1 0) hist (others_free has) L (get_or-set_other words 1 0 0 0 (λ e. omega arith) ∙ R.clock) R.early (length-set words 1 0)
       (same_rows 1 0 hist (omega arith) (λ i _ _ h. h)) (inl (now, even_still 1 0 (omega arith) even, refl)) (λ p. refl)
-      record { walk = f.walk; book = f.book; follows = f.follows }
+      record { walk = f.walk; book = f.book; follows = f.follows; faults = f.faults }
 
   -- a call is answered and recorded; the history may have grown by it
   adds : {words' : List ℕ} {hist' : List Request} (L : Later rows words hist words' hist') (r : Record) (seen' : ℕ) → v.book.seen ≤ seen' → seen' ≤ length hist' → v.book.seen ≤ r.at
@@ -116,6 +119,7 @@ module _ {limit rows : ℕ} {words : List ℕ} {views : List View} {hist : List 
         walk = walk_done limit rows (set words 1 0) hist;
         book = adds L r (length v.hold.history) (omega arith) (omega arith) (omega arith) (subst (Stands limit hist) (sym same) (stands_now limit hist call same_tree)) (let w : weight r.altered ≡ 0 = ap weight flat in omega arith);
         follows = λ a _. absurd (true≢false (sym a));
+        faults = λ i why there. fault_later L why (f.faults i why there);
       }
 
   pub commits : TreeLaws → v.hold.holds ≡ true → (call : Request) → alters limit (tree_of limit hist) call ≡ true → length hist < most → ((i : ℕ) → i < rows → IsUntouched limit (tree_of limit hist) words i call)
@@ -142,4 +146,5 @@ module _ {limit rows : ℕ} {words : List ℕ} {views : List View} {hist : List 
         walk = walk_done limit rows (set words 0 x) (hist ++ call ∷ []);
         book = adds L r x (omega arith) (omega arith) (omega arith) (subst (Stands limit (hist ++ call ∷ [])) (sym same) (stands_committed limit hist call)) (let w : weight r.altered ≡ 1 = ap weight altered in omega arith);
         follows = λ a _. absurd (true≢false (sym a));
+        faults = λ i why there. fault_later L why (f.faults i why there);
       }

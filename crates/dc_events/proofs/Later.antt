@@ -6,10 +6,11 @@ use lib.ListN.{get_elem?}
 use Rattle.dc_plain.specs.Requests.{Request}
 use Rattle.dc_plain.specs.Runs.{reply_of, alters}
 use Rattle.dc_row.specs.declared.TheConstants.{ROW_WORDS}
-use Rattle.dc_events.specs.Views.{Note, Record, Walk, Book, View}
+use Rattle.dc_events.specs.Views.{Note, Record, Walk, Book, Fault, View}
+use Rattle.dc_events.specs.Views.Fault.{Busy, Changed}
 use Rattle.dc_events.specs.Standing.{tree_of, Stands}
 use Rattle.dc_events.specs.Rows.{base_of, count, note_words, Tells}
-use Rattle.dc_events.specs.Rule.{NoteFits, Counts, WalkFits, StrandFits, BookFits, ViewFits}
+use Rattle.dc_events.specs.Rule.{NoteFits, Counts, WalkFits, StrandFits, BookFits, FaultFits, ViewFits}
 use Rattle.dc_events.proofs.Words.{words_from_same}
 use Rattle.atomic_table.proofs.Lists.{at_longer}
 
@@ -72,5 +73,10 @@ module _ {rows : ℕ} {words : List ℕ} {hist : List Request} {words' : List �
     unchecked = f.unchecked;
   }
 
+  -- a count that was reached stays reached
+  pub fault_later : (why : Fault) → FaultFits rows words why → FaultFits rows words' why
+  fault_later (Busy row) f = f
+  fault_later (Changed row noted found) f = let l = L.counts row f.0 in let reached = f.2 in (f.0, f.1, omega arith)
+
   pub view_later : (limit : ℕ) (v : View) → ViewFits limit rows words hist v → ViewFits limit rows words' hist' v
-  view_later limit v f = record { walk = walk_later limit v.walk f.walk; book = book_later limit hist hist' L.ext L.is v.book f.book; follows = f.follows }
+  view_later limit v f = record { walk = walk_later limit v.walk f.walk; book = book_later limit hist hist' L.ext L.is v.book f.book; follows = f.follows; faults = λ i why at. fault_later why (f.faults i why at) }

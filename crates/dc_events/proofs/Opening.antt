@@ -12,7 +12,7 @@ use Rattle.dc_events.specs.Views.{View}
 use Rattle.dc_events.specs.Rows.{base_of, count, words_from, row_words, opening_words}
 use Rattle.dc_events.specs.Rule.{ViewFits, StrandFits, Rule, RowFits, total, view_hits, once_below}
 use Rattle.dc_events.specs.Effects.{nobody}
-use Rattle.dc_events.proofs.Holder.{walk_done}
+use Rattle.dc_events.proofs.Holder.{walk_done, no_faults}
 
 zeros : (n i : ℕ) → get_or {A = ℕ} (replicate n 0) i 0 ≡ 0
 zeros zero i = refl
@@ -67,6 +67,7 @@ nobody_fits limit rows = record {
   walk = walk_done limit rows (opening_words rows) [];
   book = record { own = no_records limit; joined = λ i s e. absurd (some-ne-none s (sym e)); seen = omega arith };
   follows = λ busy. absurd (true≢false (sym busy));
+  faults = no_faults rows (opening_words rows);
 }
 
 no_hits : (p n : ℕ) → total (view_hits p) (replicate n nobody) ≡ 0

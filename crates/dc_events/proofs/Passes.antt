@@ -8,13 +8,13 @@ use lib.ListN.{get_elem?}
 use Rattle.dc_plain.specs.Requests.{Request}
 use Rattle.dc_events.specs.Views.{Record, Walk, Book, View}
 use Rattle.dc_events.specs.Standing.{all_hits}
-use Rattle.dc_events.specs.Rule.{StrandFits, WalkFits, BookFits, ViewFits, view_hits, HoldFits, Locked, Rule}
+use Rattle.dc_events.specs.Rule.{StrandFits, WalkFits, BookFits, FaultsFit, ViewFits, view_hits, HoldFits, Locked, Rule}
 use Rattle.dc_events.specs.Effects.{nobody}
 use Rattle.dc_events.specs.Walks.{no_walk}
 use Rattle.dc_events.specs.Passes.{newcomer, books_joined, joined_with}
 use Rattle.dc_events.proofs.Totals.{total_set, total_snoc}
 use Rattle.dc_events.proofs.Records.{strand_more}
-use Rattle.dc_events.proofs.Holder.{walk_done}
+use Rattle.dc_events.proofs.Holder.{walk_done, no_faults}
 use Rattle.dc_events.proofs.Steps.{seats_stay, set_mine}
 use Rattle.atomic_table.proofs.Lists.{at_snoc, at_longer, set_else}
 
@@ -35,8 +35,8 @@ no_records : (limit : ℕ) (hist : List Request) (seen : ℕ) → StrandFits lim
 no_records limit hist seen = record { stand = λ i r e. absurd (some-ne-none r (sym e)); rising = tt; within = omega arith }
 
 -- a view of no walk and no record
-fresh : (limit rows : ℕ) (words : List ℕ) (hist : List Request) (v : View) → v.walk ≡ no_walk → v.book.own ≡ [] → v.book.joined ≡ [] → v.book.seen ≤ length hist → ViewFits limit rows words hist v
-fresh limit rows words hist v walk own joined seen = record {
+fresh : (limit rows : ℕ) (words : List ℕ) (hist : List Request) (v : View) → v.walk ≡ no_walk → v.book.own ≡ [] → v.book.joined ≡ [] → v.faults ≡ [] → v.book.seen ≤ length hist → ViewFits limit rows words hist v
+fresh limit rows words hist v walk own joined none seen = record {
   walk = subst (WalkFits limit rows words hist) (sym walk) (walk_done limit rows words hist);
   book = record {
     own = subst (StrandFits limit hist v.book.seen) (sym own) (no_records limit hist v.book.seen);
@@ -44,6 +44,7 @@ fresh limit rows words hist v walk own joined seen = record {
     seen = seen;
   };
   follows = λ busy. absurd (true≢false (sym busy ∙ ap (λ (w : Walk). w.busy) walk));
+  faults = subst (FaultsFit rows words) (sym none) (no_faults rows words);
 }
 
 books_fit : (limit : ℕ) (hist : List Request) (a b : Book) → BookFits limit hist a → BookFits limit hist b → BookFits limit hist (books_joined a b)
@@ -67,7 +68,7 @@ module _ {limit rows : ℕ} {words : List ℕ} {views : List View} {hist : List 
     row = R.row;
     lock = ⊎_elim inl (λ (l : Locked words views R.holder). inr (l.0, (l.1.0, at_longer views (newcomer v ∷ []) R.holder l.1.0 l.1.1, l.1.2))) R.lock;
     held = all_cut (λ j u. u.hold.holds ≡ true → HoldFits words hist R.holder j u.hold) (λ j has. absurd (true≢false (sym has))) (λ j u. R.held j u);
-    fits = all_cut (λ j u. ViewFits limit rows words hist u) (λ j. fresh limit rows words hist (newcomer v) refl refl refl (R.fits id v at).book.seen) (λ j u. R.fits j u);
+    fits = all_cut (λ j u. ViewFits limit rows words hist u) (λ j. fresh limit rows words hist (newcomer v) refl refl refl refl (R.fits id v at).book.seen) (λ j u. R.fits j u);
     once = λ p. let a = total_snoc (view_hits p) views (newcomer v) in let c = R.once p in omega arith;
   }
 
@@ -101,8 +102,9 @@ module _ {limit rows : ℕ} {words : List ℕ} {views : List View} {hist : List 
             walk = f.walk;
             book = books_fit limit hist v.book w.book f.book g.book;
             follows = λ x y. let p = f.follows x y in let l = le-max_left v.book.seen w.book.seen in ((let q = p.0 in omega arith), p.1);
+            faults = f.faults;
           }
-          (λ j. fresh limit rows words hist nobody refl refl refl (omega arith)) (λ j u. R.fits j u);
+          (λ j. fresh limit rows words hist nobody refl refl refl refl (omega arith)) (λ j u. R.fits j u);
       once = λ p. let a = total_set (view_hits p) views id v both at in let b = total_set (view_hits p) (set views id both) other w nobody (set_else views id other both apart ∙ there) in
           let c = R.once p in let d = all_hits-append p v.book.joined (w.book.own ∷ w.book.joined) in omega arith;
     }

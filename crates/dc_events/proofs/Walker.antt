@@ -18,7 +18,7 @@ use Rattle.dc_events.proofs.Records.{hits_snoc, no_hit, strand_snoc, take_whole}
 use Rattle.dc_events.proofs.Below.{FactsBelow}
 use Rattle.dc_events.proofs.Facts.{facts_true, answer_true}
 use Rattle.dc_events.proofs.Words.{words_from-snoc}
-use Rattle.dc_events.proofs.Holder.{walk_done, book_sees}
+use Rattle.dc_events.proofs.Holder.{walk_done, no_faults, book_sees}
 use Rattle.atomic_table.proofs.Lists.{at_set, at_snoc}
 
 -- a whole note whose count is its row's is the row
@@ -49,18 +49,19 @@ module _ {limit rows : ℕ} {words : List ℕ} {hist : List Request} where
     walk = record { noted = notes; bound = λ _ p. absurd (true≢false (sym p ∙ fresh)); told = λ _ p. absurd (true≢false (sym p ∙ fresh)); unchecked = λ b _ i x at. plain i x at b };
     book = f.book;
     follows = λ _ p. absurd (true≢false (sym p ∙ fresh));
+    faults = f.faults;
   }
 
   pub begins : (v : View) (call : Request) → ViewFits limit rows words hist v → ViewFits limit rows words hist (begun v call)
   begins v call f = let g = unpivoted {v = v} {w = record { busy = true; call = call; notes = []; pivoted = false; pivot = 0 }} {loads = v.loads} f refl (λ i x e. absurd (some-ne-none x (sym e))) (λ i x e. absurd (some-ne-none x (sym e))) in
-      record { walk = g.walk; book = g.book; follows = g.follows }
+      record { walk = g.walk; book = g.book; follows = g.follows; faults = no_faults rows words }
 
   pub agains : (v : View) → ViewFits limit rows words hist v → ViewFits limit rows words hist (again v)
   agains v f = let g = unpivoted {v = v} {w = record v.walk { notes = []; pivoted = false; pivot = 0 }} {loads = v.loads} f refl (λ i x e. absurd (some-ne-none x (sym e))) (λ i x e. absurd (some-ne-none x (sym e))) in
-      record { walk = g.walk; book = g.book; follows = g.follows }
+      record { walk = g.walk; book = g.book; follows = g.follows; faults = no_faults rows words }
 
   pub quits : (v : View) → ViewFits limit rows words hist v → ViewFits limit rows words hist (quit v)
-  quits v f = record { walk = walk_done limit rows words hist; book = f.book; follows = λ a _. absurd (true≢false (sym a)) }
+  quits v f = record { walk = walk_done limit rows words hist; book = f.book; follows = λ a _. absurd (true≢false (sym a)); faults = f.faults }
 
   pub notes : (v : View) (row found : ℕ) → row < rows → found ≡ count words row → found % 2 ≡ 0 → v.walk.pivoted ≡ false → ViewFits limit rows words hist v → ViewFits limit rows words hist (noted v row found)
   notes v row found inside is even fresh f = let one : Note = record { row = row; count = found; words = []; checked = false } in
@@ -88,6 +89,7 @@ module _ {limit rows : ℕ} {words : List ℕ} {hist : List Request} where
     };
     book = subst (λ n. BookFits limit hist (with_seen v.book n)) (sym is) (book_sees limit hist v.book f.book);
     follows = λ b _. let w = f.book.own.within in let p = point b in (omega arith, omega arith);
+    faults = f.faults;
   }
 
   pub marks : (v : View) (i : ℕ) → v.walk.pivoted ≡ true → get_elem? v.walk.notes i ≡ some (note_at v i) → IsWhole (note_at v i) → (note_at v i).count ≡ count words (note_at v i).row → ViewFits limit rows words hist v → ViewFits limit rows words hist (marked v i)
@@ -102,6 +104,7 @@ module _ {limit rows : ℕ} {words : List ℕ} {hist : List Request} where
     };
     book = f.book;
     follows = f.follows;
+    faults = f.faults;
   }
 
   pub concludes : FactsBelow → (v : View) (o : Option Answer) → (v.walk.busy ≡ true → v.walk.pivoted ≡ true) → answer_in v.walk ≡ o → ViewFits limit rows words hist v → ViewFits limit rows words hist (concluded v o)
@@ -117,6 +120,7 @@ module _ {limit rows : ℕ} {words : List ℕ} {hist : List Request} where
           seen = f.book.seen;
         };
         follows = λ a _. absurd (true≢false (sym a));
+        faults = f.faults;
       }
 
 pub concluded_hits : (p : ℕ) (v : View) (o : Option Answer) → view_hits p (concluded v o) ≡ view_hits p v

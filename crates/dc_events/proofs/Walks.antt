@@ -1,5 +1,5 @@
 -- Each event of an actor that walks keeps the rule.
-use Rattle.std.proofs.Common.{◌≡◌, ℕ, ◌+◌, ◌-◌, ◌%◌, ◌<◌, true, false, List, length, get_or, set, refl, sym, ap, subst}
+use Rattle.std.proofs.Common.{◌≡◌, ℕ, ◌+◌, ◌-◌, ◌%◌, ◌<◌, true, false, List, length, get_or, set, refl, sym, ap, subst, ⊎_elim}
 use Rattle.std.proofs.lemmas.List.{set-set}
 use mathlib.Core.Option.{some}
 use lib.ListN.{get_elem?}
@@ -7,13 +7,14 @@ use Rattle.dc_plain.specs.Requests.{Request}
 use Rattle.dc_row.specs.declared.TheConstants.{ROW_WORDS}
 use Rattle.dc_events.specs.Views.{Walk, Book, View}
 use Rattle.dc_events.specs.Rows.{base_of, count, IsWhole}
-use Rattle.dc_events.specs.Rule.{WalkFits, BookFits, Follows, book_hits, Rule}
+use Rattle.dc_events.specs.Rule.{WalkFits, BookFits, Follows, FaultFits, book_hits, Rule}
 use Rattle.dc_events.specs.Laws.{LoadsTellNothing}
 use Rattle.dc_events.specs.Noted.{answer_in}
 use Rattle.dc_events.specs.Effects.{begun, again, quit, noted, note_at, read, turned, pivoted, marked, checked}
 use Rattle.dc_events.proofs.Below.{FactsBelow}
 use Rattle.dc_events.proofs.Steps.{quiet, set_mine}
 use Rattle.dc_events.proofs.Walker as walker
+use Rattle.atomic_table.proofs.Lists.{at_snoc}
 use Rattle.dc_events.specs.Views.{Fault}
 use Rattle.dc_events.specs.Effects.{faulted}
 
@@ -45,13 +46,19 @@ module _ {limit rows : ℕ} {words : List ℕ} {views : List View} {hist : List 
       quiet R id v (checked v i) at (walker.concluded_hold w (answer_in w.walk)) (λ p. walker.concluded_hits p w (answer_in w.walk))
       (walker.concludes laws w (answer_in w.walk) (λ _. turned) refl (walker.marks v i turned there whole same (R.fits id v at)))
 
-  pub faults_keep : (why : Fault) → Rule limit rows words (set views id (faulted v why)) hist
-  faults_keep why = let f = R.fits id v at in quiet R id v (faulted v why) at refl (λ p. refl) record { walk = f.walk; book = f.book; follows = f.follows }
+  pub faults_keep : (why : Fault) → FaultFits rows words why → Rule limit rows words (set views id (faulted v why)) hist
+  faults_keep why met = let f = R.fits id v at in quiet R id v (faulted v why) at refl (λ p. refl) record {
+    walk = f.walk;
+    book = f.book;
+    follows = f.follows;
+    faults = λ i x there. ⊎_elim (λ (h : get_elem? v.faults i ≡ some x). f.faults i x h) (λ (h : why ≡ x). subst (FaultFits rows words) h met) (at_snoc v.faults why x i there);
+  }
 
 pub unloaded : LoadsTellNothing
-unloaded limit rows words views hist id u v w at R walk book hold = let here = set_mine views id u v at in let f = R.fits id v here in
+unloaded limit rows words views hist id u v w at R walk book hold faults = let here = set_mine views id u v at in let f = R.fits id v here in
     subst (λ vs. Rule limit rows words vs hist) (set-set views id v w) (quiet R id v w here hold (λ p. ap (book_hits p) book) record {
       walk = subst (WalkFits limit rows words hist) (sym walk) f.walk;
       book = subst (BookFits limit hist) (sym book) f.book;
       follows = subst (λ (z : Walk × Book). Follows z.0 z.1) (λ i. (sym walk i, sym book i)) f.follows;
+      faults = faults;
     })

@@ -13,7 +13,7 @@ use Rattle.dc_row.specs.declared.TheConstants.{ROW_WORDS}
 use Rattle.dc_events.specs.Views.{Record, Fault, View}
 use Rattle.dc_events.specs.Standing.{tree_of, Stands, Rising, all_hits}
 use Rattle.dc_events.specs.Rows.{most, base_of, count, row_words, Tells, IsWhole, opening_words, IsUntouched}
-use Rattle.dc_events.specs.Rule.{Rule, AllEven, once_below}
+use Rattle.dc_events.specs.Rule.{Rule, AllEven, FaultFits, FaultsFit, once_below}
 use Rattle.dc_events.specs.Effects.{begun, again, quit, taken, wrote, committed, gave, answered, noted, note_at, read, pivoted, checked, faulted, nobody}
 use Rattle.dc_events.specs.Passes.{newcomer, joined_with}
 use Rattle.dc_events.specs.Legal.{Legal}
@@ -51,12 +51,12 @@ pub record WalkersKeepTheRule : Type 0 where
   pub pivot : Seated (λ limit rows words views hist id v. (v.walk.busy ≡ true → v.walk.pivoted ≡ false) → Rule limit rows words (set views id (pivoted v (get_or words 0 0))) hist)
   pub check : Seated (λ limit rows words views hist id v. (i : ℕ) → v.walk.pivoted ≡ true → get_elem? v.walk.notes i ≡ some (note_at v i) → IsWhole (note_at v i) → (note_at v i).count ≡ count words (note_at v i).row
       → Rule limit rows words (set views id (checked v i)) hist)
-  pub fault : Seated (λ limit rows words views hist id v. (why : Fault) → Rule limit rows words (set views id (faulted v why)) hist)
+  pub fault : Seated (λ limit rows words views hist id v. (why : Fault) → FaultFits rows words why → Rule limit rows words (set views id (faulted v why)) hist)
 
--- the rule says nothing of loads and faults
+-- the rule says nothing of loads, and of faults only that they fit
 abbrev pub LoadsTellNothing : Type 0
 LoadsTellNothing = (limit rows : ℕ) (words : List ℕ) (views : List View) (hist : List Request) (id : ℕ) (u v w : View) → get_elem? views id ≡ some u
-    → Rule limit rows words (set views id v) hist → w.walk ≡ v.walk → w.book ≡ v.book → w.hold ≡ v.hold → Rule limit rows words (set views id w) hist
+    → Rule limit rows words (set views id v) hist → w.walk ≡ v.walk → w.book ≡ v.book → w.hold ≡ v.hold → FaultsFit rows words w.faults → Rule limit rows words (set views id w) hist
 
 -- the steps of passes, which change views alone
 pub record PassesKeepTheRule : Type 0 where

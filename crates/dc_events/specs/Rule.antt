@@ -6,7 +6,8 @@ use Rattle.dc_plain.specs.Requests.{Request}
 use Rattle.dc_plain.specs.Trees.{Tree}
 use Rattle.dc_row.specs.Spelling.{Spells}
 use Rattle.dc_row.specs.declared.TheConstants.{ROW_WORDS}
-use Rattle.dc_events.specs.Views.{Note, Record, Walk, Book, Hold, View}
+use Rattle.dc_events.specs.Views.{Note, Record, Walk, Book, Hold, Fault, View}
+use Rattle.dc_events.specs.Views.Fault.{Busy, Changed}
 use Rattle.dc_events.specs.Standing.{tree_of, Stands, Rising, ends, hits, all_hits}
 use Rattle.dc_events.specs.Rows.{most, base_of, count, words_from, row_words, Tells, note_words, IsWhole}
 
@@ -62,6 +63,14 @@ pub record BookFits (limit : ℕ) (hist : List Request) (b : Book) : Type 0 wher
 abbrev pub Follows : Walk → Book → Type 0
 Follows w b = w.busy ≡ true → w.pivoted ≡ true → (w.pivot ≤ b.seen) × (ends 0 b.own ≤ w.pivot)
 
+-- a fault is of a row of the table, and a count that was found is above the noted one and has been reached
+abbrev pub FaultFits : ℕ → List ℕ → Fault → Type 0
+FaultFits rows words (Busy row) = row < rows
+FaultFits rows words (Changed row noted found) = (row < rows) × (noted < found) × (found ≤ count words row)
+
+abbrev pub FaultsFit : ℕ → List ℕ → List Fault → Type 0
+FaultsFit rows words faults = (i : ℕ) (why : Fault) → get_elem? faults i ≡ some why → FaultFits rows words why
+
 -- what is so of each view, whoever has the lock
 pub record ViewFits (limit rows : ℕ) (words : List ℕ) (hist : List Request) (v : View) : Type 0 where
   -- its walk fits the words and the history
@@ -70,6 +79,8 @@ pub record ViewFits (limit rows : ℕ) (words : List ℕ) (hist : List Request) 
   pub book : BookFits limit hist v.book
   -- an answer at its pivot comes after its own records
   pub follows : Follows v.walk v.book
+  -- the faults of its walk were met
+  pub faults : FaultsFit rows words v.faults
 
 -- what is so of each row, by the tree now
 pub record RowFits (t : Tree) (words : List ℕ) (row : ℕ) : Type 0 where

@@ -5,11 +5,9 @@
 
 mod laws;
 mod sizes;
-#[cfg(test)]
-mod tests;
 
 pub use laws::{
     events_keep_the_rule, loads_tell_nothing, new_tables_have_the_rule, passes_keep_the_rule,
     records_are_legal,
 };
-pub use sizes::{MOST_BUCKETS, MakeFault, are_right};
+pub use sizes::{MakeFault, are_right};

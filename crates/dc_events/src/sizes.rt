@@ -4,14 +4,13 @@ ghost use Rattle.std.specs.Prelude.{◌≡◌};
 ghost use Rattle.dc_events.specs.Sizes.{are_right};
 ghost use Rattle.dc_events.specs.declared.sizes.MakeFault.TheVariants.{NoMemory as WantOfMemory};
 
-use dc_names::NoMemory;
-use dc_plain::MOST_INODES;
+use dc_names::{MOST_BUCKETS, MOST_INODES, NoMemory};
 use std::alloc::AllocError;
-
-/// The most buckets that a table has.
-pub const MOST_BUCKETS: u64 = 1024;
+use std::error::Error;
+use std::fmt;
 
 /// Whether a table may have so many buckets, and so many inodes live in it.
+#[must_use]
 pub fn are_right(buckets: u64, max_inodes: u64) -> bool
     ensures { result ≡ are_right buckets max_inodes }
 {
@@ -45,3 +44,14 @@ impl From<AllocError> for MakeFault {
         MakeFault::NoMemory
     }
 }
+
+impl fmt::Display for MakeFault {
+    fn fmt<W: fmt::Write>(&self, f: &mut fmt::Formatter<W>) -> fmt::Result {
+        f.write_str(match self {
+            MakeFault::BadSize => "no such size",
+            MakeFault::NoMemory => "no memory",
+        })
+    }
+}
+
+impl Error for MakeFault {}

@@ -1,6 +1,7 @@
 -- The rows of the cache, each with the key that it has.
 use Rattle.std.specs.Prelude.{◌≡◌, ◌↔◌, ℕ, ◌*◌, ◌<◌, ◌≤◌, ◌/◌, ◌%◌, Bool, true, false, ◌==◌, ◌&&◌, List, length, slice_index_or, Option, Some}
 use Rattle.dc_names.specs.Hash.{hash_of}
+use Rattle.dc_names.specs.declared.limits.TheConstants.{BUCKET_ROWS, MOST_ROWS}
 use Rattle.dc_plain.specs.Facts.{Key, same_label, label_bytes}
 
 -- a row: free, never to be used again, or with the key that it has
@@ -42,16 +43,16 @@ bucket_of key buckets = hash_of key.number (label_bytes key.label) % buckets
 
 -- the bucket of a key, of those that the rows make
 abbrev pub bucket_in : List Slot → Key → ℕ
-bucket_in slots key = bucket_of key (length slots / 4)
+bucket_in slots key = bucket_of key (length slots / BUCKET_ROWS)
 
 -- the row that has a key, or none where no row has it
 abbrev pub IsRowOf : List Slot → Key → Option ℕ → Type 0
 IsRowOf slots key found = (row : ℕ) → (found ≡ Some row) ↔ (slot_of slots row ≡ Holds key)
 
--- four rows a bucket; a key stands in its bucket, in one row at most
+-- the rows are those of whole buckets, one at least; a key stands in its bucket, in one row at most
 pub record IsIndex (slots : List Slot) : Type 0 where
-  pub some : 0 < length slots / 4
-  pub short : length slots ≤ 4096
-  pub fours : 4 * (length slots / 4) ≡ length slots
-  pub home : (row : ℕ) (key : Key) → slot_of slots row ≡ Holds key → row / 4 ≡ bucket_in slots key
+  pub some : 0 < length slots / BUCKET_ROWS
+  pub short : length slots ≤ MOST_ROWS
+  pub fours : BUCKET_ROWS * (length slots / BUCKET_ROWS) ≡ length slots
+  pub home : (row : ℕ) (key : Key) → slot_of slots row ≡ Holds key → row / BUCKET_ROWS ≡ bucket_in slots key
   pub one : (row other : ℕ) (key : Key) → slot_of slots row ≡ Holds key → slot_of slots other ≡ Holds key → row ≡ other

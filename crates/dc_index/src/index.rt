@@ -1,4 +1,7 @@
+//! The index: for each row of the cache its key, and for each key its row.
+
 ghost use Rattle.std.specs.Prelude.{◌≡◌, ◌<◌, ◌≤◌, ◌*◌, ◌/◌, ◌%◌, ◌≢◌, ℕ, OnOk, OnErr, IfOk, IfSome, length, replicate, slice_set, map};
+ghost use Rattle.dc_names.specs.declared.limits.TheConstants.{MOST_BUCKETS};
 ghost use Rattle.dc_plain.specs.KeysShown.{key_shown};
 ghost use Rattle.dc_index.specs.Slots.{slot_of, cleared, bucket_of, bucket_in, IsIndex, IsRowOf};
 ghost use Rattle.dc_index.specs.Slots.Slot.{Free as IsFree, Retired as IsRetired, Holds};
@@ -6,13 +9,13 @@ ghost use Rattle.dc_index.specs.OwnKeys.{slot_shown};
 ghost use Rattle.dc_index.specs.Choices.{first_free, slots_in, choice, AgreeIn, MayTake};
 
 use crate::slot::{OwnKey, Slot, free_slots, place_of_free, place_of_key};
-use dc_names::{NoMemory, hash};
+use dc_names::{BUCKET_ROWS, NoMemory, hash};
 use dc_plain::Key;
 use dc_shrink::Shrinker;
 use std::alloc::Global;
 use std::marker::Model;
 
-/// For each row the key that it has, if any. A bucket has four rows, and its keys stand in these.
+/// For each row the key that it has, if any. A bucket has `BUCKET_ROWS` rows, and its keys stand in these.
 #[derive(Drop)]
 pub struct Index {
     slots: Vec<Slot>,
@@ -32,6 +35,8 @@ impl Model for Index {
 
 /// The bucket of a key among so many, at least one: by the hash of its number and of its label's
 /// bytes, which are a name, the two dots of dot-dot, or none for a text.
+#[must_use]
+// Inlined, as is `bucket_at`: the test for a power of two is made once where the number is known.
 #[inline(always)]
 pub fn bucket_of(key: &Key<'_>, buckets: u64) -> u64
     requires { 0 < buckets }
@@ -43,6 +48,8 @@ pub fn bucket_of(key: &Key<'_>, buckets: u64) -> u64
 
 /// The bucket of a key by its hash. The number of buckets is mostly a power of two, and then nothing is
 /// divided.
+#[must_use]
+// Inlined: three instructions on the path of each look-up.
 #[inline(always)]
 pub fn bucket_at(hash: u64, buckets: u64) -> u64
     requires { 0 < buckets }
@@ -57,57 +64,59 @@ pub fn bucket_at(hash: u64, buckets: u64) -> u64
 }
 
 impl Index {
-    /// No row has a key. There are 1 to 1,024 buckets.
+    /// No row has a key. There are 1 to `MOST_BUCKETS` buckets.
     pub fn new(alloc: Global, buckets: u64) -> Result<Index, NoMemory>
-        requires { (0 < buckets) × (buckets ≤ 1024) }
-        ensures new { IfOk result (λ index. index ≡ replicate (4 * buckets) IsFree) }
+        requires { (0 < buckets) × (buckets ≤ MOST_BUCKETS) }
+        ensures new { IfOk result (λ index. index ≡ replicate (BUCKET_ROWS * buckets) IsFree) }
         ensures free { IfOk result (λ index. (row : ℕ) → slot_of index row ≡ IsFree) }
     {
-        let slots = free_slots(alloc, 4 * buckets)?;
+        let slots = free_slots(alloc, BUCKET_ROWS * buckets)?;
         Ok(Index { slots })
     }
 
     /// The bucket of a key.
     fn bucket(&self, key: &Key<'_>) -> u64
         ensures bucket { result ≡ bucket_in self.now (key_shown key.now) }
-        ensures within { result < length self.now / 4 }
+        ensures within { result < length self.now / BUCKET_ROWS }
     {
-        bucket_of(key, (self.slots.len() / 4) as u64)
+        bucket_of(key, self.slots.len() as u64 / BUCKET_ROWS)
     }
 
     /// The slots of a bucket.
     fn slots_in(&self, bucket: u64) -> &[Slot]
-        requires { bucket < length self.now / 4 }
+        requires { bucket < length self.now / BUCKET_ROWS }
         ensures slots { map slot_shown result.now ≡ slots_in self.now bucket }
         ensures valid { IsIndex self.now }
     {
         let slots = self.slots.as_slice();
-        let first = 4 * bucket as usize;
-        &slots[first..first + 4]
+        let first = (BUCKET_ROWS * bucket) as usize;
+        &slots[first..first + BUCKET_ROWS as usize]
     }
 
     /// The row that has a key.
+    #[must_use]
     pub fn row_of(&self, key: &Key<'_>) -> Option<u64>
         ensures row { IsRowOf self.now (key_shown key.now) result }
         ensures valid { IsIndex self.now }
     {
         let bucket = self.bucket(key);
         let place = place_of_key(self.slots_in(bucket), key)?;
-        Some(4 * bucket + place as u64)
+        Some(BUCKET_ROWS * bucket + place as u64)
     }
 
     /// The free row of a bucket with the lowest number.
     fn first_free(&self, bucket: u64) -> Option<u64>
-        requires { bucket < length self.now / 4 }
+        requires { bucket < length self.now / BUCKET_ROWS }
         ensures row { result ≡ first_free self.now bucket }
         ensures valid { IsIndex self.now }
     {
         let place = place_of_free(self.slots_in(bucket))?;
-        Some(4 * bucket + place as u64)
+        Some(BUCKET_ROWS * bucket + place as u64)
     }
 
     /// The row for a key that has none: the free row of its bucket with the lowest number, or else
     /// its bucket's least recently used unpinned row, or `None`.
+    #[must_use]
     pub fn choose(&self, shrinker: &Shrinker, key: &Key<'_>) -> Option<u64>
         requires { AgreeIn (bucket_in self.now (key_shown key.now)) self.now shrinker.now }
         ensures choice { result ≡ choice self.now shrinker.now (key_shown key.now) }
@@ -120,7 +129,7 @@ impl Index {
 
     /// Gives a key without a row a row of its bucket, which loses the key that it had.
     pub fn set(&mut self, alloc: Global, row: u64, key: &Key<'_>) -> Result<(), NoMemory>
-        requires home { row / 4 ≡ bucket_in self.old (key_shown key.now) }
+        requires home { row / BUCKET_ROWS ≡ bucket_in self.old (key_shown key.now) }
         requires unretired { slot_of self.old row ≢ IsRetired }
         requires absent { (other : ℕ) → slot_of self.old other ≢ Holds (key_shown key.now) }
         ensures set { OnOk result (self.new ≡ slice_set self.old row (Holds (key_shown key.now))) }

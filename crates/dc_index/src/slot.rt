@@ -1,3 +1,5 @@
+//! What is known of one row: free, retired, or the key that it has.
+
 ghost use Rattle.std.specs.Prelude.{◌≡◌, IfOk, map, position};
 ghost use Rattle.std.specs.List.{range_with_len};
 ghost use Rattle.dc_index.specs.declared.slot.Slot.TheVariants as slot;
@@ -34,6 +36,7 @@ pub(crate) enum Slot {
 }
 
 impl OwnLabel {
+    /// A label by value.
     fn of(alloc: Global, label: &Label<'_>) -> Result<OwnLabel, AllocError>
         ensures { IfOk result (λ own. own_label_shown own ≡ label_shown label.now) }
     {

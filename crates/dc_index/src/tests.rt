@@ -1,4 +1,5 @@
 ghost use Rattle.std.specs.Prelude.{◌≡◌, ◌≢◌, ◌*◌, ◌/◌, ℕ, ◌<◌, ◌≤◌, IfOk, OnOk, IsTrue, length, not, true, slice_set};
+ghost use Rattle.dc_names.specs.declared.limits.TheConstants.{MOST_BUCKETS};
 ghost use Rattle.dc_plain.specs.KeysShown.{key_shown};
 ghost use Rattle.dc_shrink.specs.Listings.{is_used};
 ghost use Rattle.dc_shrink.specs.Uses.{KeepsUse, SetsUse, UsesNone};
@@ -6,7 +7,7 @@ ghost use Rattle.dc_index.specs.Slots.{slot_of, bucket_in, has_key};
 ghost use Rattle.dc_index.specs.Slots.Slot.{Free, Retired, Holds};
 
 use crate::{Index, bucket_at, bucket_of};
-use dc_names::{Name, NoMemory, hash};
+use dc_names::{BUCKET_ROWS, Name, NoMemory, hash};
 use dc_plain::{Key, Label};
 use dc_shrink::{PinFault, Shrinker};
 use std::alloc::Global;
@@ -16,8 +17,8 @@ use std::test::*;
 // So the test passes whichever allocation `rt try --test --fail-alloc N` refuses.
 
 fn new_index_again(alloc: Global, buckets: u64) -> Result<Index, NoMemory>
-    requires { (0 < buckets) × (buckets ≤ 1024) }
-    ensures rows { IfOk result (λ index. length index ≡ 4 * buckets) }
+    requires { (0 < buckets) × (buckets ≤ MOST_BUCKETS) }
+    ensures rows { IfOk result (λ index. length index ≡ BUCKET_ROWS * buckets) }
     ensures free { IfOk result (λ index. (row : ℕ) → slot_of index row ≡ Free) }
 {
     match Index::new(alloc, buckets) {
@@ -38,7 +39,7 @@ fn new_shrinker_again(alloc: Global, rows: u64) -> Result<Shrinker, NoMemory>
 }
 
 fn set_again(index: &mut Index, alloc: Global, row: u64, key: &Key<'_>) -> Result<(), NoMemory>
-    requires home { row / 4 ≡ bucket_in index.old (key_shown key.now) }
+    requires home { row / BUCKET_ROWS ≡ bucket_in index.old (key_shown key.now) }
     requires unretired { slot_of index.old row ≢ Retired }
     requires absent { (other : ℕ) → slot_of index.old other ≢ Holds (key_shown key.now) }
     ensures { OnOk result (index.new ≡ slice_set index.old row (Holds (key_shown key.now))) }
@@ -57,10 +58,10 @@ fn set_again(index: &mut Index, alloc: Global, row: u64, key: &Key<'_>) -> Resul
 /// The row that a key is to have among free ones, the row that it is to have once that one is
 /// retired, where it is found then, and where after its row was cleared.
 fn rows_of(alloc: Global, buckets: u64, key: &Key<'_>) -> Result<[Option<u64>; 4], NoMemory>
-    requires { (0 < buckets) × (buckets ≤ 1024) }
+    requires { (0 < buckets) × (buckets ≤ MOST_BUCKETS) }
 {
     let mut index = new_index_again(alloc, buckets)?;
-    let shrinker = new_shrinker_again(alloc, 4 * buckets)?;
+    let shrinker = new_shrinker_again(alloc, BUCKET_ROWS * buckets)?;
     let Some(first) = index.choose(&shrinker, key) else {
         return Ok([None; 4]);
     };

@@ -7,3 +7,7 @@ pub mod AnswerWords
 pub mod Responses
 pub mod ReplyLines
 mod WorkedLines
+pub mod LinesLemmas
+pub mod Readings
+pub mod Splits
+pub mod Serving

@@ -1,5 +1,5 @@
 -- What a line means is what reading computes, and nothing else.
-use Rattle.std.proofs.Common.{◌≡◌, ℕ, ◌==◌, ◌||◌, Bool, true, false, List, [], ◌∷◌, Option, Some, None, Result, Ok, Err, IfOk, IsErrOf, option_map, map, length, refl, sym, ap, ◌∙◌, inl, inr, cond, codes, subst, find}
+use Rattle.std.proofs.Common.{◌≡◌, ℕ, ◌==◌, ◌||◌, Bool, true, false, List, [], ◌∷◌, Option, Some, None, Result, Ok, Err, IfOk, IsErrOf, IsTrue, option_map, map, length, refl, sym, ap, ◌∙◌, inl, inr, cond, codes, subst, find}
 use Rattle.std.specs.Fmt.{decimal}
 use Rattle.std.specs.List.{list_any}
 use Rattle.std.specs.Str.{bytes_eq}
@@ -13,9 +13,9 @@ use Rattle.dc_lang.specs.declared.line.LineFault.TheVariants.{Bad, NoMemory}
 use Rattle.dc_lang.specs.declared.line.Verb.{Verb}
 use Rattle.dc_lang.specs.declared.line.Verb.TheVariants as verbs
 use Rattle.dc_lang.specs.Words.{spelled, spaced}
-use Rattle.dc_lang.specs.Commands.{Order, IsOrder, Meaning, Means, verb_text, word_count, line_text, meaning_of}
+use Rattle.dc_lang.specs.Commands.{Order, IsOrder, Meaning, Means, verb_text, word_count, flags_stand, line_text, meaning_of}
 use Rattle.dc_lang.specs.Commands.Meaning.{Sync, Orders}
-use Rattle.dc_lang.specs.Reading.{session_in, all_verbs, verb_in, words_in, counted_words, ◌>>=◌, order_in, parts, meaning_in, Reads}
+use Rattle.dc_lang.specs.Reading.{session_in, all_verbs, verb_in, words_in, flagged, counted_words, ◌>>=◌, order_in, parts, meaning_in, Reads}
 use Rattle.dc_lang.proofs.Words.{chosen, words_in-spelled, words_in_spells}
 use Rattle.dc_lang.proofs.Parts.{HasNoSpace, all_spelled, parts-spaced}
 use Rattle.dc_lang.proofs.Sessions.{session_in-decimal, session_in_spells, HasNoSpace-session}
@@ -39,6 +39,7 @@ verb_in-verb_text verbs.Symlink = refl
 verb_in-verb_text verbs.Unlink = refl
 verb_in-verb_text verbs.Rmdir = refl
 verb_in-verb_text verbs.Rename = refl
+verb_in-verb_text verbs.Rename2 = refl
 
 neither : (a b : Bool) → (a || b) ≡ false → (a ≡ false) × (b ≡ false)
 neither true b e = cc
@@ -64,6 +65,7 @@ HasNoSpace-verb_text verbs.Symlink = no_space_tested (codes "symlink") refl
 HasNoSpace-verb_text verbs.Unlink = no_space_tested (codes "unlink") refl
 HasNoSpace-verb_text verbs.Rmdir = no_space_tested (codes "rmdir") refl
 HasNoSpace-verb_text verbs.Rename = no_space_tested (codes "rename") refl
+HasNoSpace-verb_text verbs.Rename2 = no_space_tested (codes "rename2") refl
 
 pub found_passes : {A : Type 0} (p : A → Bool) (xs : List A) (x : A) → find p xs ≡ Some x → p x ≡ true
 found_passes p [] x e = cc
@@ -83,22 +85,31 @@ pub bind_some : {A B : Type 0} (found : Option A) (next : A → Option B) (y : B
 bind_some None next y e = cc
 bind_some (Some x) next y e = (x, refl, e)
 
-counted_words_at : (verb : Verb) (words : List (List ℕ)) → length words ≡ word_count verb → counted_words verb (map spelled words) ≡ Some words
-counted_words_at verb words count =
-    ap (λ test. cond test (words_in (map spelled words)) None) ((Decides-eqb (length (map spelled words)) (word_count verb)).1 (length-map words spelled ∙ count))
-    ∙ words_in-spelled words
+counted_words_at : (verb : Verb) (words : List (List ℕ)) → length words ≡ word_count verb → IsTrue (flags_stand verb words) → counted_words verb (map spelled words) ≡ Some words
+counted_words_at verb words count stand =
+    ap (λ test. cond test (words_in (map spelled words) >>= flagged verb) None) ((Decides-eqb (length (map spelled words)) (word_count verb)).1 (length-map words spelled ∙ count))
+    ∙ bind_at (words_in (map spelled words)) words (flagged verb) (Some words) (words_in-spelled words) (ap (λ test. cond test (Some words) None) stand)
 
 order_in-order_words : (order : Order) → IsOrder order → order_in (order_words order) ≡ Some order
 order_in-order_words order is =
     bind_at _ order.session _ _ (session_in-decimal order.session is.session)
     (bind_at _ order.verb _ _ (verb_in-verb_text order.verb)
-    (bind_at _ order.words _ _ (counted_words_at order.verb order.words is.words) refl))
+    (bind_at _ order.words _ _ (counted_words_at order.verb order.words is.words is.flags) refl))
+
+flagged_is : (verb : Verb) (read words : List (List ℕ)) → flagged verb read ≡ Some words → (read ≡ words) × IsTrue (flags_stand verb words)
+flagged_is verb read words e = elim (chosen (flags_stand verb read) (Some read) None (Some words) e) [
+  | inl stand ↦ let same : read ≡ words = cc in (same, subst (λ w. IsTrue (flags_stand verb w)) same stand.0)
+  | inr other ↦ cc
+]
 
 counted_words_spells : (verb : Verb) (texts words : List (List ℕ)) → counted_words verb texts ≡ Some words
-    → (length words ≡ word_count verb) × (map spelled words ≡ texts)
-counted_words_spells verb texts words e = elim (chosen (length texts == word_count verb) (words_in texts) None (Some words) e) [
-  | inl counted ↦ (let spells : map spelled words ≡ texts = words_in_spells texts words counted.1 in
-      (sym (length-map words spelled) ∙ ap length spells ∙ (Decides-eqb (length texts) (word_count verb)).0 counted.0, spells))
+    → (length words ≡ word_count verb) × (map spelled words ≡ texts) × IsTrue (flags_stand verb words)
+counted_words_spells verb texts words e = elim (chosen (length texts == word_count verb) (words_in texts >>= flagged verb) None (Some words) e) [
+  | inl counted ↦
+      let read = bind_some (words_in texts) (flagged verb) words counted.1 in
+      let stands = flagged_is verb read.0 words read.2 in
+      let spells : map spelled words ≡ texts = words_in_spells texts words (read.1 ∙ ap (λ w. Some w) stands.0) in
+      (sym (length-map words spelled) ∙ ap length spells ∙ (Decides-eqb (length texts) (word_count verb)).0 counted.0, spells, stands.1)
   | inr other ↦ cc
 ]
 
@@ -120,7 +131,7 @@ order_in_spells (session ∷ verb ∷ texts) order e =
     let number = session_in_spells session order.session fields.0 in
     let name = verb_in_spells verb order.verb fields.1 in
     let words = counted_words_spells order.verb texts order.words fields.2 in
-    (record { session = number.0; words = words.0 }, cc)
+    (record { session = number.0; words = words.0; flags = words.2 }, (let spells = words.1 in cc))
 
 parts_order : (order : Order) → IsOrder order → parts (line_text (Orders order)) ≡ order_words order
 parts_order order is = parts-spaced (decimal order.session) (verb_text order.verb ∷ map spelled order.words)

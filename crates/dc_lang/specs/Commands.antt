@@ -1,5 +1,5 @@
 -- The lines of commands, and the calls that they ask for.
-use Rattle.std.specs.Prelude.{◌≡◌, ℕ, ◌<◌, List, [], ◌∷◌, map, length, slice_get, codes, decimal, Some, None}
+use Rattle.std.specs.Prelude.{◌≡◌, ℕ, ◌<◌, Bool, true, false, if◌then◌else◌, is_some, unwrap_or, IsTrue, Option, List, [], ◌∷◌, map, length, slice_get, codes, decimal, Some, None}
 use Rattle.dc_lang.specs.Words.{spelled, spaced}
 use Rattle.dc_lang.specs.declared.TheConstants.{SESSIONS}
 use Rattle.dc_lang.specs.declared.line.Verb.{Verb}
@@ -8,6 +8,8 @@ use Rattle.dc_lang.specs.declared.line.Command as rust_command
 use Rattle.dc_lang.specs.declared.line.Line as rust_line
 use Rattle.dc_lang.specs.declared.line.Line.TheVariants as lines
 use Rattle.dc_plain.specs.declared.call.Follow.TheVariants as follow
+use Rattle.std.specs.Str.{bytes_eq}
+use Rattle.dc_plain.specs.declared.call.Flags.{Flags}
 use Rattle.dc_plain.specs.Requests.{Request}
 use Rattle.dc_plain.specs.Requests.Request.{Look, Readlink, Stat, List_names, Mkdir, Create, Hard_link, Symlink, Unlink, Rmdir, Rename}
 
@@ -36,6 +38,7 @@ verb_text verbs.Symlink = codes "symlink"
 verb_text verbs.Unlink = codes "unlink"
 verb_text verbs.Rmdir = codes "rmdir"
 verb_text verbs.Rename = codes "rename"
+verb_text verbs.Rename2 = codes "rename2"
 
 -- how many words follow the verb
 abbrev pub word_count : Verb → ℕ
@@ -52,11 +55,35 @@ word_count verbs.Symlink = 2
 word_count verbs.Unlink = 1
 word_count verbs.Rmdir = 1
 word_count verbs.Rename = 2
+word_count verbs.Rename2 = 3
 
--- sessions are those below SESSIONS, and each verb has its number of words
+-- a rename may replace what stands at the new name
+abbrev pub no_flags : Flags
+no_flags = record { no_replace = false; exchange = false }
+
+-- the flags that a word spells
+abbrev pub flags_in : List ℕ → Option Flags
+flags_in word =
+    if bytes_eq word (codes "-") then Some no_flags
+    else if bytes_eq word (codes "n") then Some (record { no_replace = true; exchange = false })
+    else if bytes_eq word (codes "x") then Some (record { no_replace = false; exchange = true })
+    else if bytes_eq word (codes "nx") then Some (record { no_replace = true; exchange = true })
+    else None
+
+abbrev pub first_is_flags : List (List ℕ) → Bool
+first_is_flags [] = false
+first_is_flags (word ∷ words) = is_some (flags_in word)
+
+-- the first word is flags, where the verb takes them
+abbrev pub flags_stand : Verb → List (List ℕ) → Bool
+flags_stand verbs.Rename2 words = first_is_flags words
+flags_stand _ words = true
+
+-- sessions are those below SESSIONS, and each verb has its number of words, flags among them where it takes them
 pub record IsOrder (order : Order) : Type 0 where
   pub session : order.session < SESSIONS
   pub words : length order.words ≡ word_count order.verb
+  pub flags : IsTrue (flags_stand order.verb order.words)
 
 abbrev pub IsMeaning : Meaning → Type 0
 IsMeaning Sync = Unit {0}
@@ -90,7 +117,8 @@ asked base order verbs.Link = Hard_link base (word_at 0 order) (word_at 1 order)
 asked base order verbs.Symlink = Symlink base (word_at 0 order) (word_at 1 order)
 asked base order verbs.Unlink = Unlink base (word_at 0 order)
 asked base order verbs.Rmdir = Rmdir base (word_at 0 order)
-asked base order verbs.Rename = Rename base (word_at 0 order) (word_at 1 order)
+asked base order verbs.Rename = Rename base (word_at 0 order) (word_at 1 order) no_flags
+asked base order verbs.Rename2 = Rename base (word_at 1 order) (word_at 2 order) (unwrap_or (flags_in (word_at 0 order)) no_flags)
 
 abbrev pub request_from : ℕ → Order → Request
 request_from base order = asked base order order.verb

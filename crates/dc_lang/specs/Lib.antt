@@ -1,4 +1,4 @@
--- The texts of commands and of replies.
+-- The texts of commands and of replies, and what a whole input says.
 pub mod Words
 pub mod Commands
 pub mod Reading
@@ -6,3 +6,9 @@ pub mod Replies
 pub mod Responses
 pub mod ReadingReplies
 pub mod Writing
+pub mod Bases
+pub mod Inputs
+pub mod Lines
+pub mod Phases
+pub mod Spans
+pub mod Served

@@ -6,7 +6,7 @@ use Rattle.dc_lang.specs.declared.line.Verb.{Verb}
 use Rattle.dc_lang.specs.declared.line.Verb.TheVariants as verbs
 use Rattle.dc_lang.specs.declared.line.LineFault.{LineFault}
 use Rattle.dc_lang.specs.declared.line.LineFault.TheVariants.{Bad, NoMemory}
-use Rattle.dc_lang.specs.Commands.{Order, Meaning, verb_text, word_count}
+use Rattle.dc_lang.specs.Commands.{Order, Meaning, verb_text, word_count, flags_stand}
 use Rattle.dc_lang.specs.Commands.Meaning.{Sync, Orders}
 
 -- what a letter behind a backslash stands for
@@ -51,20 +51,24 @@ session_in (a ∷ b ∷ c ∷ text) = None
 abbrev pub all_verbs : List Verb
 all_verbs =
     verbs.Look ∷ verbs.Llook ∷ verbs.Cd ∷ verbs.Readlink ∷ verbs.Stat ∷ verbs.List
-    ∷ verbs.Mkdir ∷ verbs.Create ∷ verbs.Link ∷ verbs.Symlink ∷ verbs.Unlink ∷ verbs.Rmdir ∷ verbs.Rename ∷ []
+    ∷ verbs.Mkdir ∷ verbs.Create ∷ verbs.Link ∷ verbs.Symlink ∷ verbs.Unlink ∷ verbs.Rmdir ∷ verbs.Rename ∷ verbs.Rename2 ∷ []
 
 -- the verb with this text
 unfoldable pub verb_in : List ℕ → Option Verb
 verb_in text = find (λ verb. bytes_eq (verb_text verb) text) all_verbs
 
--- the words of a verb, if they are as many as it takes
-abbrev pub counted_words : Verb → List (List ℕ) → Option (List (List ℕ))
-counted_words verb texts = if length texts == word_count verb then words_in texts else None
-
 -- one reading after another, while they succeed
 infixl 10 ◌>>=◌
 abbrev pub ◌>>=◌ : {A B : Type 0} → Option A → (A → Option B) → Option B
 found >>= next = option_and_then next found
+
+-- the words, if flags stand where the verb takes them
+abbrev pub flagged : Verb → List (List ℕ) → Option (List (List ℕ))
+flagged verb words = if flags_stand verb words then Some words else None
+
+-- the words of a verb, if they are as many as it takes
+abbrev pub counted_words : Verb → List (List ℕ) → Option (List (List ℕ))
+counted_words verb texts = if length texts == word_count verb then words_in texts >>= flagged verb else None
 
 -- a session, a verb and its words
 abbrev pub order_in : List (List ℕ) → Option Order

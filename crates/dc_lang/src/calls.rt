@@ -1,10 +1,19 @@
+//! The calls that commands make.
+
 ghost use Rattle.std.specs.Prelude.{◌≡◌};
 ghost use Rattle.dc_plain.specs.Requests.{request_of};
 ghost use Rattle.dc_plain.specs.Requests.Request.{Look};
 ghost use Rattle.dc_lang.specs.Commands.{order_of, word_at, request_from};
 
+use crate::verb::flags_in;
 use crate::{Command, Verb};
-use dc_plain::{Call, Follow};
+use dc_plain::{Call, Flags, Follow};
+
+/// What a `rename` without flags asks for.
+const NEITHER: Flags = Flags {
+    no_replace: false,
+    exchange: false,
+};
 
 /// The word at a place, or none.
 fn word_at(command: &Command, at: usize) -> &[u8]
@@ -45,6 +54,18 @@ pub fn call(command: &Command, base: u64) -> Call<'_>
         },
         Verb::Unlink => Call::Unlink { base, path },
         Verb::Rmdir => Call::Rmdir { base, path },
-        Verb::Rename => Call::Rename { base, old, new },
+        Verb::Rename => Call::Rename {
+            base,
+            old,
+            new,
+            flags: NEITHER,
+        },
+        Verb::Rename2 => Call::Rename {
+            base,
+            old: new,
+            new: word_at(command, 2),
+            // A line that was read has one of the four.
+            flags: flags_in(old).unwrap_or(NEITHER),
+        },
     }
 }

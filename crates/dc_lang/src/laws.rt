@@ -1,3 +1,5 @@
+//! Laws of the lines: functions with no body whose contracts are theorems.
+
 ghost use Rattle.std.specs.Prelude.{◌≡◌, ◌↔◌, ℕ, List, Some};
 ghost use Rattle.dc_lang.specs.Commands.{Meaning, Means};
 ghost use Rattle.dc_lang.specs.Reading.{meaning_in};

@@ -1,3 +1,5 @@
+//! What a line says, and why one is not read.
+
 /// What a command asks for.
 #[derive(Clone, Copy, Debug, PartialEq, Eq)]
 pub enum Verb {
@@ -28,6 +30,9 @@ pub enum Verb {
     Rmdir,
     /// What the first word names gets the second as its name.
     Rename,
+    /// What the second word names gets the third as its name, or as the first word says by its flags:
+    /// `-` none, `n` no-replace, `x` exchange, `nx` both.
+    Rename2,
 }
 
 /// A command of a session.

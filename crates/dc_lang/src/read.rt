@@ -1,8 +1,10 @@
+//! How the line of a command is read.
+
 ghost use Rattle.std.specs.Prelude.{◌≡◌, ◌<◌, Some, None, IfOk, IfSome, IfNone, IsErrOf, map, length};
 ghost use Rattle.dc_lang.specs.Commands.{Meaning, Means, meaning_of, order_of};
 ghost use Rattle.dc_lang.specs.Reading.{Reads, escaped, with_first, bytes_in, word_in, words_in, session_in, order_in, parts, meaning_in};
 
-use crate::verb::verb_in;
+use crate::verb::{flags_stand, verb_in};
 use crate::{Command, Line, LineFault};
 use std::alloc::{AllocError, Global};
 
@@ -95,10 +97,14 @@ fn command_in(alloc: Global, parts: &[&[u8]]) -> Result<Command, LineFault>
     if words.len() != verb.word_count() {
         return Err(LineFault::Bad);
     }
+    let words = words_in(alloc, words)?;
+    if !flags_stand(verb, &words) {
+        return Err(LineFault::Bad);
+    }
     Ok(Command {
         session,
         verb,
-        words: words_in(alloc, words)?,
+        words,
     })
 }
 
@@ -121,7 +127,8 @@ fn read(alloc: Global, line: &[u8]) -> Result<Line, LineFault>
 }
 
 /// Reads a line, which comes without its newline: `sync`, or a session from 0 to 15, a verb and its
-/// words. `Bad` comes only where it is no such line, `NoMemory` only where memory was refused.
+/// words. `Bad` comes only where it is no such line. `NoMemory` is for memory that was refused; no clause
+/// says when it comes.
 pub fn read_line(alloc: Global, line: &[u8]) -> Result<Line, LineFault>
     // What is read is what the line means.
     ensures ok { IfOk result (λ meaning. Means line.now (meaning_of meaning)) }

@@ -1,3 +1,5 @@
+//! How the line of a reply is read.
+
 ghost use Rattle.std.specs.Prelude.{◌≡◌, IfOk, IsErrOf, map, option_map};
 ghost use Rattle.dc_plain.specs.Requests.{answer_of};
 ghost use Rattle.dc_lang.specs.Reading.{Reads};
@@ -189,8 +191,8 @@ fn response_in(alloc: Global, line: &[u8]) -> Result<(u64, Stamped), LineFault>
 }
 
 /// Reads the line of a reply, which comes with its newline: a session from 0 to 15, an answer and a
-/// point. `Bad` comes only where it is no such line, `NoMemory` only where memory was refused. A
-/// reply that no tree gives is read like any other.
+/// point. `Bad` comes only where it is no such line. `NoMemory` is for memory that was refused; no clause
+/// says when it comes. A reply that no tree gives is read like any other.
 pub fn read_reply(alloc: Global, line: &[u8]) -> Result<(u64, Stamped), LineFault>
     // What is read is what the line tells.
     ensures ok { IfOk result (λ read. Tells line.now (response_of read)) }

@@ -1,9 +1,12 @@
+//! Lines, inputs and outputs, read and written.
+
 use crate::{
-    Command, Line, LineFault, SESSIONS, Verb, call, each_line_has_one_meaning, read_line,
-    read_reply, write_line, write_reply,
+    Command, InputFault, Line, LineFault, SESSIONS, Verb, base_after, call,
+    each_line_has_one_meaning, read_line, read_lines, read_replies, read_reply, serving_order,
+    write_command, write_line, write_reply,
 };
 use dc_names::{Kind, NoMemory};
-use dc_plain::{Call, Follow, Reply, Stamped};
+use dc_plain::{Call, Flags, Follow, Reply, Stamped};
 use std::alloc::{AllocError, Global};
 use std::test::Fail;
 
@@ -23,7 +26,7 @@ fn is(command: &Command, session: u64, verb: Verb, words: &[&[u8]]) -> bool {
 
 #[test]
 fn reads_lines(rt: HostRuntime) -> Result<(), Fail> {
-    let lines: [(&[u8], u64, Verb, &[&[u8]]); 16] = [
+    let lines: [(&[u8], u64, Verb, &[&[u8]]); 18] = [
         (b"0 look /", 0, Verb::Look, &[b"/"]),
         (b"9 llook \\e", 9, Verb::Llook, &[b""]),
         (b"10 cd ..", 10, Verb::Cd, &[b".."]),
@@ -39,6 +42,8 @@ fn reads_lines(rt: HostRuntime) -> Result<(), Fail> {
         (b"7 unlink g", 7, Verb::Unlink, &[b"g"]),
         (b"8 rmdir d", 8, Verb::Rmdir, &[b"d"]),
         (b"11 rename a\\sb b", 11, Verb::Rename, &[b"a b", b"b"]),
+        (b"1 rename2 - a b", 1, Verb::Rename2, &[b"-", b"a", b"b"]),
+        (b"1 rename2 nx \\e b", 1, Verb::Rename2, &[b"nx", b"", b"b"]),
         (b"0 look /\0\xff", 0, Verb::Look, &[b"/\0\xff"]),
     ];
     for (line, session, verb, words) in lines {
@@ -53,7 +58,7 @@ fn reads_lines(rt: HostRuntime) -> Result<(), Fail> {
 
 #[test]
 fn refuses_what_is_no_line(rt: HostRuntime) {
-    let lines: [&[u8]; 29] = [
+    let lines: [&[u8]; 32] = [
         b"",
         b" ",
         b"0",
@@ -66,7 +71,10 @@ fn refuses_what_is_no_line(rt: HostRuntime) {
         b"0 rename a ",
         b"0 rename a b c",
         b"0 symlink  l",
-        b"0 rename2 - a b",
+        b"0 rename2 a b",
+        b"0 rename2 xn a b",
+        b"0 rename2 \\e a b",
+        b"0 rename2 - a",
         b"0  look /",
         b" 0 look /",
         b"16 look /",
@@ -101,7 +109,7 @@ fn is_call(call: Call, base: u64, verb: Verb, first: &[u8], second: &[u8]) -> bo
         Call::Symlink { base, text, path } => (base, Verb::Symlink, text, path),
         Call::Unlink { base, path } => (base, Verb::Unlink, path, b""),
         Call::Rmdir { base, path } => (base, Verb::Rmdir, path, b""),
-        Call::Rename { base, old, new } => (base, Verb::Rename, old, new),
+        Call::Rename { base, old, new, .. } => (base, Verb::Rename, old, new),
     };
     from == base && wanted == verb && one == first && other == second
 }
@@ -279,11 +287,123 @@ fn refuses_what_is_no_reply(rt: HostRuntime) {
     }
 }
 
+/// Sessions 0 and 1 in one phase, a further one in a second phase.
+const SHARED: &str = "1 mkdir /a\n0 look /a\n0 create /b\n0 look /a\nsync\n2 list /\n2 unlink /b";
+
+#[test]
+fn serves_by_phase_session_and_line(rt: HostRuntime) -> Result<(), Fail> {
+    let alloc = rt.alloc();
+    let order = [
+        (0u64, "0 look /a"),
+        (0, "0 create /b"),
+        (0, "0 look /a"),
+        (0, "1 mkdir /a"),
+        (1, "2 list /"),
+        (1, "2 unlink /b"),
+    ];
+    let lines = read_lines(alloc, SHARED.as_bytes())?;
+    assert_eq!(rt; lines.len(), 7);
+    let served = serving_order(alloc, &lines)?;
+    assert_eq!(rt; served.len(), order.len());
+    for (one, (phase, line)) in served.iter().zip(order) {
+        let text = write_command(alloc, one.command)?;
+        assert!(rt;
+            one.phase == phase && text.as_slice() == line.as_bytes(),
+            "{line}"
+        );
+    }
+    Ok(())
+}
+
+#[test]
+fn reads_the_lines_of_inputs(rt: HostRuntime) {
+    for (input, want) in [
+        ("", Ok(0)),
+        ("sync", Ok(1)),
+        ("sync\n0 look /\n", Ok(2)),
+        ("\n", Err(InputFault::BadLine(1))),
+        ("sync\n\n", Err(InputFault::BadLine(2))),
+        ("sync\n0 look\n16 look /\n", Err(InputFault::BadLine(2))),
+    ] {
+        let found = read_lines(rt.alloc(), input.as_bytes()).map(|lines| lines.len());
+        assert!(rt; found == want, "{input}");
+    }
+}
+
+#[test]
+fn reads_the_lines_of_outputs(rt: HostRuntime) {
+    for (output, want) in [
+        ("", Ok(0)),
+        ("0 ok @0\n", Ok(1)),
+        ("0 ok @0\n1 no 2 @1\n", Ok(2)),
+        ("0 ok @0", Err(InputFault::BadLine(1))),
+        ("0 ok @0\n1 no 2 @1", Err(InputFault::BadLine(2))),
+        ("0 ok @0\n\n", Err(InputFault::BadLine(2))),
+    ] {
+        let found = read_replies(rt.alloc(), output.as_bytes()).map(|told| told.len());
+        assert!(rt; found == want, "{output}");
+    }
+}
+
+#[test]
+fn moves_a_session(rt: HostRuntime) -> Result<(), Fail> {
+    let found = Reply::Found(4, Kind::Dir);
+    for (line, reply, base) in [
+        (b"0 cd /a".as_slice(), &found, 4),
+        (b"0 cd /a", &Reply::Refused(2), 7),
+        (b"0 look /a", &found, 7),
+    ] {
+        let Line::Command(command) = read_line(rt.alloc(), line)? else {
+            return Err(Fail::from(LineFault::Bad));
+        };
+        assert_eq!(rt; base_after(&command, reply, 7), base, "{line:?}");
+    }
+    Ok(())
+}
+
 #[test]
 fn tells_faults(rt: HostRuntime) -> Result<(), Fail> {
     let texts = [LineFault::Bad, LineFault::NoMemory].map(|fault| fault.to_string(rt.alloc()));
     let [bad, no_memory] = texts;
     assert_eq!(rt; bad?.as_str(), "bad line");
     assert_eq!(rt; no_memory?.as_str(), "no memory");
+    let line = InputFault::BadLine(7).to_string(rt.alloc())?;
+    assert_eq!(rt; line.as_str(), "bad line 7");
+    Ok(())
+}
+
+/// The flags that a line asks for.
+fn flags_of(alloc: Global, line: &[u8]) -> Result<Option<Flags>, LineFault> {
+    let Line::Command(command) = read_line(alloc, line)? else {
+        return Ok(None);
+    };
+    let Call::Rename {
+        old,
+        new,
+        flags,
+        ..
+    } = call(&command, 1)
+    else {
+        return Ok(None);
+    };
+    Ok((old == b"a".as_slice() && new == b"b".as_slice()).then_some(flags))
+}
+
+#[test]
+fn flags_of_renames(rt: HostRuntime) -> Result<(), Fail> {
+    let lines: [(&[u8], bool, bool); 5] = [
+        (b"0 rename a b", false, false),
+        (b"0 rename2 - a b", false, false),
+        (b"0 rename2 n a b", true, false),
+        (b"0 rename2 x a b", false, true),
+        (b"0 rename2 nx a b", true, true),
+    ];
+    for (line, no_replace, exchange) in lines {
+        let flags = Flags {
+            no_replace,
+            exchange,
+        };
+        assert_eq!(rt; flags_of(rt.alloc(), line)?, Some(flags));
+    }
     Ok(())
 }

@@ -1,10 +1,13 @@
-ghost use Rattle.std.specs.Prelude.{◌≡◌};
-ghost use Rattle.dc_lang.specs.Commands.{verb_text, word_count};
+//! The texts of verbs, and how many words follow each.
+
+ghost use Rattle.std.specs.Prelude.{◌≡◌, map};
+ghost use Rattle.dc_lang.specs.Commands.{flags_in, flags_stand, verb_text, word_count};
 ghost use Rattle.dc_lang.specs.Reading.{verb_in};
 
 use crate::Verb;
+use dc_plain::Flags;
 
-const VERBS: [Verb; 13] = [
+const VERBS: [Verb; 14] = [
     Verb::Look,
     Verb::Llook,
     Verb::Cd,
@@ -18,6 +21,7 @@ const VERBS: [Verb; 13] = [
     Verb::Unlink,
     Verb::Rmdir,
     Verb::Rename,
+    Verb::Rename2,
 ];
 
 impl Verb {
@@ -38,6 +42,7 @@ impl Verb {
             Verb::Unlink => b"unlink",
             Verb::Rmdir => b"rmdir",
             Verb::Rename => b"rename",
+            Verb::Rename2 => b"rename2",
         }
     }
 
@@ -46,6 +51,7 @@ impl Verb {
         ensures { result ≡ word_count self }
     {
         match self {
+            Verb::Rename2 => 3,
             Verb::Link | Verb::Symlink | Verb::Rename => 2,
             Verb::Look
             | Verb::Llook
@@ -67,4 +73,34 @@ pub(crate) fn verb_in(text: &[u8]) -> Option<Verb>
     ensures { result ≡ verb_in text.now }
 {
     VERBS.iter().copied().find(|verb| verb.text() == text)
+}
+
+/// The flags that a word spells.
+pub(crate) fn flags_in(word: &[u8]) -> Option<Flags>
+    ensures { result ≡ flags_in word.now }
+{
+    let (no_replace, exchange) = match word {
+        b"-" => (false, false),
+        b"n" => (true, false),
+        b"x" => (false, true),
+        b"nx" => (true, true),
+        _ => return None,
+    };
+    Some(Flags {
+        no_replace,
+        exchange,
+    })
+}
+
+/// Whether the first word is flags, where the verb takes them.
+pub(crate) fn flags_stand(verb: Verb, words: &[Vec<u8>]) -> bool
+    ensures { result ≡ flags_stand verb (map (λ word. word.items) words.now) }
+{
+    if verb != Verb::Rename2 {
+        return true;
+    }
+    match words {
+        [first, ..] => flags_in(first).is_some(),
+        [] => false,
+    }
 }

@@ -1,3 +1,5 @@
+//! How lines of commands and of replies are written.
+
 ghost use Rattle.std.specs.Prelude.{◌≡◌, ◌∷◌, ◌++◌, IfOk, OnOk, map};
 ghost use Rattle.dc_plain.specs.Requests.{answer_of};
 ghost use Rattle.dc_plain.specs.Requests.Answer.{Bytes, Names};
@@ -107,7 +109,7 @@ pub fn write_reply(alloc: Global, session: u64, stamped: &Stamped) -> Result<Vec
 }
 
 /// The line of a command, without its newline.
-fn command_line(alloc: Global, command: &Command) -> Result<Vec<u8>, AllocError>
+pub fn write_command(alloc: Global, command: &Command) -> Result<Vec<u8>, NoMemory>
     ensures { IfOk result (λ text. text.items ≡ line_text (Orders (order_of command.now))) }
 {
     let mut out = format!(in alloc; "{} ", command.session)?.into_bytes();
@@ -123,6 +125,6 @@ pub fn write_line(alloc: Global, line: &Line) -> Result<Vec<u8>, NoMemory>
 {
     Ok(match line {
         Line::Sync => Vec::from_slice(alloc, b"sync")?,
-        Line::Command(command) => command_line(alloc, command)?,
+        Line::Command(command) => write_command(alloc, command)?,
     })
 }

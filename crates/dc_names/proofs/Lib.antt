@@ -1,5 +1,6 @@
 pub mod Parts
 pub mod Valid
 pub mod Named
+pub mod Numbered
 pub mod Packed
 pub mod Short

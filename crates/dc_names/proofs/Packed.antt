@@ -2,7 +2,7 @@
 use Rattle.std.proofs.Common.{◌≡◌, ℕ, zero, suc, ◌+◌, ◌-◌, ◌*◌, ◌^◌, ◌<◌, ◌≤◌, ◌∷◌, [], ◌++◌, List, length, replicate, get_or, drop, refl, sym, subst, ap, ◌∙◌, arith}
 use Rattle.std.specs.Int.{sum_through, byte_worth}
 use Rattle.std.proofs.lemmas.Nat.{le_bytes_8, from_le_bytes-to_le_bytes_8}
-use Rattle.std.proofs.Math.Seq.{drop-cons}
+use Rattle.std.proofs.Math.Seq.{drop-cons, drop-length}
 use Rattle.std.proofs.lemmas.List.{get_or-drop, length-drop}
 use Rattle.std.proofs.lemmas.Grind.{common_steps}
 use Rattle.dc_names.specs.Words.{AreBytes, word_of, bytes_in, padded}
@@ -53,3 +53,16 @@ pub rest-small : (bs : List ℕ) (i : ℕ) → 0 < i → length bs ≤ 8 → Are
 rest-small bs i pos short are =
     let size = length-drop i bs in
     word_of-small (drop i bs) (omega arith) (λ k. subst (λ (b : ℕ). b < 256) (sym (get_or-drop i bs k 0)) (are (i + k)))
+
+-- no byte is packed yet
+pub none_packed : (bs : List ℕ) → 0 ≡ word_of (drop (length bs) bs)
+unfolding word_of
+none_packed bs = rw (drop-length bs) refl
+
+-- with the bytes from the i-th on packed, there is room for one more
+pub room_packed : (bs : List ℕ) (i word : ℕ) → 0 < i → length bs ≤ 8 → AreBytes bs → word ≡ word_of (drop i bs) → word * 256 + 255 < 2 ^ 64
+room_packed bs i word pos short are is = let small = rest-small bs i pos short are in omega arith
+
+-- all bytes are packed
+pub all_packed : (bs : List ℕ) (i word : ℕ) → i ≡ 0 → length bs ≤ 8 → AreBytes bs → word ≡ word_of (drop i bs) → bytes_in word ≡ padded bs
+all_packed bs i word none short are is = rw (is, none) (bytes_in-word_of bs short are)

@@ -1,9 +1,12 @@
 -- The first piece of a text, and what comes after it.
-use Rattle.std.proofs.Common.{◌≡◌, ℕ, suc, ◌+◌, ◌≤◌, ◌==◌, ◌&&◌, ◌∷◌, [], List, take, drop, map, length, Bool, true, false, cond, not, refl, ap, sym, ◌∙◌, arith, IsTrue}
+use Rattle.std.proofs.Common.{◌≡◌, ℕ, suc, ◌+◌, ◌≤◌, ◌==◌, ◌&&◌, ◌<◌, ◌-◌, ◌∷◌, [], List, take, drop, map, length, true, false, cond, not, refl, ap, sym, ◌∙◌, arith, IsTrue, length-take-le}
 use Rattle.std.specs.List.{position_or_len, onto_first, list_all, filter}
 use Rattle.std.proofs.lemmas.List.Sums.{prefix_len-le-length}
-use Rattle.dc_names.specs.Bytes.{pieces, is_empty, is_part, has_parts}
-use Rattle.dc_names.specs.Paths.{words_of, parts_of, part_of}
+use Rattle.std.proofs.lemmas.Bool.{and_parts}
+use Rattle.std.proofs.lemmas.List.{length-drop, drop-drop}
+use Rattle.std.proofs.lemmas.Bool.Decides.{nat_tests}
+use Rattle.dc_names.specs.Bytes.{pieces, is_empty, is_part, has_parts, IsRest}
+use Rattle.dc_names.specs.Paths.{Part, words_of, parts_of, part_of, IsFirst}
 
 abbrev pub piece_end : List ℕ → ℕ
 piece_end text = position_or_len (λ b. b == 47) text
@@ -66,9 +69,29 @@ first_valid : {text piece rest : List ℕ} → IsCut text piece rest → has_par
 first_valid {text} {piece} {rest} cut =
     rw (pieces_cut text, ← cut.front, ← cut.back) (ap (λ v. is_part piece && v) (rw cut.back (valid_after text)))
 
-both : (a b : Bool) → (a && b) ≡ true → (a ≡ true) × (b ≡ true)
-both true b e = (refl, e)
-both false b e = absurd (cc)
-
 pub valid_cut : {text piece rest : List ℕ} → IsCut text piece rest → IsTrue (has_parts text) → IsTrue (is_part piece) × IsTrue (has_parts rest)
-valid_cut {text} {piece} {rest} cut valid = both (is_part piece) (has_parts rest) (sym (first_valid cut) ∙ valid)
+valid_cut {text} {piece} {rest} cut valid = and_parts (is_part piece) (has_parts rest) (sym (first_valid cut) ∙ valid)
+
+-- the rest of a rest, from some place in that on
+rest_of_rest : (bytes text rest : List ℕ) (n : ℕ) → IsRest text bytes → n ≤ length text → rest ≡ drop n text → IsRest rest bytes
+rest_of_rest bytes text rest n is within at =
+    let len : length rest ≡ length text - n = ap length at ∙ length-drop n text in
+    let from : length bytes - length text + n ≡ length bytes - length rest = omega (arith, is.within) in
+    record {
+      within = omega (arith, is.within);
+      bytes = at ∙ ap (λ (t : List ℕ). drop n t) is.bytes ∙ drop-drop n (length bytes - length text) bytes ∙ ap (λ (k : ℕ). drop k bytes) from;
+    }
+
+-- the first part of a text, behind whose first slashes it is cut
+pub first_taken : {bytes text piece rest : List ℕ} {part : Part} → parts_of text ≡ parts_of bytes → IsTrue (has_parts text) → IsRest text bytes
+    → IsCut text piece rest → (length piece == 0) ≡ false → part ≡ part_of piece → IsFirst part rest bytes
+first_taken {bytes} {text} {piece} {rest} {part} same valid behind cut some is = record {
+  parts = sym same ∙ first_word cut some ∙ ap (λ (p : Part). p ∷ parts_of rest) (sym is);
+  valid = (valid_cut cut valid).1;
+  behind = rest_of_rest bytes text rest (piece_end text) behind (piece_end-le text) cut.back;
+  fewer =
+      let here : length piece ≡ piece_end text = ap length cut.front ∙ length-take-le (piece_end text) text (piece_end-le text) in
+      let len : length rest ≡ length text - piece_end text = ap length cut.back ∙ length-drop (piece_end text) text in
+      let any : 0 < length piece = grind (arith, nat_tests) in
+      omega (arith, behind.within, piece_end-le text);
+}

@@ -1,7 +1,7 @@
 -- The pieces of a path's text, and which of them are a name (POSIX.1-2017 XBD 3.170, 4.13).
 use Rattle.std.specs.Prelude.{ℕ, List, [], ◌∷◌, Bool, false, not, ◌&&◌, ◌||◌, ◌==◌, ◌≡◌, ◌≤◌, ◌-◌, nat_lt, length, drop}
 use Rattle.std.specs.List.{list_any, list_all, slice_split}
-use Rattle.dc_names.specs.declared.TheConstants.{NAME_MAX}
+use Rattle.dc_names.specs.declared.limits.TheConstants.{NAME_MAX}
 
 -- the bytes between slashes, empty pieces too
 abbrev pub pieces : List ℕ → List (List ℕ)

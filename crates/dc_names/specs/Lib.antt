@@ -6,4 +6,5 @@ pub mod Refusals
 pub mod Lasts
 pub mod Laws
 pub mod Hash
+pub mod Sizes
 pub mod Words

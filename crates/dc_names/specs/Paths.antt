@@ -1,8 +1,8 @@
 -- The path of a text, or its first fault.
-use Rattle.std.specs.Prelude.{ℕ, List, [], ◌∷◌, Bool, false, not, ◌&&◌, ◌||◌, ◌==◌, nat_lt, length, slice_get, ◌-◌, map, filter, if◌then◌else◌, Result, Ok, Err, Option, Some, None}
+use Rattle.std.specs.Prelude.{ℕ, List, [], ◌∷◌, Bool, false, not, ◌&&◌, ◌||◌, ◌==◌, ◌≡◌, ◌<◌, IsTrue, nat_lt, length, slice_get, ◌-◌, map, filter, if◌then◌else◌, Result, Ok, Err, Option, Some, None}
 use Rattle.std.specs.List.{list_any, list_all}
-use Rattle.dc_names.specs.Bytes.{pieces, is_empty, is_dot, is_dot_dot}
-use Rattle.dc_names.specs.declared.TheConstants.{NAME_MAX, PATH_MAX}
+use Rattle.dc_names.specs.Bytes.{pieces, is_empty, is_dot, is_dot_dot, has_parts, IsRest}
+use Rattle.dc_names.specs.declared.limits.TheConstants.{NAME_MAX, PATH_MAX}
 use Rattle.dc_names.specs.declared.fault.TextFault.{TextFault}
 use Rattle.dc_names.specs.declared.fault.TextFault.TheVariants.{Empty, Long, Zero}
 
@@ -34,6 +34,13 @@ words_of text = filter (λ piece. not (is_empty piece)) (pieces text)
 -- several slashes in a row count as one
 abbrev pub parts_of : List ℕ → List Part
 parts_of text = map part_of (words_of text)
+
+-- the first part of a text, and the bytes after it, which have parts alone too and are fewer
+pub record IsFirst (part : Part) (rest text : List ℕ) : Type 0 where
+  pub parts : parts_of text ≡ part ∷ parts_of rest
+  pub valid : IsTrue (has_parts rest)
+  pub behind : IsRest rest text
+  pub fewer : length rest < length text
 
 abbrev pub begins_with_slash : List ℕ → Bool
 begins_with_slash [] = false

@@ -1,12 +1,12 @@
 //! A path split at its slashes.
 
-ghost use Rattle.std.specs.Prelude.{◌≡◌, ◌<◌, ◌==◌, ◌∷◌, [], false, length, take, IsTrue, IfSome, IfNone};
+ghost use Rattle.std.specs.Prelude.{◌≡◌, ◌<◌, ◌==◌, [], false, length, take, IsTrue, IfSome, IfNone};
 ghost use Rattle.std.specs.Iterator.{YieldsFirstBy, item_count};
 ghost use Rattle.std.specs.List.{position_or_len};
 ghost use Rattle.dc_names.specs.Bytes.{has_parts, is_part, IsRest};
 ghost use Rattle.dc_names.specs.Hash.{hash_of, hash_from};
 ghost use Rattle.dc_names.specs.Names.{part_shown};
-ghost use Rattle.dc_names.specs.Paths.{part_of, parts_of, bytes_of, begins_with_slash};
+ghost use Rattle.dc_names.specs.Paths.{part_of, parts_of, bytes_of, begins_with_slash, IsFirst};
 
 use crate::fnv::{hash_number, hash_on};
 use crate::name::{is_dot, is_dot_dot};
@@ -16,27 +16,23 @@ use crate::{Name, Part};
 #[must_use]
 pub fn first_part(bytes: &[u8]) -> Option<(Part<'_>, &[u8])>
     requires { IsTrue (has_parts bytes.now) }
-    ensures first { IfSome result (λ r. parts_of bytes.now ≡ part_shown r.0 ∷ parts_of r.1.now) }
+    ensures first { IfSome result (λ r. IsFirst (part_shown r.0) r.1.now bytes.now) }
     ensures last { IfNone result (parts_of bytes.now ≡ []) }
-    ensures parts { IfSome result (λ r. IsTrue (has_parts r.1.now)) }
-    ensures rest { IfSome result (λ r. IsRest r.1.now bytes.now) }
-    ensures shorter { IfSome result (λ r. length r.1.now < length bytes.now) }
 {
     let (part, rest, _) = first_part_hashed(0, bytes)?;
     Some((part, rest))
 }
 
-/// The same, with the hash of a number and the component's bytes, which is taken while its end is
-/// sought. Where the hash isn't used, none is taken.
+/// The first component, the bytes after it, and the hash of a number and the component's bytes, or `None`
+/// where slashes alone are left. The hash is taken while the component's end is sought, and by a caller
+/// that doesn't use it not at all.
 #[must_use]
+// Inlined, so that a caller that doesn't use the hash takes none.
 #[inline(always)]
 pub fn first_part_hashed(number: u64, bytes: &[u8]) -> Option<(Part<'_>, &[u8], u64)>
     requires { IsTrue (has_parts bytes.now) }
-    ensures first { IfSome result (λ r. parts_of bytes.now ≡ part_shown r.0 ∷ parts_of r.1.now) }
+    ensures first { IfSome result (λ r. IsFirst (part_shown r.0) r.1.now bytes.now) }
     ensures last { IfNone result (parts_of bytes.now ≡ []) }
-    ensures parts { IfSome result (λ r. IsTrue (has_parts r.1.now)) }
-    ensures rest { IfSome result (λ r. IsRest r.1.now bytes.now) }
-    ensures shorter { IfSome result (λ r. length r.1.now < length bytes.now) }
     ensures hash { IfSome result (λ r. r.2 ≡ hash_of number (bytes_of (part_shown r.0))) }
 {
     let text = after_slashes(bytes);
@@ -64,6 +60,7 @@ fn after_slashes(bytes: &[u8]) -> &[u8]
 }
 
 /// How many bytes stand before the first slash, and their hash, taken on from a start.
+// Inlined for the sake of `first_part_hashed`: the hash is left out where nobody uses it.
 #[inline(always)]
 fn hashed_piece(start: u64, bytes: &[u8]) -> (usize, u64)
     ensures len { result.0 ≡ position_or_len (λ b. b == 47) bytes.now }

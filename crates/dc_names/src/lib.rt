@@ -1,4 +1,5 @@
-//! Names and paths of directory entries, as bytes. Nothing here takes memory.
+//! Names and paths of directory entries, as bytes, and what all rooms share: the refusals, the limits,
+//! the sizes of a cache. Nothing here takes memory.
 #![tactic(auto)]
 
 mod components;
@@ -7,9 +8,11 @@ mod fnv;
 mod kind;
 mod last;
 mod laws;
+mod limits;
 mod name;
 mod path;
 mod refusal;
+mod sizes;
 #[cfg(test)]
 mod tests;
 mod words;
@@ -20,13 +23,12 @@ pub use fnv::hash;
 pub use kind::Kind;
 pub use last::Last;
 pub use laws::{no_piece_is_longer, parts_are_names_or_dots};
+pub use limits::{
+    BUCKET_ROWS, MOST_BUCKETS, MOST_COUNT, MOST_INODES, MOST_LINKS, MOST_NAMES, MOST_ROWS,
+    NAME_MAX, NUMBER_LIMIT, PATH_MAX,
+};
 pub use name::{Name, Part};
 pub use path::{PathText, parse};
 pub use refusal::Refusal;
+pub use sizes::{MakeFault, are_right};
 pub use words::{pack, unpack};
-
-/// The most bytes that a name has (POSIX.1-2017: NAME_MAX).
-pub const NAME_MAX: usize = 255;
-
-/// The most bytes that a path has, the final zero of POSIX.1-2017 not counted.
-pub const PATH_MAX: usize = 4095;

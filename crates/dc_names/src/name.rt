@@ -3,7 +3,7 @@
 ghost use Rattle.std.specs.Prelude.{◌≡◌, ◌↔◌, ◌==◌, ◌||◌, ◌&&◌, not, nat_lt, length, IsTrue, IsSome, IfSome};
 ghost use Rattle.std.specs.List.{list_any};
 ghost use Rattle.dc_names.specs.Bytes.{is_empty, is_name, is_dot, is_dot_dot};
-ghost use Rattle.dc_names.specs.declared.TheConstants.{NAME_MAX};
+ghost use Rattle.dc_names.specs.declared.limits.TheConstants.{NAME_MAX};
 
 use crate::NAME_MAX;
 
@@ -39,6 +39,7 @@ impl<'a> Name<'a> {
     }
 
     /// The bytes of the name.
+    #[must_use]
     pub fn bytes(&self) -> &'a [u8]
         ensures bytes { result.now ≡ self.now.bytes.now }
         ensures named { IsTrue (is_name result.now) }

@@ -3,7 +3,7 @@
 ghost use Rattle.std.specs.Prelude.{◌≡◌, ◌==◌, IfOk, IfErr, IsTrue, None, Some, length, nat_lt};
 ghost use Rattle.std.specs.List.{list_any, list_all};
 ghost use Rattle.dc_names.specs.Bytes.{pieces, has_parts};
-ghost use Rattle.dc_names.specs.declared.TheConstants.{NAME_MAX};
+ghost use Rattle.dc_names.specs.declared.limits.TheConstants.{NAME_MAX};
 ghost use Rattle.dc_names.specs.Paths.{fault_of, parts_of, has_end_slash, begins_with_slash, ends_in_slash};
 
 use crate::{Components, NAME_MAX, PATH_MAX, TextFault};
@@ -52,9 +52,9 @@ fn has_zero(bytes: &[u8]) -> bool
 }
 
 impl<'a> PathText<'a> {
-    /// The path that the bytes are, where the caller knows that they have no fault.
+    /// The path of bytes of which the caller knows that they have no fault.
     #[must_use]
-    pub fn new(bytes: &'a [u8]) -> PathText<'a>
+    pub fn known(bytes: &'a [u8]) -> PathText<'a>
         requires { fault_of bytes.now ≡ None }
         ensures { result.bytes.now ≡ bytes.now }
     {
@@ -62,6 +62,7 @@ impl<'a> PathText<'a> {
     }
 
     /// The bytes of the path.
+    #[must_use]
     pub fn bytes(&self) -> &'a [u8]
         ensures bytes { result.now ≡ self.now.bytes.now }
         ensures valid { fault_of result.now ≡ None }

@@ -1,13 +1,13 @@
 //! The refusals of the tree.
 
 ghost use Rattle.std.specs.Prelude.{◌≡◌};
-ghost use Rattle.dc_names.specs.Refusals.{refusal_of, refusal_number};
+ghost use Rattle.dc_names.specs.Refusals.{IsRefusalOf, refusal_name, refusal_number, refusal_of, refusal_with};
 
 use crate::TextFault;
 use std::error::Error;
 use std::fmt;
 
-/// Why a call is refused: the errors of POSIX.1-2017 that a tree answers, each under the symbol and
+/// Why a call is refused: the errors of POSIX.1-2017 that a tree answers, each under the name and
 /// the number that Linux gives it.
 #[derive(Clone, Copy, Debug, PartialEq, Eq)]
 pub enum Refusal {
@@ -38,7 +38,31 @@ pub enum Refusal {
     TooManyLinks,
 }
 
+/// All refusals, by their numbers.
+const REFUSALS: [Refusal; 12] = [
+    Refusal::NotPermitted,
+    Refusal::NotFound,
+    Refusal::Busy,
+    Refusal::Exists,
+    Refusal::NotDirectory,
+    Refusal::IsDirectory,
+    Refusal::Invalid,
+    Refusal::NoSpace,
+    Refusal::TooManyNames,
+    Refusal::NameTooLong,
+    Refusal::NotEmpty,
+    Refusal::TooManyLinks,
+];
+
 impl Refusal {
+    /// The refusal that has a number, or `None` where none has it.
+    #[must_use]
+    pub fn of(number: u64) -> Option<Refusal>
+        ensures { IsRefusalOf number result }
+    {
+        first_with(number)
+    }
+
     /// The number of the error on Linux.
     #[must_use]
     pub fn number(self) -> u64
@@ -60,8 +84,11 @@ impl Refusal {
         }
     }
 
-    /// The symbol of the error, as in `ENOENT`.
-    fn symbol(self) -> &'static str {
+    /// The name of the error, as in `ENOENT`.
+    #[must_use]
+    pub fn name(self) -> &'static str
+        ensures { result.now ≡ refusal_name self }
+    {
         match self {
             Refusal::NotPermitted => "EPERM",
             Refusal::NotFound => "ENOENT",
@@ -79,9 +106,19 @@ impl Refusal {
     }
 }
 
+/// The first refusal that has a number.
+fn first_with(number: u64) -> Option<Refusal>
+    ensures { result ≡ refusal_with number }
+{
+    REFUSALS
+        .iter()
+        .copied()
+        .find(|refusal| refusal.number() == number)
+}
+
 impl fmt::Display for Refusal {
     fn fmt<W: fmt::Write>(&self, f: &mut fmt::Formatter<W>) -> fmt::Result {
-        f.write_str(self.symbol())
+        f.write_str(self.name())
     }
 }
 

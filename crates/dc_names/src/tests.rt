@@ -68,7 +68,7 @@ fn reads_the_slashes(rt: HostRuntime) -> Result<(), Fail> {
         let path = parse(text)?;
         assert_eq!(rt; path.is_absolute(), absolute);
         assert_eq!(rt; path.has_end_slash(), slash);
-        assert!(rt; PathText::new(path.bytes()).bytes() == text);
+        assert!(rt; PathText::known(path.bytes()).bytes() == text);
     }
     Ok(())
 }
@@ -100,7 +100,14 @@ fn names_refusals_as_linux_does(rt: HostRuntime) -> Result<(), Fail> {
     for (refusal, number, symbol) in refusals {
         assert_eq!(rt; refusal.number(), number);
         assert_eq!(rt; refusal.to_string(rt.alloc())?.as_str(), symbol);
+        assert_eq!(rt; refusal.name(), symbol);
+        assert_eq!(rt; Refusal::of(number), Some(refusal));
     }
+    assert!(rt;
+        [0, 3, 23, u64::MAX]
+            .into_iter()
+            .all(|number| Refusal::of(number).is_none())
+    );
     assert_eq!(rt; Refusal::from(TextFault::Zero), Refusal::Invalid);
     Ok(())
 }

@@ -15,7 +15,8 @@ use Rattle.dc_store.specs.Moved.{tree_moved}
 use Rattle.dc_names.specs.declared.refusal.Refusal.{Refusal}
 use Rattle.dc_names.specs.Refusals.{refusal_number}
 use Rattle.dc_ops.specs.Reads.{answered}
-use Rattle.dc_plain.specs.Effects.{without_entry, without_entry_alone, without_there}
+use Rattle.dc_plain.specs.Conditions.{CanSwap}
+use Rattle.dc_plain.specs.Effects.{with_entry_for, without_entry, without_entry_alone, without_there, tree_swapped}
 use Rattle.dc_plain.specs.LivingLaws.{AltersDecides}
 use Rattle.dc_plain.specs.Runs.{alters, tree_after}
 use Rattle.dc_store.specs.Added.{tree_added}
@@ -24,7 +25,7 @@ use Rattle.dc_store.specs.declared.store.New as rust_new
 use Rattle.dc_store.specs.declared.store.New.TheVariants as news
 use Rattle.dc_ops.specs.declared.plans.Plan as rust_plan
 use Rattle.dc_ops.specs.declared.plans.Plan.TheVariants as plans
-use Rattle.dc_ops.specs.Plans.{effect, CanCarry, IsDrop, IsPlanOf, OnlyDrops, SettlesIf, Plans, Declines}
+use Rattle.dc_ops.specs.Plans.{effect, CanCarry, PlanTakesNoMemory, IsPlanOf, CallTakesNoMemory, SettlesIf, Plans, Declines}
 use Rattle.dc_ops.proofs.Distinct.{plan_distinct}
 
 no_some : (n : ℕ) → ◌≡◌ {A = Option ℕ} None (Some n) → ⊥
@@ -82,15 +83,23 @@ module _ (total : IsTotalOrder spot_cmp) where
       let there : entry_number (tree_moved t from to n) to ≡ Some n = found to n rest.entries in
       other (sym (ap (λ u. entry_number u to) same) ∙ there)
 
+  -- what swapped is found at the other name
+  swapped_differs : (t : Tree) (a : Spot) (m : ℕ) (b : Spot) (n : ℕ) → CanSwap t a m b n → tree_swapped t a m b n ≢ t
+  swapped_differs t a m b n can same =
+      let half : Tree = with_entry_for t a.dir a.name n in
+      let both : Some m ≡ Some n = sym (found b m half.entries) ∙ ap (λ (u : Tree). entry_number u b) same ∙ can.second in
+      let one : m ≡ n = cc in can.two one
+
   effect_differs : (plan : rust_plan.Plan) (t : Tree) → CanCarry plan t → (effect plan t).1 ≢ t
   effect_differs (plans.Add d name new number) t can = added_differs t d name.bytes.now new can.1
   effect_differs (plans.Drop d name number lost) t can = dropped_differs t d name.bytes.now number can.0
   effect_differs (plans.Move from to number reparents lost) t can = moved_differs t (spot_shown from) (spot_shown to) number can.1.other
+  effect_differs (plans.Swap from to first second) t can = swapped_differs t (spot_shown from) first.number (spot_shown to) second.number can
 
   -- a change that comes to a plan
   plans_so : AltersDecides → (limit : ℕ) (t : Tree) (request : Request) (plan : rust_plan.Plan) → IsPlanOf t (change_of limit t request) (listed t request) plan
-      → (OnlyDrops request → IsDrop plan) → Plans limit t request plan
-  plans_so decides limit t request plan is drops =
+      → (CallTakesNoMemory request → PlanTakesNoMemory plan) → Plans limit t request plan
+  plans_so decides limit t request plan is spares =
       let whole : operation limit t request ≡ effect plan t = ap (settled t) is.does in
       record {
         operation = whole;
@@ -98,7 +107,7 @@ module _ (total : IsTotalOrder spot_cmp) where
         alters = alters_so decides limit t request (λ same. effect_differs plan t is.can (ap (λ (p : Answer × Tree). p.1) (sym whole) ∙ same));
         keys = is.keys ∙ sym (ap (λ change. unless_refused change (listed t request)) is.does);
         distinct = plan_distinct plan t is.can is.loses;
-        drops = drops;
+        without_memory = spares;
       }
 
 -- a call that leaves the tree as it is
@@ -115,9 +124,9 @@ reads_so decides limit t request r answer is e = declines_so decides limit t req
 
 -- a change that may come to nothing
 pub plans_if : IsTotalOrder spot_cmp → AltersDecides → (limit : ℕ) (t : Tree) (request : Request) (found : Option rust_plan.Plan) (plan : rust_plan.Plan) → found ≡ Some plan
-    → SettlesIf t (change_of limit t request) (listed t request) (Ok found) → (OnlyDrops request → IfSome found IsDrop) → Plans limit t request plan
-plans_if total decides limit t request None plan is settles drops = absurd cc
-plans_if total decides limit t request (Some other) plan is settles drops = let same : other ≡ plan = cc in subst (Plans limit t request) same (plans_so total decides limit t request other settles drops)
+    → SettlesIf t (change_of limit t request) (listed t request) (Ok found) → (CallTakesNoMemory request → IfSome found PlanTakesNoMemory) → Plans limit t request plan
+plans_if total decides limit t request None plan is settles spares = absurd cc
+plans_if total decides limit t request (Some other) plan is settles spares = let same : other ≡ plan = cc in subst (Plans limit t request) same (plans_so total decides limit t request other settles spares)
 
 pub idles_if : AltersDecides → (limit : ℕ) (t : Tree) (request : Request) (found : Option rust_plan.Plan) → found ≡ None → SettlesIf t (change_of limit t request) (listed t request) (Ok found) → Declines limit t request Nothing
 idles_if decides limit t request None is settles = declines_so decides limit t request Nothing (ap (settled t) settles)

@@ -1,5 +1,5 @@
 -- The keys of a rename.
-use Rattle.std.proofs.lemmas.Bool.{eq-eqb}
+use Rattle.std.proofs.lemmas.Bool.{eq-eqb, ne_eqb}
 use Rattle.std.proofs.Common.{◌≡◌, ◌≢◌, subst, true, IfSome, IsTrue, Ok, Err, ℕ, ◌==◌, ◌&&◌, not, List, [], ◌∷◌, ◌++◌, Bool, false, Option, Some, None, refl, ap, sym, ◌∙◌, option_map, if◌then◌else◌}
 use Rattle.dc_plain.specs.Facts.{Target, Key}
 use Rattle.dc_names.specs.Bytes.{is_empty}
@@ -8,7 +8,7 @@ use Rattle.dc_plain.specs.Refusals.{refuse}
 use Rattle.dc_plain.specs.Conditions.{is_full_directory}
 use Rattle.dc_plain.specs.Operations.{same_inode, replaceable}
 use Rattle.dc_plain.specs.Resolution.{is_directory}
-use Rattle.dc_plain.specs.TouchedKeys.{entry_key, keys_gone, keys_moved, keys_renamed, keys_taken, parent_key, lead_to_one, with_number}
+use Rattle.dc_plain.specs.TouchedKeys.{entry_key, keys_gone, keys_moved, keys_renamed, keys_swapped, keys_taken, parent_key, lead_to_one, with_number}
 use Rattle.dc_plain.specs.Trees.{Tree, Inode, entry_number, names_in, target_at, inode_of, is_live_directory, is_directory_inode}
 use Rattle.dc_plain.specs.Trees.Inode.{Directory, Regular, Symbolic}
 use Rattle.dc_plain.specs.Spots.{spot_at}
@@ -62,3 +62,23 @@ gives_way t moved None number is lives may = subst (λ o. IfSome o (λ m. IsTrue
 gives_way t moved (Some place) number is lives may =
     let goes : not (is_directory place && not (is_empty (names_in t place.0))) ≡ true = may_go (is_directory moved) (is_directory place) (is_empty (names_in t place.0)) may in
     subst (λ o. IfSome o (λ m. IsTrue (not (is_full_directory t m)))) is (ap (λ b. not (b && not (is_empty (names_in t place.0)))) (sym (live_by t place lives)) ∙ goes)
+
+-- the dot-dot of a directory that gets another parent
+reparented : (t : Tree) (from to : ℕ) (place : Target) (number : Option ℕ) (turns : Bool) → number ≡ Some place.0 → target_at t place.0 ≡ Some place → turns ≡ (is_directory place && not (from == to))
+    → with_number number (keys_moved t from to) ≡ keys_reparented place.0 turns
+reparented t from to place number turns source lives turned =
+    ap (λ o. with_number o (keys_moved t from to)) source ∙ ap (λ b. if b && not (from == to) then parent_key place.0 ∷ [] else []) (sym (live_by t place lives)) ∙ ap (keys_reparented place.0) (sym turned)
+
+pub swapped_keys : (t : Tree) (from : ℕ) (old : List ℕ) (to : ℕ) (new : List ℕ) (moved there : Target) (first second : Bool)
+    → entry_number t (spot_at from old) ≡ Some moved.0 → target_at t moved.0 ≡ Some moved → entry_number t (spot_at to new) ≡ Some there.0 → target_at t there.0 ≡ Some there → moved.0 ≢ there.0
+    → first ≡ (is_directory moved && not (from == to)) → second ≡ (is_directory there && not (to == from))
+    → entry_key from old ∷ entry_key to new ∷ (keys_reparented moved.0 first ++ keys_reparented there.0 second) ≡ keys_swapped t from old to new
+swapped_keys t from old to new moved there first second source lives target stands apart first_turns second_turns =
+    let a = entry_number t (spot_at from old) in
+    let b = entry_number t (spot_at to new) in
+    let other : lead_to_one a b ≡ false = (λ i. lead_to_one (source i) (target i)) ∙ ne_eqb moved.0 there.0 apart in
+    let both : List Key = entry_key from old ∷ entry_key to new ∷ (with_number a (keys_moved t from to) ++ with_number b (keys_moved t to from)) in
+    let whole : keys_swapped t from old to new ≡ both = ap (λ b. if b then [] else both) other in
+    let going = reparented t from to moved a first source lives first_turns in
+    let coming = reparented t to from there b second target stands second_turns in
+    sym (whole ∙ (λ i. entry_key from old ∷ entry_key to new ∷ (going i ++ coming i)))

@@ -7,7 +7,7 @@ use Rattle.dc_plain.specs.Resolution.{is_directory}
 use Rattle.dc_plain.specs.Trees.{Tree, Inode, inode_of, target_at, kind_of, names_of, is_directory_inode}
 use Rattle.dc_plain.specs.Trees.Inode.{Directory, Regular, Symbolic}
 use Rattle.dc_plain.specs.Refusals.{is_full}
-use Rattle.dc_plain.specs.declared.TheConstants.{MOST_NAMES, NUMBER_LIMIT}
+use Rattle.dc_names.specs.declared.limits.TheConstants.{MOST_NAMES, NUMBER_LIMIT}
 use Rattle.dc_plain.specs.Conditions.{CanBeNamed}
 use Rattle.dc_store.specs.Added.{CanAdd, number_added}
 use Rattle.dc_store.specs.declared.store.New as rust_new

@@ -26,6 +26,8 @@ keys_of (plans.Add dir name new number) = entry_key dir name.bytes.now ∷ keys_
 keys_of (plans.Drop dir name number lost) = entry_key dir name.bytes.now ∷ keys_in lost
 keys_of (plans.Move from to number reparents lost) =
     spot_key (spot_shown from) ∷ spot_key (spot_shown to) ∷ keys_reparented number reparents ++ keys_in lost
+keys_of (plans.Swap from to first second) =
+    spot_key (spot_shown from) ∷ spot_key (spot_shown to) ∷ keys_reparented first.number first.reparents ++ keys_reparented second.number second.reparents
 
 -- no key stands at two places
 abbrev pub AreDistinct : List Key → Type 0

@@ -6,9 +6,9 @@ use Rattle.dc_plain.specs.KeysShown.{keys_in}
 use Rattle.dc_plain.specs.Trees.{Tree, Spot, is_live_directory, entry_number}
 use Rattle.dc_plain.specs.Requests.{Request, Answer}
 use Rattle.dc_plain.specs.Requests.Answer.{Done, Nothing}
-use Rattle.dc_plain.specs.Requests.Request.{Unlink, Rmdir}
-use Rattle.dc_plain.specs.Conditions.{is_full_directory}
-use Rattle.dc_plain.specs.Effects.{without_entry}
+use Rattle.dc_plain.specs.Requests.Request.{Unlink, Rmdir, Rename}
+use Rattle.dc_plain.specs.Conditions.{CanSwap, is_full_directory}
+use Rattle.dc_plain.specs.Effects.{without_entry, tree_swapped}
 use Rattle.dc_plain.specs.Operations.{Change, operation}
 use Rattle.dc_plain.specs.Runs.{alters}
 use Rattle.dc_plain.specs.Spots.{spot_at, spot_shown}
@@ -25,6 +25,7 @@ abbrev pub effect : rust_plan.Plan → Tree → Answer × Tree
 effect (plans.Add dir name new number) t = (Done number, tree_added t dir name.bytes.now new)
 effect (plans.Drop dir name number lost) t = (Nothing, without_entry t dir name.bytes.now number)
 effect (plans.Move from to number reparents lost) t = (Nothing, tree_moved t (spot_shown from) (spot_shown to) number)
+effect (plans.Swap from to first second) t = (Nothing, tree_swapped t (spot_shown from) first.number (spot_shown to) second.number)
 
 -- an entry may be added: its directory lives, it isn't there, and it leads to the number told
 abbrev pub CanAddAt : Tree → Spot → rust_new.New → ℕ → Type 0
@@ -43,24 +44,28 @@ abbrev pub CanCarry : rust_plan.Plan → Tree → Type 0
 CanCarry (plans.Add dir name new number) t = CanAddAt t (spot_at dir name.bytes.now) new number
 CanCarry (plans.Drop dir name number lost) t = CanDropAt t (spot_at dir name.bytes.now) number
 CanCarry (plans.Move from to number reparents lost) t = CanMoveAt t (spot_shown from) (spot_shown to) number
+CanCarry (plans.Swap from to first second) t = CanSwap t (spot_shown from) first.number (spot_shown to) second.number
 
 -- what a plan says that goes with a last name is what goes
 abbrev pub Loses : rust_plan.Plan → Tree → Type 0
 Loses (plans.Add dir name new number) t = Unit {0}
 Loses (plans.Drop dir name number lost) t = keys_in lost ≡ keys_gone t number
 Loses (plans.Move from to number reparents lost) t = keys_in lost ≡ with_number (entry_number t (spot_shown to)) (keys_gone t)
+Loses (plans.Swap from to first second) t = Unit {0}
 
--- an entry that goes takes no memory
-abbrev pub IsDrop : rust_plan.Plan → Type 0
-IsDrop (plans.Add dir name new number) = ⊥
-IsDrop (plans.Drop dir name number lost) = Unit {0}
-IsDrop (plans.Move from to number reparents lost) = ⊥
+-- an entry that goes takes no memory, and two that swap take none
+abbrev pub PlanTakesNoMemory : rust_plan.Plan → Type 0
+PlanTakesNoMemory (plans.Add dir name new number) = ⊥
+PlanTakesNoMemory (plans.Drop dir name number lost) = Unit {0}
+PlanTakesNoMemory (plans.Move from to number reparents lost) = ⊥
+PlanTakesNoMemory (plans.Swap from to first second) = Unit {0}
 
--- only an entry that goes is asked for
-abbrev pub OnlyDrops : Request → Type 0
-OnlyDrops (Unlink base path) = Unit {0}
-OnlyDrops (Rmdir base path) = Unit {0}
-OnlyDrops _ = ⊥
+-- a call by which an entry goes and none comes, or two swap, takes no memory
+abbrev pub CallTakesNoMemory : Request → Type 0
+CallTakesNoMemory (Unlink base path) = Unit {0}
+CallTakesNoMemory (Rmdir base path) = Unit {0}
+CallTakesNoMemory (Rename base old new flags) = IsTrue flags.exchange
+CallTakesNoMemory _ = ⊥
 
 -- a plan of a change: its effect is the change's, it can be carried out, and its keys are those listed
 pub record IsPlanOf (t : Tree) (change : Change) (listed : List Key) (plan : rust_plan.Plan) : Type 0 where
@@ -79,14 +84,14 @@ SettlesIf t change listed found =
     MatchResult found (λ plan. MatchOption plan (change ≡ Ok (Nothing, t)) (IsPlanOf t change listed)) (λ refusal. change ≡ Err refusal)
 
 -- the plan of a change: its effect is the operation, the tree differs afterwards, its keys are those touched, each once,
--- and where an entry is to go and no more, that is what it does
+-- and it takes no memory where the call takes none
 pub record Plans (limit : ℕ) (t : Tree) (request : Request) (plan : rust_plan.Plan) : Type 0 where
   pub operation : operation limit t request ≡ effect plan t
   pub can : CanCarry plan t
   pub alters : alters limit t request ≡ true
   pub keys : keys_of plan ≡ keys_touched limit t request
   pub distinct : AreDistinct (keys_of plan)
-  pub drops : OnlyDrops request → IsDrop plan
+  pub without_memory : CallTakesNoMemory request → PlanTakesNoMemory plan
 
 -- the reply of a call that leaves the tree as it is
 pub record Declines (limit : ℕ) (t : Tree) (request : Request) (answer : Answer) : Type 0 where

@@ -5,7 +5,7 @@ ghost use Rattle.dc_plain.specs.Operations.{change_of};
 ghost use Rattle.dc_plain.specs.Requests.{answer_of, request_of};
 ghost use Rattle.dc_plain.specs.TouchedKeys.{listed};
 ghost use Rattle.dc_ops.specs.Asked.{IsChange};
-ghost use Rattle.dc_ops.specs.Plans.{Plans, Declines, SettlesIf, OnlyDrops, IsDrop};
+ghost use Rattle.dc_ops.specs.Plans.{Plans, Declines, SettlesIf, CallTakesNoMemory, PlanTakesNoMemory};
 
 use crate::Plan;
 use crate::makes::{plan_link, plan_make, plan_symlink};
@@ -44,8 +44,8 @@ fn found<'a, S: Store>(
     ensures settled { SettlesIf (S.tree store.now)
         (change_of max_inodes (S.tree store.now) (request_of call.now))
         (listed (S.tree store.now) (request_of call.now)) result }
-    ensures drops { OnlyDrops (request_of call.now) →
-        IfOk result (λ plan. IfSome plan (λ plan. IsDrop plan)) }
+    ensures without_memory { CallTakesNoMemory (request_of call.now) →
+        IfOk result (λ plan. IfSome plan (λ plan. PlanTakesNoMemory plan)) }
 {
     Ok(match *call {
         Call::Mkdir { base, path } => Some(plan_make(store, base, path, New::Dir, max_inodes)?),
@@ -56,7 +56,12 @@ fn found<'a, S: Store>(
         Call::Link { base, old, new } => Some(plan_link(store, base, old, new)?),
         Call::Unlink { base, path } => Some(plan_unlink(store, base, path)?),
         Call::Rmdir { base, path } => Some(plan_rmdir(store, base, path)?),
-        Call::Rename { base, old, new } => plan_rename(store, base, old, new)?,
+        Call::Rename {
+            base,
+            old,
+            new,
+            flags,
+        } => plan_rename(store, base, old, new, flags)?,
         // A read has no plan, and the caller knows that this is a change.
         Call::Look { .. } | Call::Readlink { .. } | Call::Stat { .. } | Call::List { .. } => {
             unreachable!()

@@ -1,6 +1,8 @@
+//! Plans carried out.
+
 ghost use Rattle.std.specs.Prelude.{◌≡◌, IfOk, IsOk, OnOk, OnErr};
 ghost use Rattle.dc_plain.specs.Requests.{answer_of};
-ghost use Rattle.dc_ops.specs.Plans.{effect, CanCarry, IsDrop};
+ghost use Rattle.dc_ops.specs.Plans.{effect, CanCarry, PlanTakesNoMemory};
 
 use crate::Plan;
 use dc_names::NoMemory;
@@ -9,14 +11,14 @@ use dc_store::Store;
 use std::alloc::Global;
 
 /// Carries a plan out on the store that it was made for. After `NoMemory` the store is unchanged; an
-/// entry that goes takes no memory.
+/// entry that goes and two that swap take no memory.
 pub fn carry<S: Store>(alloc: Global, store: &mut S, plan: Plan<'_>) -> Result<Reply, NoMemory>
     requires { CanCarry plan (S.tree store.old) }
     ensures reply { IfOk result (λ reply.
         answer_of reply ≡ (effect plan.entry (S.tree store.old)).0) }
     ensures tree { OnOk result (S.tree store.new ≡ (effect plan.entry (S.tree store.old)).1) }
     ensures err { OnErr result (S.tree store.new ≡ S.tree store.old) }
-    ensures drops { IsDrop plan.entry → IsOk result }
+    ensures without_memory { PlanTakesNoMemory plan.entry → IsOk result }
 {
     match plan {
         Plan::Add { dir, name, new, .. } => {
@@ -29,6 +31,10 @@ pub fn carry<S: Store>(alloc: Global, store: &mut S, plan: Plan<'_>) -> Result<R
         }
         Plan::Move { from, to, .. } => {
             store.move_entry(alloc, from, to)?;
+            Ok(Reply::Unit)
+        }
+        Plan::Swap { from, to, .. } => {
+            store.swap_entries(from, to);
             Ok(Reply::Unit)
         }
     }

@@ -15,8 +15,8 @@ use dc_resolve::{Finder, Stop};
 use dc_store::Store;
 
 /// Answers the questions of a walk from a store.
-pub(crate) struct StoreFinder<'a, S: Store> {
-    pub(crate) store: &'a S,
+pub struct StoreFinder<'a, S: Store> {
+    pub store: &'a S,
 }
 
 /// Where a name in a directory leads.

@@ -1,12 +1,14 @@
 //! The keys that a plan touches.
 
-ghost use Rattle.std.specs.Prelude.{◌≡◌, ◌<◌, ◌≤◌, ◌+◌, ◌++◌, map};
+ghost use Rattle.std.specs.Prelude.{◌≡◌, ◌<◌, ◌≤◌, ◌+◌, ◌∷◌, ◌++◌, map};
+ghost use Rattle.dc_plain.specs.Spots.{spot_shown};
+ghost use Rattle.dc_plain.specs.TouchedKeys.{spot_key};
 ghost use Rattle.std.specs.Option.{option_to_list};
 ghost use Rattle.arrayvec.specs.ArrayVec.{array_vec_len};
 ghost use Rattle.dc_plain.specs.KeysShown.{key_shown, keys_in};
 ghost use Rattle.dc_ops.specs.Keys.{keys_made, keys_of, keys_reparented};
 
-use crate::Plan;
+use crate::{Moved, Plan};
 use arrayvec::ArrayVec;
 use dc_names::Kind;
 use dc_plain::{Key, Spot};
@@ -19,40 +21,70 @@ impl<'a> Plan<'a> {
     pub fn keys(&self) -> ArrayVec<Key<'a>, 4>
         ensures { map key_shown result.items ≡ keys_of self.now }
     {
-        let mut keys = ArrayVec::new();
         match *self {
             Plan::Add {
                 dir,
                 name,
                 new,
                 number,
-            } => {
-                keys.push(Key::from(Spot { dir, name }));
-                push_some(&mut keys, made_key(number, new));
-            }
+            } => one_name(Spot { dir, name }, made_key(number, new)),
             Plan::Drop {
                 dir,
                 name,
                 lost,
                 ..
-            } => {
-                keys.push(Key::from(Spot { dir, name }));
-                push_some(&mut keys, lost);
-            }
+            } => one_name(Spot { dir, name }, lost),
             Plan::Move {
                 from,
                 to,
                 number,
                 reparents,
                 lost,
-            } => {
-                keys.push(Key::from(from));
-                keys.push(Key::from(to));
-                push_some(&mut keys, parent_key(number, reparents));
-                push_some(&mut keys, lost);
-            }
+            } => two_names(from, to, parent_key(number, reparents), lost),
+            Plan::Swap {
+                from,
+                to,
+                first,
+                second,
+            } => two_names(from, to, first.parent_key(), second.parent_key()),
         }
-        keys
+    }
+}
+
+/// The keys of a name and of an inode's own, if there is one.
+fn one_name<'a>(name: Spot<'a>, own: Option<Key<'a>>) -> ArrayVec<Key<'a>, 4>
+    ensures { map key_shown result.items ≡ spot_key (spot_shown name.entry) ∷ keys_in own.entry }
+{
+    let mut keys = ArrayVec::new();
+    keys.push(Key::from(name));
+    push_some(&mut keys, own);
+    keys
+}
+
+/// The keys of two names, and those of an inode's own that there are.
+fn two_names<'a>(
+    from: Spot<'a>,
+    to: Spot<'a>,
+    own: Option<Key<'a>>,
+    other: Option<Key<'a>>,
+) -> ArrayVec<Key<'a>, 4>
+    ensures { map key_shown result.items ≡ spot_key (spot_shown from.entry)
+        ∷ spot_key (spot_shown to.entry) ∷ keys_in own.entry ++ keys_in other.entry }
+{
+    let mut keys = ArrayVec::new();
+    keys.push(Key::from(from));
+    keys.push(Key::from(to));
+    push_some(&mut keys, own);
+    push_some(&mut keys, other);
+    keys
+}
+
+impl Moved {
+    /// Its dot-dot, where it is a directory that gets another parent.
+    fn parent_key<'a>(self) -> Option<Key<'a>>
+        ensures { keys_in result ≡ keys_reparented self.number self.reparents }
+    {
+        parent_key(self.number, self.reparents)
     }
 }
 

@@ -13,10 +13,11 @@ mod reads;
 mod renames;
 mod takes;
 
-pub use dc_plain::{Call, Key, Label, Reply};
+pub use dc_plain::{Call, Flags, Key, Label, Reply};
 pub use dispatch::plan;
 pub use effects::carry;
-pub use plans::Plan;
+pub use finder::StoreFinder;
+pub use plans::{Moved, Plan};
 pub use reads::{ask, seek};
 
 #[cfg(test)]

@@ -6,7 +6,7 @@ ghost use Rattle.dc_plain.specs.Operations.{link, symlink};
 ghost use Rattle.dc_plain.specs.Resolution.{is_directory};
 ghost use Rattle.dc_plain.specs.TouchedKeys.{at_name, entry_key, own_keys};
 ghost use Rattle.dc_plain.specs.Trees.{names_of, target_at};
-ghost use Rattle.dc_plain.specs.declared.TheConstants.{MOST_NAMES};
+ghost use Rattle.dc_names.specs.declared.limits.TheConstants.{MOST_NAMES};
 ghost use Rattle.dc_ops.specs.Keys.{keys_made};
 ghost use Rattle.dc_ops.specs.Makes.{MakesInode, made_for, may_end_in_slash};
 ghost use Rattle.dc_ops.specs.Plans.{Settles};

@@ -4,6 +4,15 @@ use dc_names::Name;
 use dc_plain::{Key, Spot};
 use dc_store::New;
 
+/// An inode that gets another name.
+#[derive(Clone, Copy, Debug, PartialEq, Eq)]
+pub struct Moved {
+    /// Its number.
+    pub number: u64,
+    /// Whether it is a directory whose parent becomes another.
+    pub reparents: bool,
+}
+
 /// What a change is to do to a store.
 #[derive(Clone, Copy, Debug, PartialEq, Eq)]
 pub enum Plan<'a> {
@@ -41,5 +50,16 @@ pub enum Plan<'a> {
         reparents: bool,
         /// The key of its own that what stood at the new name has, where that was its last name.
         lost: Option<Key<'a>>,
+    },
+    /// Two entries swap what they lead to.
+    Swap {
+        /// One name.
+        from: Spot<'a>,
+        /// The other name.
+        to: Spot<'a>,
+        /// What stands at the one name, and gets the other.
+        first: Moved,
+        /// What stands at the other name, and gets the one.
+        second: Moved,
     },
 }

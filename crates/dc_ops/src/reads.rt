@@ -1,13 +1,14 @@
 //! Calls that alter nothing.
 
-ghost use Rattle.std.specs.Prelude.{◌≡◌, ℕ, IfOk};
+ghost use Rattle.std.specs.Prelude.{◌≡◌, ℕ, IfOk, OnErr};
 ghost use Rattle.dc_names.specs.Refusals.{Gives};
 ghost use Rattle.dc_plain.specs.Reads.{look, stat, readlink, list_names};
 ghost use Rattle.dc_plain.specs.Requests.{answer_of, request_of};
 ghost use Rattle.dc_plain.specs.Refusals.{walk_on};
 ghost use Rattle.dc_ops.specs.Asked.{IsSought, IsToldAtLength};
 ghost use Rattle.dc_ops.specs.Plans.{Declines};
-ghost use Rattle.dc_ops.specs.Reads.{answered};
+ghost use Rattle.dc_plain.specs.Runs.{reply_of};
+ghost use Rattle.dc_ops.specs.Reads.{answered, IsAtLength};
 
 use crate::paths::{path_of, walk_path};
 use dc_names::{NoMemory, Refusal};
@@ -66,11 +67,14 @@ fn stat<S: Store>(store: &S, base: u64, path: &[u8]) -> Reply
     }
 }
 
-/// Answers `Readlink` or `List`. `NoMemory` where memory for the text or the names was refused.
+/// Answers `Readlink` or `List`. `NoMemory` where memory for the text or the names was refused: never
+/// in the place of a refusal.
 pub fn ask<S: Store>(alloc: Global, store: &S, call: &Call<'_>) -> Result<Reply, NoMemory>
     requires { IsToldAtLength call.now }
-    ensures { IfOk result (λ reply. (limit : ℕ) →
+    ensures ok { IfOk result (λ reply. (limit : ℕ) →
         Declines limit (S.tree store.now) (request_of call.now) (answer_of reply)) }
+    ensures err { OnErr result ((limit : ℕ) →
+        IsAtLength (reply_of limit (S.tree store.now) (request_of call.now))) }
 {
     alters_tells_whether_trees_differ();
     Ok(match *call {
@@ -90,8 +94,10 @@ pub fn ask<S: Store>(alloc: Global, store: &S, call: &Call<'_>) -> Result<Reply,
 }
 
 fn read_link<S: Store>(alloc: Global, store: &S, base: u64, path: &[u8]) -> Result<Reply, NoMemory>
-    ensures { IfOk result (λ reply.
+    ensures ok { IfOk result (λ reply.
         answer_of reply ≡ answered (readlink (S.tree store.now) base path.now)) }
+    ensures err { OnErr result
+        (IsAtLength (answered (readlink (S.tree store.now) base path.now))) }
 {
     let number = match walk_text(store, base, path, Follow::No) {
         Ok((number, _)) => number,
@@ -104,8 +110,10 @@ fn read_link<S: Store>(alloc: Global, store: &S, base: u64, path: &[u8]) -> Resu
 }
 
 fn list<S: Store>(alloc: Global, store: &S, base: u64, path: &[u8]) -> Result<Reply, NoMemory>
-    ensures { IfOk result (λ reply.
+    ensures ok { IfOk result (λ reply.
         answer_of reply ≡ answered (list_names (S.tree store.now) base path.now)) }
+    ensures err { OnErr result
+        (IsAtLength (answered (list_names (S.tree store.now) base path.now))) }
 {
     match walk_text(store, base, path, Follow::Dir) {
         Ok((number, _)) => Ok(Reply::Names(store.list(alloc, number)?)),

@@ -1,26 +1,26 @@
 //! Plans of entries that move.
 
-ghost use Rattle.std.specs.Prelude.{◌≡◌, ◌≤◌, ◌==◌, ◌&&◌, not, true, length, option_map, Some, IfErr, IfSome, Ok, Err, OnOk, IsTrue};
+ghost use Rattle.std.specs.Prelude.{◌≡◌, ◌≤◌, ◌==◌, ◌&&◌, not, true, length, option_map, Some, IfErr, IfOk, IfSome, Ok, Err, OnOk, IsTrue};
 ghost use Rattle.dc_plain.specs.IsWellFormed.{IsWellFormed};
 ghost use Rattle.dc_plain.specs.KeysShown.{keys_in};
-ghost use Rattle.dc_plain.specs.Operations.{rename, is_beneath, replaceable, same_inode};
+ghost use Rattle.dc_plain.specs.Operations.{rename, swap_names, is_beneath, replaceable, same_inode};
 ghost use Rattle.dc_plain.specs.Requests.Request.{Rename};
 ghost use Rattle.dc_plain.specs.Resolution.{is_directory};
-ghost use Rattle.dc_plain.specs.Spots.{spot_shown};
-ghost use Rattle.dc_plain.specs.TouchedKeys.{keys_gone, listed, with_number};
+ghost use Rattle.dc_plain.specs.Spots.{spot_at, spot_shown, where_shown};
+ghost use Rattle.dc_plain.specs.TouchedKeys.{keys_gone, keys_swapped, listed, with_number};
 ghost use Rattle.dc_plain.specs.Trees.{is_live_directory, names_of, target_at, entry_number};
-ghost use Rattle.dc_ops.specs.Plans.{SettlesIf};
+ghost use Rattle.dc_ops.specs.Plans.{PlanTakesNoMemory, SettlesIf};
 ghost use Rattle.dc_ops.specs.Renames.{keys_of_move, move_to};
 
-use crate::Plan;
 use crate::conditions::{name_or_each, present, refuse};
 use crate::finder::entry;
 use crate::paths::{path_of, place_path};
 use crate::takes::{is_empty, lost_key};
-use dc_names::Refusal;
+use crate::{Moved, Plan};
+use dc_names::{Name, Refusal};
 use dc_plain::{
-    Key, Spot, Target, directories_have_one_holder, is_directory, names_lead_to_the_living,
-    paths_lead_to_the_living,
+    Flags, Key, Spot, Target, Where, directories_have_one_holder, is_directory,
+    names_lead_to_the_living, paths_lead_to_the_living,
 };
 use dc_store::Store;
 
@@ -30,11 +30,16 @@ pub(crate) fn plan_rename<'a, S: Store>(
     base: u64,
     old: &'a [u8],
     new: &'a [u8],
+    flags: Flags,
 ) -> Result<Option<Plan<'a>>, Refusal>
-    ensures { SettlesIf (S.tree store.now) (rename (S.tree store.now) base old.now new.now)
-        (listed (S.tree store.now) (Rename base old.now new.now)) result }
+    ensures settled { SettlesIf (S.tree store.now)
+        (rename (S.tree store.now) base old.now new.now flags)
+        (listed (S.tree store.now) (Rename base old.now new.now flags)) result }
+    ensures without_memory { IsTrue flags.exchange →
+        IfOk result (λ plan. IfSome plan (λ plan. PlanTakesNoMemory plan)) }
 {
     paths_lead_to_the_living();
+    refuse(flags.no_replace && flags.exchange, Refusal::Invalid)?;
     let old_path = path_of(old)?;
     let new_path = path_of(new)?;
     let from = place_path(store, base, old_path)?;
@@ -42,6 +47,9 @@ pub(crate) fn plan_rename<'a, S: Store>(
     let old_name = name_or_each(Refusal::Busy, Refusal::Invalid, Refusal::Invalid, from.last)?;
     let new_name = name_or_each(Refusal::Busy, Refusal::Invalid, Refusal::Invalid, to.last)?;
     let moved = present(store, from.dir, old_name)?;
+    if flags.exchange {
+        return plan_swap(store, from, old_name, to, new_name, moved);
+    }
     let ends = from.slash || to.slash;
     refuse(!is_directory(moved) && ends, Refusal::NotDirectory)?;
     let from = Spot {
@@ -52,24 +60,26 @@ pub(crate) fn plan_rename<'a, S: Store>(
         dir: to.dir,
         name: new_name,
     };
-    plan_move(store, from, to, moved)
+    plan_move(store, from, to, moved, flags.no_replace)
 }
 
-/// The plan of a rename once both names are known, and what stands at the old one.
+/// The plan of a move of what stands at the old name.
 fn plan_move<'a, S: Store>(
     store: &S,
     from: Spot<'a>,
     to: Spot<'a>,
     moved: Target,
+    no_replace: bool,
 ) -> Result<Option<Plan<'a>>, Refusal>
     requires source { entry_number (S.tree store.now) (spot_shown from) ≡ Some moved.0 }
     requires lives { target_at (S.tree store.now) moved.0 ≡ Some moved }
     requires held { IsTrue (is_live_directory (S.tree store.now) to.dir) }
     ensures { SettlesIf (S.tree store.now)
-        (move_to (S.tree store.now) (spot_shown from.entry) (spot_shown to.entry) moved)
+        (move_to (S.tree store.now) (spot_shown from.entry) (spot_shown to.entry) moved no_replace)
         (keys_of_move (S.tree store.now) (spot_shown from.entry) (spot_shown to.entry)) result }
 {
     let there = entry(store, to.dir, to.name);
+    refuse(no_replace && there.is_some(), Refusal::Exists)?;
     if is_one(moved, there) {
         return Ok(None);
     }
@@ -81,6 +91,55 @@ fn plan_move<'a, S: Store>(
         number: moved.0,
         reparents: reparents(moved, from.dir, to.dir),
         lost: lost_there(store, there),
+    }))
+}
+
+/// The plan of a swap of what stands at the two names.
+fn plan_swap<'a, S: Store>(
+    store: &S,
+    from: Where<'a>,
+    old: Name<'a>,
+    to: Where<'a>,
+    new: Name<'a>,
+    moved: Target,
+) -> Result<Option<Plan<'a>>, Refusal>
+    requires source { entry_number (S.tree store.now) (spot_at from.dir old.bytes.now)
+        ≡ Some moved.0 }
+    requires lives { target_at (S.tree store.now) moved.0 ≡ Some moved }
+    requires old_held { IsTrue (is_live_directory (S.tree store.now) from.dir) }
+    requires new_held { IsTrue (is_live_directory (S.tree store.now) to.dir) }
+    ensures settled { SettlesIf (S.tree store.now)
+        (swap_names (S.tree store.now) (where_shown from.entry) old.entry.bytes.now
+        (where_shown to.entry) new.entry.bytes.now moved)
+        (keys_swapped (S.tree store.now) from.entry.dir old.entry.bytes.now
+        to.entry.dir new.entry.bytes.now) result }
+    ensures without_memory { IfOk result (λ plan. IfSome plan (λ plan. PlanTakesNoMemory plan)) }
+{
+    let there = present(store, to.dir, new)?;
+    refuse(!is_directory(moved) && from.slash, Refusal::NotDirectory)?;
+    refuse(!is_directory(there) && to.slash, Refusal::NotDirectory)?;
+    if moved.0 == there.0 {
+        return Ok(None);
+    }
+    refuse(is_inside(store, to.dir, moved), Refusal::Invalid)?;
+    refuse(is_inside(store, from.dir, there), Refusal::Invalid)?;
+    Ok(Some(Plan::Swap {
+        from: Spot {
+            dir: from.dir,
+            name: old,
+        },
+        to: Spot {
+            dir: to.dir,
+            name: new,
+        },
+        first: Moved {
+            number: moved.0,
+            reparents: reparents(moved, from.dir, to.dir),
+        },
+        second: Moved {
+            number: there.0,
+            reparents: reparents(there, to.dir, from.dir),
+        },
     }))
 }
 

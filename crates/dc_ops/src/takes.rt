@@ -8,7 +8,7 @@ ghost use Rattle.dc_plain.specs.Operations.{unlink, rmdir};
 ghost use Rattle.dc_plain.specs.Resolution.{is_directory};
 ghost use Rattle.dc_plain.specs.TouchedKeys.{at_name, entry_key, keys_taken, keys_gone};
 ghost use Rattle.dc_plain.specs.Trees.{names_in, names_of, target_at};
-ghost use Rattle.dc_ops.specs.Plans.{IsDrop, Settles};
+ghost use Rattle.dc_ops.specs.Plans.{PlanTakesNoMemory, Settles};
 
 use crate::Plan;
 use crate::conditions::{name_or, name_or_each, place_text, present, refuse};
@@ -25,7 +25,7 @@ pub(crate) fn plan_unlink<'a, S: Store>(
     ensures settled { Settles (S.tree store.now) (unlink (S.tree store.now) base path.now)
         (at_name (S.tree store.now) base path.now
         (λ d name. entry_key d name ∷ keys_taken (S.tree store.now) d name)) result }
-    ensures drops { IfOk result IsDrop }
+    ensures without_memory { IfOk result PlanTakesNoMemory }
 {
     let at = place_text(store, base, path)?;
     let name = name_or(Refusal::NotPermitted, at.last)?;
@@ -49,7 +49,7 @@ pub(crate) fn plan_rmdir<'a, S: Store>(
     ensures settled { Settles (S.tree store.now) (rmdir (S.tree store.now) base path.now)
         (at_name (S.tree store.now) base path.now
         (λ d name. entry_key d name ∷ keys_taken (S.tree store.now) d name)) result }
-    ensures drops { IfOk result IsDrop }
+    ensures without_memory { IfOk result PlanTakesNoMemory }
 {
     let at = place_text(store, base, path)?;
     let name = name_or_each(Refusal::Busy, Refusal::Invalid, Refusal::NotEmpty, at.last)?;

@@ -1,14 +1,22 @@
+//! Tests of plans and reads over the stores, by replies and keys that come from outside.
+
 ghost use Rattle.std.specs.Prelude.{IfOk};
 ghost use Rattle.dc_ops.specs.Plans.{CanCarry};
 
 use crate::{Plan, ask, carry, plan, seek};
 use dc_names::{Kind, NoMemory};
-use dc_plain::{Call, Follow, Key, Label, Reply, Sort};
+use dc_plain::{Call, Flags, Follow, Key, Label, Reply, Sort};
 use dc_store::{SlabStore, Store};
 use std::alloc::Global;
 use std::test::Fail;
 
+mod flags;
 mod stores_agree;
+
+const EXCHANGE: Flags = Flags {
+    no_replace: false,
+    exchange: true,
+};
 
 /// The plan of a change on a store of at most 16 inodes. A read has none.
 fn planned<'a, S: Store>(store: &S, call: &Call<'a>) -> Result<Plan<'a>, Reply>
@@ -69,7 +77,20 @@ fn rmdir(path: &[u8]) -> Call<'_> {
 }
 
 fn rename<'a>(old: &'a [u8], new: &'a [u8]) -> Call<'a> {
-    Call::Rename { base: 1, old, new }
+    rename_with(Flags::default(), old, new)
+}
+
+fn rename_with<'a>(flags: Flags, old: &'a [u8], new: &'a [u8]) -> Call<'a> {
+    Call::Rename {
+        base: 1,
+        old,
+        new,
+        flags,
+    }
+}
+
+fn exchange<'a>(old: &'a [u8], new: &'a [u8]) -> Call<'a> {
+    rename_with(EXCHANGE, old, new)
 }
 
 #[test]
@@ -144,7 +165,7 @@ fn shown(key: &Key) -> (u64, u8) {
 #[test]
 fn keys_of_plans(rt: HostRuntime) -> Result<(), Fail> {
     let mut store = SlabStore::new(rt.alloc())?;
-    let cases: [(Call, &[(u64, u8)]); 9] = [
+    let cases: [(Call, &[(u64, u8)]); 10] = [
         (mkdir(b"/a"), &[(1, b'a'), (2, b'.')]),
         (mkdir(b"/b"), &[(1, b'b'), (3, b'.')]),
         (create(b"/a/f"), &[(2, b'f')]),
@@ -153,7 +174,8 @@ fn keys_of_plans(rt: HostRuntime) -> Result<(), Fail> {
         (unlink(b"/a/f"), &[(2, b'f')]),
         (rename(b"/b/g", b"/a/l"), &[(3, b'g'), (2, b'l'), (5, b'=')]),
         (rename(b"/b", b"/a/c"), &[(1, b'b'), (2, b'c'), (3, b'.')]),
-        (rmdir(b"/a/c"), &[(2, b'c'), (3, b'.')]),
+        (exchange(b"/a/c", b"/a/l"), &[(2, b'c'), (2, b'l')]),
+        (rmdir(b"/a/l"), &[(2, b'l'), (3, b'.')]),
     ];
     for (call, keys) in cases {
         let Ok(planned) = planned(&store, &call) else {

@@ -58,6 +58,9 @@ altered t (changes.Drop spot number) spots = apart_by t _ (spot_shown spot) (λ 
 altered t (changes.Move moved from to there) spots =
     let rest = without_moved t (spot_shown from) (spot_shown to) there in
     apart_by t _ (spot_shown to) (λ same. new_there t (spot_shown to) moved there spots.0 spots.1 (sym (put_target rest (spot_shown to) moved.0) ∙ same))
+altered t (changes.Swap moved from to there) spots =
+    let half = with_entry_for t (spot_shown from).dir (spot_shown from).name there.0 in
+    apart_by t _ (spot_shown to) (λ same. let both : Some moved.0 ≡ Some there.0 = sym (put_target half (spot_shown to) moved.0) ∙ same ∙ spots.1 in let one : moved.0 ≡ there.0 = cc in spots.2 one)
 
 pub found_alters : (limit : ℕ) (t : Tree) (request : Request) (plan : rust_plan.Plan) (change : rust_change.Change) → plan ≡ plans.Change change
     → change_of limit t request ≡ Ok (planned t plan) → HasSpotsIfChange t plan → Alters limit t request

@@ -102,4 +102,4 @@ replies-by-facts limit t facts (Hard_link base old new) answer all e = absurd cc
 replies-by-facts limit t facts (Symlink base text path) answer all e = absurd cc
 replies-by-facts limit t facts (Unlink base path) answer all e = absurd cc
 replies-by-facts limit t facts (Rmdir base path) answer all e = absurd cc
-replies-by-facts limit t facts (Rename base old new) answer all e = absurd cc
+replies-by-facts limit t facts (Rename base old new flags) answer all e = absurd cc

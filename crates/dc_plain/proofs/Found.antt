@@ -4,7 +4,7 @@ use Rattle.std.specs.Prelude.{nat_le}
 use Rattle.std.proofs.lemmas.Bool.Decides.{nat_tests}
 use Rattle.dc_names.specs.Laws.{PartsAreNamesOrDots}
 use Rattle.dc_names.specs.declared.refusal.Refusal.TheVariants.{NotPermitted, NotFound, Busy, Exists, NotDirectory, Invalid, NoSpace, TooManyNames, NotEmpty}
-use Rattle.dc_plain.specs.declared.TheConstants.{MOST_NAMES}
+use Rattle.dc_names.specs.declared.limits.TheConstants.{MOST_NAMES}
 use Rattle.dc_names.specs.Bytes.{is_empty, is_name}
 use Rattle.dc_names.specs.Paths.{Path}
 use Rattle.dc_plain.specs.Facts.{Target}

@@ -5,7 +5,7 @@ use Rattle.std.specs.Ordering.{eq_by_cmp, is_eq}
 use Rattle.std.specs.Cmp.{tied_itself}
 use Rattle.std.specs.FinMap.Entries.{find as lookup}
 use Rattle.dc_names.specs.Laws.{PartsAreNamesOrDots}
-use Rattle.dc_names.specs.declared.refusal.Refusal.TheVariants.{NotFound, Busy, NotDirectory, IsDirectory, Invalid, NotEmpty}
+use Rattle.dc_names.specs.declared.refusal.Refusal.TheVariants.{NotFound, Busy, Exists, NotDirectory, IsDirectory, Invalid, NotEmpty}
 use Rattle.dc_names.specs.Bytes.{is_empty, is_name}
 use Rattle.dc_plain.specs.Facts.{Target}
 use Rattle.dc_plain.specs.Facts.Label.{Entry}
@@ -15,8 +15,13 @@ use Rattle.dc_plain.specs.Requests.{Answer}
 use Rattle.dc_plain.specs.Requests.Answer.{Nothing}
 use Rattle.dc_names.specs.Lasts.{name_or_each}
 use Rattle.dc_plain.specs.Refusals.{◌>>=◌, refuse, place_on, path_or_fault, present}
-use Rattle.dc_plain.specs.Effects.{with_entry_for, without_entry, without_entry_alone, without_there}
-use Rattle.dc_plain.specs.Operations.{rename, is_beneath, replaceable, same_inode}
+use Rattle.dc_plain.specs.Effects.{with_entry_for, without_entry, without_entry_alone, without_there, tree_swapped}
+use Rattle.dc_plain.specs.Conditions.{CanSwap}
+use Rattle.dc_plain.specs.Operations.{Change, move_name, swap_names, rename, is_beneath, replaceable, same_inode}
+use Rattle.dc_plain.specs.Places.{Where}
+use Rattle.dc_plain.specs.Spots.{spot_at}
+use Rattle.dc_plain.specs.declared.call.Flags.{Flags}
+use Rattle.dc_names.specs.Paths.{Path}
 use Rattle.dc_plain.specs.IsWellFormed.{IsWellFormed}
 use Rattle.dc_plain.proofs.Made.{spots_total, free_spot}
 use Rattle.dc_plain.proofs.Takes.{lookup-take}
@@ -141,7 +146,8 @@ ready t from old to new moved b well source held named apart (Some there) is oth
     ready_after t from old to new moved well source held named apart there leads.target (way-unentered t to new moved there b well leads may) (decided_not moved.0 there.0 other)
 
 -- what a rename has found, and the tree that it leaves
-pub record Moves (t : Tree) (base : ℕ) (old new : List ℕ) (u : Tree) : Type 0 where
+pub record Moves (t : Tree) (base : ℕ) (old new : List ℕ) (flags : Flags) (u : Tree) : Type 0 where
+  pub moves : flags.exchange ≡ false
   pub from : ℕ
   pub old_name : List ℕ
   pub old_ends : Ends_in t base old from old_name
@@ -157,6 +163,22 @@ pub record Moves (t : Tree) (base : ℕ) (old new : List ℕ) (u : Tree) : Type 
   pub ready : IsReady (without_there t to new_name there) from old_name to new_name moved.0
   pub left : moved_to (without_there t to new_name there) from old_name to new_name moved.0 ≡ u
 
+-- what an exchange has found, and the tree that it leaves
+pub record Swaps (t : Tree) (base : ℕ) (old new : List ℕ) (flags : Flags) (u : Tree) : Type 0 where
+  pub swaps : flags.exchange ≡ true
+  pub from : ℕ
+  pub old_name : List ℕ
+  pub old_ends : Ends_in t base old from old_name
+  pub to : ℕ
+  pub new_name : List ℕ
+  pub new_ends : Ends_in t base new to new_name
+  pub moved : Target
+  pub source : Leads t from old_name moved
+  pub there : Target
+  pub at : Leads t to new_name there
+  pub can : CanSwap t (spot_at from old_name) moved.0 (spot_at to new_name) there.0
+  pub left : tree_swapped t (spot_at from old_name) moved.0 (spot_at to new_name) there.0 ≡ u
+
 -- both names lead to one inode
 pub record Stays (t : Tree) (base : ℕ) (old new : List ℕ) (u : Tree) : Type 0 where
   pub from : ℕ
@@ -167,13 +189,120 @@ pub record Stays (t : Tree) (base : ℕ) (old new : List ℕ) (u : Tree) : Type 
   pub new_ends : Ends_in t base new to new_name
   pub moved : Target
   pub source : Leads t from old_name moved
-  pub there : Option Target
-  pub at : entry_of t to (Entry new_name) ≡ there
-  pub same : same_inode moved there ≡ true
+  pub there : Target
+  pub at : Leads t to new_name there
+  pub same : (moved.0 == there.0) ≡ true
   pub left : t ≡ u
 
-pub renames : PartsAreNamesOrDots → (t : Tree) (base : ℕ) (old new : List ℕ) (done : Answer × Tree) → IsWellFormed t → rename t base old new ≡ Ok done → Moves t base old new done.1 ⊎ Stays t base old new done.1
-renames parts t base old new done well e =
+-- a rename that isn't refused moves a name, swaps two, or leaves all as it is
+pub data Renames (t : Tree) (base : ℕ) (old new : List ℕ) (flags : Flags) (u : Tree) : Type 0 where
+  Moving : Moves t base old new flags u → Renames t base old new flags u
+  Swapping : Swaps t base old new flags u → Renames t base old new flags u
+  Staying : Stays t base old new u → Renames t base old new flags u
+
+-- the place and the name in which a path ends, with the name's path
+record Ending (t : Tree) (base : ℕ) (text : List ℕ) (at : Where) (name : List ℕ) : Type 0 where
+  ends : Ends_in t base text at.dir name
+  held : IsTrue (is_live_directory t at.dir)
+  named : IsTrue (is_name name)
+
+module _ (t : Tree) (base : ℕ) (old new : List ℕ) (flags : Flags) (done : Answer × Tree) (well : IsWellFormed t) (from to : Where) (old_name new_name : List ℕ)
+    (old_end : Ending t base old from old_name) (new_end : Ending t base new to new_name) (moved : Target) (source : Leads t from.dir old_name moved) where
+  stays : (there : Target) → Leads t to.dir new_name there → (moved.0 == there.0) ≡ true → ◌≡◌ {A = Change} (Ok (Nothing, t)) (Ok done) → Renames t base old new flags done.1
+  stays there at same e = Staying (record {
+    from = from.dir;
+    old_name = old_name;
+    old_ends = old_end.ends;
+    to = to.dir;
+    new_name = new_name;
+    new_ends = new_end.ends;
+    moved = moved;
+    source = source;
+    there = there;
+    at = at;
+    same = same;
+    left = left_with (λ u. t ≡ u) Nothing t done e refl;
+  })
+
+  stays_there : (there : Option Target) → entry_of t to.dir (Entry new_name) ≡ there → same_inode moved there ≡ true → ◌≡◌ {A = Change} (Ok (Nothing, t)) (Ok done) → Renames t base old new flags done.1
+  stays_there None at same e = absurd cc
+  stays_there (Some there) at same e = stays there (entry-leads t to.dir new_name there at) same e
+
+  moves : flags.exchange ≡ false → move_name t from old_name to new_name moved flags.no_replace ≡ Ok done → Renames t base old new flags done.1
+  moves plain e =
+      after_test (not (is_directory moved) && (from.slash || to.slash)) NotDirectory _ done e (λ ends e.
+      let there = entry_of t to.dir (Entry new_name) in
+      after_test (flags.no_replace && is_some there) Exists _ done e (λ free e.
+      elim (same_inode moved there) as (λ b. same_inode moved there ≡ b → (if b then Ok (Nothing, t) else
+      refuse (is_directory moved && is_beneath (length t.inodes) t to.dir moved.0) Invalid >>= λ apart. replaceable t moved there >>= λ may.
+      Ok (Nothing, with_entry_for (without_entry_alone (without_there t to.dir new_name there) from.dir old_name) to.dir new_name moved.0)) ≡ Ok done → Renames t base old new flags done.1) [
+        | true ↦ λ same e. stays_there there refl same e
+        | false ↦ λ other e.
+            after_test (is_directory moved && is_beneath (length t.inodes) t to.dir moved.0) Invalid _ done e (λ apart e.
+            after (replaceable t moved there) _ done e (λ may may_is e. Moving (record {
+              moves = plain;
+              from = from.dir;
+              old_name = old_name;
+              old_ends = old_end.ends;
+              to = to.dir;
+              new_name = new_name;
+              new_ends = new_end.ends;
+              moved = moved;
+              source = source;
+              there = there;
+              at = refl;
+              apart = other;
+              unentered = λ p is. way-unentered t to.dir new_name moved p may well (entry-leads t to.dir new_name p is) (ap (replaceable t moved) (sym is) ∙ may_is);
+              ready = ready t from.dir old_name to.dir new_name moved may well source new_end.held new_end.named apart there refl other may_is;
+              left = left_with (λ u. moved_to (without_there t to.dir new_name there) from.dir old_name to.dir new_name moved.0 ≡ u) Nothing
+                  (moved_to (without_there t to.dir new_name there) from.dir old_name to.dir new_name moved.0) done e refl;
+            })))
+      ] refl e))
+
+  swaps : flags.exchange ≡ true → swap_names t from old_name to new_name moved ≡ Ok done → Renames t base old new flags done.1
+  swaps exchange e =
+      after (present NotFound (entry_of t to.dir (Entry new_name))) _ done e (λ there found e.
+      let at = entry-leads t to.dir new_name there (is_there NotFound _ there found) in
+      after_test (not (is_directory moved) && from.slash) NotDirectory _ done e (λ old_slash e.
+      after_test (not (is_directory there) && to.slash) NotDirectory _ done e (λ new_slash e.
+      elim (moved.0 == there.0) as (λ b. (moved.0 == there.0) ≡ b → (if b then Ok (Nothing, t) else
+      refuse (is_directory moved && is_beneath (length t.inodes) t to.dir moved.0) Invalid >>= λ apart.
+      refuse (is_directory there && is_beneath (length t.inodes) t from.dir there.0) Invalid >>= λ apart_too.
+      Ok (Nothing, tree_swapped t (spot_at from.dir old_name) moved.0 (spot_at to.dir new_name) there.0)) ≡ Ok done → Renames t base old new flags done.1) [
+        | true ↦ λ same e. stays there at same e
+        | false ↦ λ other e.
+            after_test (is_directory moved && is_beneath (length t.inodes) t to.dir moved.0) Invalid _ done e (λ apart e.
+            after_test (is_directory there && is_beneath (length t.inodes) t from.dir there.0) Invalid _ done e (λ apart_too e. Swapping (record {
+              swaps = exchange;
+              from = from.dir;
+              old_name = old_name;
+              old_ends = old_end.ends;
+              to = to.dir;
+              new_name = new_name;
+              new_ends = new_end.ends;
+              moved = moved;
+              source = source;
+              there = there;
+              at = at;
+              can = record {
+                first = source.target;
+                second = at.target;
+                two = decided_not moved.0 there.0 other;
+                apart = ap (λ b. b && is_beneath (length t.inodes) t to.dir moved.0) (ap is_directory_inode source.lives ∙ sym source.kind) ∙ apart;
+                apart_too = ap (λ b. b && is_beneath (length t.inodes) t from.dir there.0) (ap is_directory_inode at.lives ∙ sym at.kind) ∙ apart_too;
+              };
+              left = left_with (λ u. tree_swapped t (spot_at from.dir old_name) moved.0 (spot_at to.dir new_name) there.0 ≡ u) Nothing
+                  (tree_swapped t (spot_at from.dir old_name) moved.0 (spot_at to.dir new_name) there.0) done e refl;
+            })))
+      ] refl e)))
+
+  by_flags : (b : Bool) → flags.exchange ≡ b → (if b then swap_names t from old_name to new_name moved else move_name t from old_name to new_name moved flags.no_replace) ≡ Ok done → Renames t base old new flags done.1
+  by_flags true is e = swaps is e
+  by_flags false is e = moves is e
+
+pub renames : PartsAreNamesOrDots → (t : Tree) (base : ℕ) (old new : List ℕ) (flags : Flags) (done : Answer × Tree) → IsWellFormed t → rename t base old new flags ≡ Ok done → Renames t base old new flags done.1
+renames parts t base old new flags done well e =
+    after_test (flags.no_replace && flags.exchange) Invalid _ done e (λ one e.
     after (path_or_fault old) _ done e (λ old_path old_good e.
     after (path_or_fault new) _ done e (λ new_path new_good e.
     after (place_on t base old_path) _ done e (λ from from_is e.
@@ -181,46 +310,13 @@ renames parts t base old new done well e =
     after (name_or_each Busy Invalid Invalid from.last) _ done e (λ old_name old_is e.
     after (name_or_each Busy Invalid Invalid to.last) _ done e (λ new_name new_is e.
     after (present NotFound (entry_of t from.dir (Entry old_name))) _ done e (λ moved found e.
-    after_test (not (is_directory moved) && (from.slash || to.slash)) NotDirectory _ done e (λ ends e.
-    let there = entry_of t to.dir (Entry new_name) in
-    let old_ends : Ends_in t base old from.dir old_name = record { at = from; spot = spot_of t base old old_path from old_good from_is; dir = refl; last = named_each Busy Invalid Invalid from.last old_name old_is } in
-    let new_ends : Ends_in t base new to.dir new_name = record { at = to; spot = spot_of t base new new_path to new_good to_is; dir = refl; last = named_each Busy Invalid Invalid to.last new_name new_is } in
-    let source = entry-leads t from.dir old_name moved (is_there NotFound _ moved found) in
-    elim (same_inode moved there) as (λ b. same_inode moved there ≡ b → (if b then Ok (Nothing, t) else
-    refuse (is_directory moved && is_beneath (length t.inodes) t to.dir moved.0) Invalid >>= λ apart. replaceable t moved there >>= λ may.
-    Ok (Nothing, with_entry_for (without_entry_alone (without_there t to.dir new_name there) from.dir old_name) to.dir new_name moved.0)) ≡ Ok done → Moves t base old new done.1 ⊎ Stays t base old new done.1) [
-      | true ↦ λ same e. inr (record {
-        from = from.dir;
-        old_name = old_name;
-        old_ends = old_ends;
-        to = to.dir;
-        new_name = new_name;
-        new_ends = new_ends;
-        moved = moved;
-        source = source;
-        there = there;
-        at = refl;
-        same = same;
-        left = left_with (λ u. t ≡ u) Nothing t done e refl;
-      })
-      | false ↦ λ other e.
-          after_test (is_directory moved && is_beneath (length t.inodes) t to.dir moved.0) Invalid _ done e (λ apart e.
-          after (replaceable t moved there) _ done e (λ may may_is e. inl (record {
-            from = from.dir;
-            old_name = old_name;
-            old_ends = old_ends;
-            to = to.dir;
-            new_name = new_name;
-            new_ends = new_ends;
-            moved = moved;
-            source = source;
-            there = there;
-            at = refl;
-            apart = other;
-            unentered = λ p is. way-unentered t to.dir new_name moved p may well (entry-leads t to.dir new_name p is) (ap (replaceable t moved) (sym is) ∙ may_is);
-            ready = ready t from.dir old_name to.dir new_name moved may well source (place_live t base new_path to well.root_is to_is)
-                (path_named parts t base new new_path to new_name new_good to_is (named_each Busy Invalid Invalid to.last new_name new_is)) apart there refl other may_is;
-            left = left_with (λ u. moved_to (without_there t to.dir new_name there) from.dir old_name to.dir new_name moved.0 ≡ u) Nothing
-                (moved_to (without_there t to.dir new_name there) from.dir old_name to.dir new_name moved.0) done e refl;
-          })))
-    ] refl e))))))))
+    by_flags t base old new flags done well from to old_name new_name
+    (end_of old old_path from old_name old_good from_is old_is) (end_of new new_path to new_name new_good to_is new_is)
+    moved (entry-leads t from.dir old_name moved (is_there NotFound _ moved found)) flags.exchange refl e))))))))
+  where
+    end_of : (text : List ℕ) (path : Path) (at : Where) (name : List ℕ) → path_or_fault text ≡ Ok path → place_on t base path ≡ Ok at → name_or_each Busy Invalid Invalid at.last ≡ Ok name → Ending t base text at name
+    end_of text path at name good is last_is = record {
+      ends = record { at = at; spot = spot_of t base text path at good is; dir = refl; last = named_each Busy Invalid Invalid at.last name last_is };
+      held = place_live t base path at well.root_is is;
+      named = path_named parts t base text path at name good is (named_each Busy Invalid Invalid at.last name last_is);
+    }

@@ -25,7 +25,7 @@ change-keeps parts limit t (Hard_link base old new) done well e = link-keeps par
 change-keeps parts limit t (Symlink base text path) done well e = symlink-keeps parts limit t base text path done well e
 change-keeps parts limit t (Unlink base path) done well e = unlink-keeps limit t base path done well e
 change-keeps parts limit t (Rmdir base path) done well e = rmdir-keeps limit t base path done well e
-change-keeps parts limit t (Rename base old new) done well e = rename-keeps parts limit t base old new done well e
+change-keeps parts limit t (Rename base old new flags) done well e = rename-keeps parts limit t base old new flags done well e
 
 settled-keeps : (limit : ℕ) (t : Tree) (change : Change) → IsWellFormed t → ((done : Answer × Tree) → change ≡ Ok done → IsKept limit t done.1) → IsKept limit t (settled t change).1
 settled-keeps limit t (Ok done) well so = so done refl

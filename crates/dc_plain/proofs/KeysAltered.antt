@@ -19,10 +19,14 @@ use Rattle.dc_plain.specs.Laws.{AltersWhereItTouches}
 use Rattle.dc_plain.proofs.Chains.{after, left_with}
 use Rattle.dc_plain.proofs.Found.{Leads, Takes, makes, links, unlinks, rmdirs, entry-leads}
 use Rattle.dc_plain.proofs.FoundMoves.{renames}
+use Rattle.dc_plain.proofs.FoundMoves.Renames.{Moving, Swapping, Staying}
+use Rattle.dc_plain.proofs.Holders.{other_test}
+use Rattle.dc_plain.proofs.KeysSwapped.{keys_plain, keys_exchanged, swapped_keys}
+use Rattle.dc_plain.specs.declared.call.Flags.{Flags}
 use Rattle.dc_plain.proofs.Moved.{IsReady}
 use Rattle.dc_plain.proofs.KeysRenamed.{renamed_keys}
 use Rattle.dc_plain.proofs.SameFacts.{IsAmong}
-use Rattle.dc_plain.proofs.KeysListed.{at_name-is, both_named, calls-exact}
+use Rattle.dc_plain.proofs.KeysListed.{at_name-is, renamed_so, calls-exact}
 
 -- the tree stays, or some key is listed
 abbrev StaysOrLists : Tree → Tree → List Key → Type 0
@@ -49,11 +53,13 @@ move-lists : (t : Tree) (from : ℕ) (old : List ℕ) (to : ℕ) (new : List ℕ
 move-lists t from old to new moved source None at apart ready = begun (entry_key from old) _ (renamed_keys t from old to new moved.0 None source.target ready.free refl)
 move-lists t from old to new moved source (Some p) at apart ready = let leads = entry-leads t to new p at in begun (entry_key from old) _ (renamed_keys t from old to new moved.0 (Some p.0) source.target leads.target apart)
 
-rename-lists : PartsAreNamesOrDots → (t : Tree) (base : ℕ) (old new : List ℕ) (done : Answer × Tree) → IsWellFormed t → rename t base old new ≡ Ok done
-    → StaysOrLists t done.1 (at_name t base old (λ from a. at_name t base new (λ to b. keys_renamed t from a to b)))
-rename-lists parts t base old new done well e = elim (renames parts t base old new done well e) [
-  | inr s ↦ inl (sym s.left)
-  | inl m ↦ inr (λ none. move-lists t m.from m.old_name m.to m.new_name m.moved m.source m.there m.at m.apart m.ready (sym (both_named t base old new m.from m.old_name m.to m.new_name m.old_ends m.new_ends) ∙ none))
+rename-lists : PartsAreNamesOrDots → (t : Tree) (base : ℕ) (old new : List ℕ) (flags : Flags) (done : Answer × Tree) → IsWellFormed t → rename t base old new flags ≡ Ok done → StaysOrLists t done.1 (listed t (Rename base old new flags))
+rename-lists parts t base old new flags done well e = elim (renames parts t base old new flags done well e) [
+  | Staying s ↦ inl (sym s.left)
+  | Swapping s ↦ inr (begun (entry_key s.from s.old_name) _ (renamed_so t base old new flags s.from s.old_name s.to s.new_name _ s.old_ends s.new_ends
+      (keys_exchanged flags t s.from s.old_name s.to s.new_name s.swaps ∙ swapped_keys t s.from s.old_name s.to s.new_name s.moved.0 s.there.0 s.source.target s.at.target (other_test s.moved.0 s.there.0 s.can.two))))
+  | Moving m ↦ inr (λ none. move-lists t m.from m.old_name m.to m.new_name m.moved m.source m.there m.at m.apart m.ready
+      (sym (renamed_so t base old new flags m.from m.old_name m.to m.new_name _ m.old_ends m.new_ends (keys_plain flags t m.from m.old_name m.to m.new_name m.moves)) ∙ none))
 ]
 
 change-lists : PartsAreNamesOrDots → (limit : ℕ) (t : Tree) (request : Request) (done : Answer × Tree) → IsWellFormed t → change_of limit t request ≡ Ok done → StaysOrLists t done.1 (listed t request)
@@ -69,7 +75,7 @@ change-lists parts limit t (Hard_link base old new) done well e =
 change-lists parts limit t (Symlink base text path) done well e = after (path_or_fault text) _ done e (λ link_path good e. inr (make-lists parts limit t base path false (Symbolic text) done well e))
 change-lists parts limit t (Unlink base path) done well e = inr (take-lists t base path done.1 (unlinks t base path done well e))
 change-lists parts limit t (Rmdir base path) done well e = inr (take-lists t base path done.1 (rmdirs t base path done well e))
-change-lists parts limit t (Rename base old new) done well e = rename-lists parts t base old new done well e
+change-lists parts limit t (Rename base old new flags) done well e = rename-lists parts t base old new flags done well e
 
 settled-lists : (t : Tree) (keys : List Key) (change : Change) → ((done : Answer × Tree) → change ≡ Ok done → StaysOrLists t done.1 keys) → StaysOrLists t (settled t change).1 (unless_refused change keys)
 settled-lists t keys (Ok done) so = so done refl

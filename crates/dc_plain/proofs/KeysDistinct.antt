@@ -18,14 +18,17 @@ use Rattle.dc_plain.specs.Places.{Where}
 use Rattle.dc_plain.specs.Refusals.{where_on}
 use Rattle.dc_plain.specs.Requests.{Answer, Request}
 use Rattle.dc_plain.specs.Requests.Request.{Look, Readlink, Stat, List_names, Mkdir, Create, Hard_link, Symlink, Unlink, Rmdir, Rename}
-use Rattle.dc_plain.specs.TouchedKeys.{entry_key, parent_key, own_keys, keys_at, keys_gone, keys_taken, keys_moved, keys_renamed, with_number, by_last, by_place, at_name, listed, unless_refused, keys_touched}
+use Rattle.dc_plain.specs.TouchedKeys.{entry_key, parent_key, own_keys, keys_at, keys_gone, keys_taken, keys_moved, keys_renamed, keys_swapped, with_number, by_last, by_place, at_name, listed, unless_refused, keys_touched}
 use Rattle.dc_plain.specs.Trees.{Tree, Inode, Spot, entry_number, entry_of, inode_of, kind_of, names_of, is_live_directory}
 use Rattle.dc_plain.proofs.Found.{Leads, entry-leads}
 use Rattle.dc_plain.proofs.FoundMoves.{renames}
-use Rattle.dc_plain.proofs.Holders.{decided_not}
-use Rattle.dc_plain.proofs.KeysListed.{both_named}
+use Rattle.dc_plain.proofs.FoundMoves.Renames.{Moving, Swapping, Staying}
+use Rattle.dc_plain.proofs.KeysSwapped.{keys_plain, keys_exchanged, swapped_keys}
+use Rattle.dc_plain.specs.declared.call.Flags.{Flags}
+use Rattle.dc_plain.proofs.Holders.{decided_not, other_test}
+use Rattle.dc_plain.proofs.KeysListed.{renamed_so, stay_keys}
 use Rattle.dc_plain.proofs.Made.{free_spot}
-use Rattle.dc_plain.proofs.KeysRenamed.{renamed_keys, unmoved_keys, among_either}
+use Rattle.dc_plain.proofs.KeysRenamed.{renamed_keys, among_either}
 use Rattle.dc_plain.proofs.SameFacts.{IsAmong}
 
 -- no key is one of those after it
@@ -151,17 +154,23 @@ move-distinct t from old to new moved source (Some p) at apart free =
     (λ key among. let is = gone.0 key among in is.no_name) gone.1
     (λ key early later. let one = moving.0 key early in let two = gone.0 key later in other (sym one.number ∙ two.number)))
 
-stay-distinct : (t : Tree) (from : ℕ) (old : List ℕ) (to : ℕ) (new : List ℕ) (moved : Target) → Leads t from old moved → (there : Option Target) → entry_of t to (Entry new) ≡ there → same_inode moved there ≡ true → AreDistinct (keys_renamed t from old to new)
-stay-distinct t from old to new moved source None at same = absurd cc
-stay-distinct t from old to new moved source (Some p) at same =
-    let leads = entry-leads t to new p at in subst AreDistinct (sym (unmoved_keys t from old to new moved.0 p.0 source.target leads.target same)) tt
+swap-distinct : (t : Tree) (from : ℕ) (old : List ℕ) (to : ℕ) (new : List ℕ) (moved there : Target) → Leads t from old moved → Leads t to new there → moved.0 ≢ there.0 → AreDistinct (keys_swapped t from old to new)
+swap-distinct t from old to new moved there source at other =
+    let coming = moved-own t to from there.0 in
+    let going = moved-own t from to moved.0 in
+    subst AreDistinct (sym (swapped_keys t from old to new moved.0 there.0 source.target at.target (other_test moved.0 there.0 other)))
+    (pair-distinct t from old to new moved.0 (keys_moved t to from there.0) source.target
+    (λ same. let clash : Some there.0 ≡ Some moved.0 = sym at.target ∙ same in let one : there.0 ≡ moved.0 = cc in other (sym one))
+    (λ key among. let is = coming.0 key among in is.no_name) coming.1
+    (λ key early later. let one = going.0 key early in let two = coming.0 key later in other (sym one.number ∙ two.number)))
 
-rename-distinct : PartsAreNamesOrDots → (t : Tree) (base : ℕ) (old new : List ℕ) (done : Answer × Tree) → IsWellFormed t → rename t base old new ≡ Ok done
-    → AreDistinct (at_name t base old (λ from a. at_name t base new (λ to b. keys_renamed t from a to b)))
-rename-distinct parts t base old new done well e = elim (renames parts t base old new done well e) [
-  | inl m ↦ subst AreDistinct (sym (both_named t base old new m.from m.old_name m.to m.new_name m.old_ends m.new_ends))
+rename-distinct : PartsAreNamesOrDots → (t : Tree) (base : ℕ) (old new : List ℕ) (flags : Flags) (done : Answer × Tree) → IsWellFormed t → rename t base old new flags ≡ Ok done → AreDistinct (listed t (Rename base old new flags))
+rename-distinct parts t base old new flags done well e = elim (renames parts t base old new flags done well e) [
+  | Moving m ↦ subst AreDistinct (sym (renamed_so t base old new flags m.from m.old_name m.to m.new_name _ m.old_ends m.new_ends (keys_plain flags t m.from m.old_name m.to m.new_name m.moves)))
       (move-distinct t m.from m.old_name m.to m.new_name m.moved m.source m.there m.at m.apart (λ none. free_spot t m.to m.new_name well (ap is_some (m.at ∙ none))))
-  | inr s ↦ subst AreDistinct (sym (both_named t base old new s.from s.old_name s.to s.new_name s.old_ends s.new_ends)) (stay-distinct t s.from s.old_name s.to s.new_name s.moved s.source s.there s.at s.same)
+  | Swapping s ↦ subst AreDistinct (sym (renamed_so t base old new flags s.from s.old_name s.to s.new_name _ s.old_ends s.new_ends (keys_exchanged flags t s.from s.old_name s.to s.new_name s.swaps)))
+      (swap-distinct t s.from s.old_name s.to s.new_name s.moved s.there s.source s.at s.can.two)
+  | Staying s ↦ subst AreDistinct (sym (renamed_so t base old new flags s.from s.old_name s.to s.new_name [] s.old_ends s.new_ends (stay_keys t s.from s.old_name s.to s.new_name flags s.moved s.there s.source s.at s.same))) tt
 ]
 
 change-distinct : PartsAreNamesOrDots → (limit : ℕ) (t : Tree) (request : Request) (done : Answer × Tree) → IsWellFormed t → change_of limit t request ≡ Ok done → AreDistinct (listed t request)
@@ -175,7 +184,7 @@ change-distinct parts limit t (Hard_link base old new) done well e = by_place-di
 change-distinct parts limit t (Symlink base text path) done well e = made-distinct t base path Link
 change-distinct parts limit t (Unlink base path) done well e = by_place-distinct (where_on t base path) _ (taken-distinct t)
 change-distinct parts limit t (Rmdir base path) done well e = by_place-distinct (where_on t base path) _ (taken-distinct t)
-change-distinct parts limit t (Rename base old new) done well e = rename-distinct parts t base old new done well e
+change-distinct parts limit t (Rename base old new flags) done well e = rename-distinct parts t base old new flags done well e
 
 settled-distinct : (keys : List Key) (change : Change) → ((done : Answer × Tree) → change ≡ Ok done → AreDistinct keys) → AreDistinct (unless_refused change keys)
 settled-distinct keys (Ok done) so = so done refl

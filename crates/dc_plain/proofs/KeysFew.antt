@@ -2,6 +2,7 @@
 use Rattle.std.proofs.Common.{ℕ, ◌≤◌, ◌==◌, ◌&&◌, not, List, [], ◌∷◌, ◌++◌, true, false, Option, Some, None, Result, Ok, Err, arith, length, if◌then◌else◌}
 use Rattle.std.proofs.lemmas.List.{length-append}
 use Rattle.dc_names.specs.declared.refusal.Refusal.{Refusal}
+use Rattle.dc_plain.specs.declared.call.Flags.{Flags}
 use Rattle.dc_plain.specs.Facts.{Key}
 use Rattle.dc_plain.specs.Trees.{Tree, Inode, inode_of, entry_number, kind_of, names_of, is_live_directory}
 use Rattle.dc_plain.specs.Trees.Inode.{Directory, Regular, Symbolic}
@@ -12,7 +13,7 @@ use Rattle.dc_plain.specs.Places.{Where}
 use Rattle.dc_names.specs.Lasts.Last.{Root, Dot, DotDot, Name}
 use Rattle.dc_plain.specs.Refusals.{where_on}
 use Rattle.dc_plain.specs.Operations.{Change, change_of}
-use Rattle.dc_plain.specs.TouchedKeys.{entry_key, parent_key, own_keys, keys_at, keys_gone, with_number, keys_taken, keys_moved, keys_renamed, lead_to_one, by_last, by_place, listed, unless_refused}
+use Rattle.dc_plain.specs.TouchedKeys.{entry_key, parent_key, own_keys, keys_at, keys_gone, with_number, keys_taken, keys_by, keys_moved, keys_renamed, keys_swapped, lead_to_one, by_last, by_place, listed, unless_refused}
 use Rattle.dc_plain.specs.Laws.{TouchesFew}
 
 one_own : (n : ℕ) (inode : Inode) → length (own_keys n (kind_of inode)) ≤ 1
@@ -48,6 +49,22 @@ four_renamed t from old to new =
       | false ↦ omega (arith, length-append moved (keys_taken t to new))
     ]
 
+four_swapped : (t : Tree) (from : ℕ) (old : List ℕ) (to : ℕ) (new : List ℕ) → length (keys_swapped t from old to new) ≤ 4
+four_swapped t from old to new =
+    let going = with_number (entry_number t (record { dir = from; name = old })) (keys_moved t from to) in
+    let coming = with_number (entry_number t (record { dir = to; name = new })) (keys_moved t to from) in
+    let one = one_by (entry_number t (record { dir = from; name = old })) (keys_moved t from to) (one_moved t from to) in
+    let other = one_by (entry_number t (record { dir = to; name = new })) (keys_moved t to from) (one_moved t to from) in
+    elim (lead_to_one (entry_number t (record { dir = from; name = old })) (entry_number t (record { dir = to; name = new }))) as
+    (λ b. length (if b then [] else entry_key from old ∷ entry_key to new ∷ going ++ coming) ≤ 4) [
+      | true ↦ omega arith
+      | false ↦ omega (arith, length-append going coming)
+    ]
+
+four_by : (flags : Flags) (t : Tree) (from : ℕ) (old : List ℕ) (to : ℕ) (new : List ℕ) → length (keys_by flags t from old to new) ≤ 4
+four_by flags t from old to new =
+    elim flags.exchange as (λ b. length (if b then keys_swapped t from old to new else keys_renamed t from old to new) ≤ 4) [ true ↦ four_swapped t from old to new | false ↦ four_renamed t from old to new ]
+
 by_last-few : (last : Last) (keys : List ℕ → List Key) → ((name : List ℕ) → length (keys name) ≤ 4) → length (by_last last keys) ≤ 4
 by_last-few (Name name) keys so = so name
 by_last-few Root keys so = omega arith
@@ -69,7 +86,7 @@ listed-few t (Hard_link base old new) = by_place-few (where_on t base new) _ (λ
 listed-few t (Symlink base text path) = by_place-few (where_on t base path) _ (λ d name. omega arith)
 listed-few t (Unlink base path) = by_place-few (where_on t base path) _ (λ d name. let one = one_taken t d name in omega arith)
 listed-few t (Rmdir base path) = by_place-few (where_on t base path) _ (λ d name. let one = one_taken t d name in omega arith)
-listed-few t (Rename base old new) = by_place-few (where_on t base old) _ (λ from a. by_place-few (where_on t base new) _ (λ to b. four_renamed t from a to b))
+listed-few t (Rename base old new flags) = by_place-few (where_on t base old) _ (λ from a. by_place-few (where_on t base new) _ (λ to b. four_by flags t from a to b))
 
 unless-few : (change : Change) (keys : List Key) → length keys ≤ 4 → length (unless_refused change keys) ≤ 4
 unless-few (Ok done) keys few = few

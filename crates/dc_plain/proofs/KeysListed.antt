@@ -1,5 +1,5 @@
 -- A call touches the keys that are listed for it, and no others.
-use Rattle.std.proofs.Common.{◌≡◌, ◌≢◌, inl, inr, ℕ, zero, suc, ◌<◌, Result, get_or, List, [], ◌∷◌, Bool, true, false, Option, Some, None, Ok, Err, refl, ap, sym, ◌∙◌, arith, length, subst}
+use Rattle.std.proofs.Common.{◌≡◌, ◌≢◌, inl, inr, ℕ, zero, suc, ◌==◌, ◌<◌, Result, get_or, List, [], ◌∷◌, Bool, true, false, Option, Some, None, Ok, Err, refl, ap, sym, ◌∙◌, arith, length, subst}
 use Rattle.std.specs.List.{Contains}
 use Rattle.dc_names.specs.Laws.{PartsAreNamesOrDots}
 use Rattle.dc_names.specs.declared.refusal.Refusal.{Refusal}
@@ -10,17 +10,21 @@ use Rattle.dc_plain.specs.Trees.Inode.{Directory, Regular, Symbolic}
 use Rattle.dc_plain.specs.Requests.{Answer, Request}
 use Rattle.dc_plain.specs.Requests.Request.{Look, Readlink, Stat, List_names, Mkdir, Create, Hard_link, Symlink, Unlink, Rmdir, Rename}
 use Rattle.dc_plain.specs.Refusals.{path_or_fault}
-use Rattle.dc_plain.specs.Effects.{with_new, with_entry_for, without_entry, without_there}
+use Rattle.dc_plain.specs.Effects.{with_new, with_entry_for, without_entry, without_there, tree_swapped}
 use Rattle.dc_plain.specs.Reads.{look, readlink, stat, list_names}
 use Rattle.dc_plain.specs.Operations.{make, left_alone, link, rename, change_of, settled, Change, same_inode}
 use Rattle.dc_plain.specs.Runs.{tree_after}
 use Rattle.dc_plain.specs.IsWellFormed.{IsWellFormed}
-use Rattle.dc_plain.specs.TouchedKeys.{entry_key, own_keys, keys_taken, keys_gone, keys_renamed, with_number, by_last, by_place, at_name, listed, unless_refused, keys_touched}
+use Rattle.dc_plain.specs.TouchedKeys.{entry_key, own_keys, keys_taken, keys_by, keys_gone, keys_renamed, with_number, by_last, by_place, at_name, listed, unless_refused, keys_touched}
 use Rattle.dc_plain.specs.Laws.{TouchesTheListed, OthersStay}
 use Rattle.dc_plain.proofs.Chains.{after, left_with}
 use Rattle.dc_plain.proofs.Found.{Leads, Ends_in, Takes, makes, links, unlinks, rmdirs, entry-leads}
 use Rattle.dc_plain.proofs.FoundMoves.{renames}
-use Rattle.dc_plain.proofs.Holders.{decided_not}
+use Rattle.dc_plain.proofs.FoundMoves.Renames.{Moving, Swapping, Staying}
+use Rattle.dc_plain.proofs.KeysSwapped.{keys_plain, keys_exchanged, swapped_keys, unswapped_keys, swapped-others, swapped-each}
+use Rattle.dc_plain.specs.Spots.{spot_at}
+use Rattle.dc_plain.specs.declared.call.Flags.{Flags}
+use Rattle.dc_plain.proofs.Holders.{decided_not, other_test}
 use Rattle.dc_plain.proofs.Removed.{IsUnentered, inode-left}
 use Rattle.dc_plain.proofs.Moved.{IsReady, moved_to}
 use Rattle.dc_plain.proofs.Keys.{made-others, made-each}
@@ -86,26 +90,34 @@ move-exact t from old to new moved well source (Some p) at apart unentered ready
           (gone-each t to new p.0 leads.inode well leads.target (unentered p refl) leads.lives (moved_to (without_entry t to new p.0) from old to new moved.0) refl),
     )
 
-stay-exact : (t : Tree) (from : ℕ) (old : List ℕ) (to : ℕ) (new : List ℕ) (moved : Target) → Leads t from old moved → (there : Option Target) → entry_of t to (Entry new) ≡ there → same_inode moved there ≡ true → IsExact t (keys_renamed t from old to new) t
-stay-exact t from old to new moved source None at same = absurd cc
-stay-exact t from old to new moved source (Some p) at same =
-    let leads = entry-leads t to new p at in
-    subst (λ keys. IsExact t keys t) (sym (unmoved_keys t from old to new moved.0 p.0 source.target leads.target same)) (unaltered t)
+-- where both names lead to one inode no key is listed
+pub stay_keys : (t : Tree) (from : ℕ) (old : List ℕ) (to : ℕ) (new : List ℕ) (flags : Flags) (moved there : Target) → Leads t from old moved → Leads t to new there → (moved.0 == there.0) ≡ true → keys_by flags t from old to new ≡ []
+stay_keys t from old to new flags moved there source at same = by_test flags.exchange refl
+  where
+    by_test : (b : Bool) → flags.exchange ≡ b → keys_by flags t from old to new ≡ []
+    by_test true is = keys_exchanged flags t from old to new is ∙ unswapped_keys t from old to new moved.0 there.0 source.target at.target same
+    by_test false is = keys_plain flags t from old to new is ∙ unmoved_keys t from old to new moved.0 there.0 source.target at.target same
 
--- of both names of a rename
-pub both_named : (t : Tree) (base : ℕ) (old new : List ℕ) (from : ℕ) (a : List ℕ) (to : ℕ) (b : List ℕ) → Ends_in t base old from a → Ends_in t base new to b
-    → at_name t base old (λ from a. at_name t base new (λ to b. keys_renamed t from a to b)) ≡ keys_renamed t from a to b
-both_named t base old new from a to b ends ends' =
-    at_name-is t base old from a (λ from a. at_name t base new (λ to b. keys_renamed t from a to b)) ends ∙ at_name-is t base new to b (λ to b. keys_renamed t from a to b) ends'
+-- the keys of a rename, by what it has found
+pub renamed_so : (t : Tree) (base : ℕ) (old new : List ℕ) (flags : Flags) (from : ℕ) (a : List ℕ) (to : ℕ) (b : List ℕ) (keys : List Key) → Ends_in t base old from a → Ends_in t base new to b → keys_by flags t from a to b ≡ keys
+    → listed t (Rename base old new flags) ≡ keys
+renamed_so t base old new flags from a to b keys ends ends' is =
+    at_name-is t base old from a (λ from a. at_name t base new (λ to b. keys_by flags t from a to b)) ends ∙ at_name-is t base new to b (λ to b. keys_by flags t from a to b) ends' ∙ is
 
-rename-exact : PartsAreNamesOrDots → (t : Tree) (base : ℕ) (old new : List ℕ) (done : Answer × Tree) → IsWellFormed t → rename t base old new ≡ Ok done
-    → IsExact t (at_name t base old (λ from a. at_name t base new (λ to b. keys_renamed t from a to b))) done.1
-rename-exact parts t base old new done well e = elim (renames parts t base old new done well e) [
-  | inl m ↦ subst (IsExact t (at_name t base old (λ from a. at_name t base new (λ to b. keys_renamed t from a to b)))) m.left
+rename-exact : PartsAreNamesOrDots → (t : Tree) (base : ℕ) (old new : List ℕ) (flags : Flags) (done : Answer × Tree) → IsWellFormed t → rename t base old new flags ≡ Ok done → IsExact t (listed t (Rename base old new flags)) done.1
+rename-exact parts t base old new flags done well e = elim (renames parts t base old new flags done well e) [
+  | Moving m ↦ subst (IsExact t (listed t (Rename base old new flags))) m.left
       (subst (λ keys. IsExact t keys (moved_to (without_there t m.to m.new_name m.there) m.from m.old_name m.to m.new_name m.moved.0))
-      (sym (both_named t base old new m.from m.old_name m.to m.new_name m.old_ends m.new_ends)) (move-exact t m.from m.old_name m.to m.new_name m.moved well m.source m.there m.at m.apart m.unentered m.ready))
-  | inr s ↦ subst (IsExact t (at_name t base old (λ from a. at_name t base new (λ to b. keys_renamed t from a to b)))) s.left
-      (subst (λ keys. IsExact t keys t) (sym (both_named t base old new s.from s.old_name s.to s.new_name s.old_ends s.new_ends)) (stay-exact t s.from s.old_name s.to s.new_name s.moved s.source s.there s.at s.same))
+      (sym (renamed_so t base old new flags m.from m.old_name m.to m.new_name _ m.old_ends m.new_ends (keys_plain flags t m.from m.old_name m.to m.new_name m.moves)))
+      (move-exact t m.from m.old_name m.to m.new_name m.moved well m.source m.there m.at m.apart m.unentered m.ready))
+  | Swapping s ↦ subst (IsExact t (listed t (Rename base old new flags))) s.left
+      (subst (λ keys. IsExact t keys (tree_swapped t (spot_at s.from s.old_name) s.moved.0 (spot_at s.to s.new_name) s.there.0))
+      (sym (renamed_so t base old new flags s.from s.old_name s.to s.new_name _ s.old_ends s.new_ends
+      (keys_exchanged flags t s.from s.old_name s.to s.new_name s.swaps ∙ swapped_keys t s.from s.old_name s.to s.new_name s.moved.0 s.there.0 s.source.target s.at.target (other_test s.moved.0 s.there.0 s.can.two))))
+      (swapped-others t s.from s.old_name s.moved s.to s.new_name s.there well s.source s.at s.can, swapped-each t s.from s.old_name s.moved s.to s.new_name s.there well s.source s.at s.can))
+  | Staying s ↦ subst (IsExact t (listed t (Rename base old new flags))) s.left
+      (subst (λ keys. IsExact t keys t)
+      (sym (renamed_so t base old new flags s.from s.old_name s.to s.new_name [] s.old_ends s.new_ends (stay_keys t s.from s.old_name s.to s.new_name flags s.moved s.there s.source s.at s.same))) (unaltered t))
 ]
 
 change-exact : PartsAreNamesOrDots → (limit : ℕ) (t : Tree) (request : Request) (done : Answer × Tree) → IsWellFormed t → change_of limit t request ≡ Ok done → IsExact t (listed t request) done.1
@@ -119,7 +131,7 @@ change-exact parts limit t (Hard_link base old new) done well e = link-exact par
 change-exact parts limit t (Symlink base text path) done well e = after (path_or_fault text) _ done e (λ link_path good e. make-exact parts limit t base path false (Symbolic text) done well e)
 change-exact parts limit t (Unlink base path) done well e = take-exact t base path done.1 well (unlinks t base path done well e)
 change-exact parts limit t (Rmdir base path) done well e = take-exact t base path done.1 well (rmdirs t base path done well e)
-change-exact parts limit t (Rename base old new) done well e = rename-exact parts t base old new done well e
+change-exact parts limit t (Rename base old new flags) done well e = rename-exact parts t base old new flags done well e
 
 settled-exact : (t : Tree) (keys : List Key) (change : Change) → ((done : Answer × Tree) → change ≡ Ok done → IsExact t keys done.1) → IsExact t (unless_refused change keys) (settled t change).1
 settled-exact t keys (Ok done) so = so done refl

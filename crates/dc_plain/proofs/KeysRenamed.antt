@@ -16,12 +16,12 @@ use Rattle.dc_plain.proofs.KeysRemoved.{removed-others}
 use Rattle.dc_plain.proofs.KeysMoved.{some_counted, holder_is, old_after, new_after, parent_after, moved-others}
 use Rattle.dc_plain.proofs.SameFacts.{IsAmong, KeepsOthers, AltersEach, parent-fact, entry-fact, entries-differ}
 
-among_front : (key : Key) (xs ys : List Key) → IsAmong key xs → IsAmong key (xs ++ ys)
+pub among_front : (key : Key) (xs ys : List Key) → IsAmong key xs → IsAmong key (xs ++ ys)
 among_front key [] ys never = absurd never
 among_front key (x ∷ xs) ys (inl is) = inl is
 among_front key (x ∷ xs) ys (inr later) = inr (among_front key xs ys later)
 
-among_back : (key : Key) (xs ys : List Key) → IsAmong key ys → IsAmong key (xs ++ ys)
+pub among_back : (key : Key) (xs ys : List Key) → IsAmong key ys → IsAmong key (xs ++ ys)
 among_back key [] ys among = among
 among_back key (x ∷ xs) ys among = inr (among_back key xs ys among)
 
@@ -50,7 +50,7 @@ module _ (t : Tree) (from : ℕ) (old : List ℕ) (to : ℕ) (new : List ℕ) (n
       let none : names_of t n ≡ 0 = ap (names_of t) same ∙ well.no_entry_leads_to_root in
       absurd (omega arith)
 
-  parent_before : IsTrue (is_live_directory t n) → entry_of t n Parent ≡ Some (from, Dir)
+  pub parent_before : IsTrue (is_live_directory t n) → entry_of t n Parent ≡ Some (from, Dir)
   parent_before live =
       let alive = well.inodes n Directory (is_directory_in (inode_of t n) live) in
       let held = holder_is t from old n source (alive.reached.0 not_root) in

@@ -1,7 +1,7 @@
 -- An outcome stays where more is told.
 use Rattle.std.proofs.Common.{◌≡◌, ℕ, zero, suc, List, [], ◌∷◌, ◌++◌, ◌-◌, ◌==◌, ◌&&◌, ◌||◌, not, Bool, true, false, cond, Option, Some, None, refl, option_map, if◌then◌else◌, length, take, slice_get}
 use Rattle.dc_names.specs.declared.refusal.Refusal.TheVariants.{TooManyLinks}
-use Rattle.dc_plain.specs.declared.TheConstants.{MOST_LINKS}
+use Rattle.dc_names.specs.declared.limits.TheConstants.{MOST_LINKS}
 use Rattle.dc_names.specs.Bytes.{is_empty}
 use Rattle.dc_names.specs.Paths.{Part, Path, path_in}
 use Rattle.dc_names.specs.declared.kind.Kind.TheVariants.{Dir}

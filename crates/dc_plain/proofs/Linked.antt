@@ -1,7 +1,7 @@
 -- A tree with a further name for what is no directory stays well formed.
 use Rattle.std.proofs.Common.{◌≡◌, ◌≢◌, ℕ, ◌+◌, ◌≤◌, ◌<◌, ◌==◌, List, Bool, true, false, cond, Some, None, IsTrue, refl, ap, ◌∙◌, arith, option_map, subst}
 use Rattle.std.specs.FinMap.Entries.{is_sorted-put}
-use Rattle.dc_plain.specs.declared.TheConstants.{MOST_NAMES}
+use Rattle.dc_names.specs.declared.limits.TheConstants.{MOST_NAMES}
 use Rattle.dc_names.specs.Bytes.{is_name}
 use Rattle.dc_plain.specs.Trees.{Tree, Spot, Inode, spot_cmp, inode_of, entry_number, names_of, holder_of, is_live_directory, is_directory_inode}
 use Rattle.dc_plain.specs.Trees.Inode.{Directory, Regular, Symbolic}

@@ -1,7 +1,7 @@
 -- A tree with a new inode stays well formed.
 use Rattle.std.proofs.Common.{◌≡◌, ◌≢◌, ℕ, suc, ◌≤◌, ◌<◌, ◌==◌, ◌||◌, ◌^◌, List, [], ◌∷◌, Bool, true, false, cond, Option, Some, None, is_some, is_ok, IsTrue, T, refl, ap, sym, ◌∙◌, arith, length, option_map, option_and_then, subst}
 use Rattle.std.specs.declared.cmp.Ordering.{Ordering}
-use Rattle.dc_plain.specs.declared.TheConstants.{MOST_NAMES}
+use Rattle.dc_names.specs.declared.limits.TheConstants.{MOST_NAMES}
 use Rattle.dc_plain.specs.Facts.Label.{Entry}
 use Rattle.std.specs.List.{AllByRecursion}
 use Rattle.std.specs.Cmp.{nat_cmp_total, IsTotalOrder}

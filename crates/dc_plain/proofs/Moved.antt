@@ -2,7 +2,7 @@
 use Rattle.std.proofs.Common.{◌≡◌, ◌≢◌, ℕ, zero, suc, ◌+◌, ◌≤◌, ◌==◌, ◌&&◌, ◌||◌, not, List, [], ◌∷◌, Bool, true, false, cond, Option, Some, None, is_some, IsTrue, refl, ap, sym, ◌∙◌, arith, find, option_map, subst}
 use Rattle.std.specs.Ordering.{eq_by_cmp}
 use Rattle.std.specs.FinMap.Entries.{is_sorted-put, is_sorted-where_key}
-use Rattle.dc_plain.specs.declared.TheConstants.{MOST_NAMES}
+use Rattle.dc_names.specs.declared.limits.TheConstants.{MOST_NAMES}
 use Rattle.dc_names.specs.Bytes.{is_name}
 use Rattle.dc_plain.specs.Trees.{Tree, Spot, Inode, spot_cmp, how_many, inode_of, entry_number, names_of, holder_of, if_held, is_live_directory, is_directory_inode, without_spot}
 use Rattle.dc_plain.specs.Trees.Inode.{Directory, Regular, Symbolic}
@@ -14,7 +14,7 @@ use Rattle.dc_plain.proofs.Takes.{All-filter, count-take, find-take, lookup-take
 use Rattle.dc_plain.proofs.Made.{spots_total, to_test, from_test, is_directory_in, or_right, All-lookup}
 use Rattle.dc_plain.proofs.Holders.{other_test, same_test, decided, decided_not, holder-live}
 
-neither : (a b : Bool) → (a || b) ≡ false → (a ≡ false) × (b ≡ false)
+pub neither : (a b : Bool) → (a || b) ≡ false → (a ≡ false) × (b ≡ false)
 neither true b e = absurd cc
 neither false b e = (refl, e)
 

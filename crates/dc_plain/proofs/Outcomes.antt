@@ -2,7 +2,7 @@
 use Rattle.std.proofs.Common.{◌≡◌, ℕ, zero, suc, List, [], ◌∷◌, ◌++◌, ◌-◌, ◌==◌, ◌&&◌, ◌||◌, not, Bool, true, false, Option, Some, None, refl, arith, subst, if◌then◌else◌, length, take, slice_get}
 use Rattle.dc_names.specs.declared.refusal.Refusal.{Refusal}
 use Rattle.dc_names.specs.declared.refusal.Refusal.TheVariants.{NotFound, NotDirectory, TooManyLinks}
-use Rattle.dc_plain.specs.declared.TheConstants.{MOST_LINKS}
+use Rattle.dc_names.specs.declared.limits.TheConstants.{MOST_LINKS}
 use Rattle.std.specs.List.{Contains}
 use Rattle.dc_names.specs.Bytes.{is_empty}
 use Rattle.dc_names.specs.Paths.{Part, Path, path_in}

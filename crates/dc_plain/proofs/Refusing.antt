@@ -1,9 +1,9 @@
 -- A refusal leaves the tree as it was.
-use Rattle.std.proofs.Common.{◌≡◌, ℕ, List, Bool, true, false, Option, Result, Ok, Err, refl, not, ◌&&◌, ◌||◌, is_some, length, if◌then◌else◌}
+use Rattle.std.proofs.Common.{◌≡◌, ℕ, List, Bool, true, false, Result, Ok, Err, refl, not, ◌==◌, ◌&&◌, ◌||◌, is_some, length, if◌then◌else◌}
 use Rattle.std.specs.Prelude.{nat_le}
 use Rattle.dc_names.specs.declared.refusal.Refusal.{Refusal}
 use Rattle.dc_names.specs.declared.refusal.Refusal.TheVariants.{NotPermitted, NotFound, Busy, Exists, NotDirectory, Invalid, NoSpace, TooManyNames, NotEmpty}
-use Rattle.dc_plain.specs.declared.TheConstants.{MOST_NAMES}
+use Rattle.dc_names.specs.declared.limits.TheConstants.{MOST_NAMES}
 use Rattle.dc_names.specs.Bytes.{is_empty}
 use Rattle.dc_plain.specs.Facts.{Target}
 use Rattle.dc_plain.specs.Facts.Label.{Entry}
@@ -16,10 +16,12 @@ use Rattle.dc_plain.specs.Requests.Answer.{Done, Nothing, Refused}
 use Rattle.dc_plain.specs.Requests.Request.{Look, Readlink, Stat, List_names, Mkdir, Create, Hard_link, Symlink, Unlink, Rmdir, Rename}
 use Rattle.dc_names.specs.Lasts.{name_or, name_or_each}
 use Rattle.dc_plain.specs.Refusals.{◌>>=◌, refuse, path_or_fault, place_on, where_on, present, is_full}
-use Rattle.dc_plain.specs.Effects.{with_new, with_entry_for, without_entry}
+use Rattle.dc_plain.specs.Effects.{with_new, with_entry_for, without_entry, tree_swapped}
 use Rattle.dc_plain.specs.Plans.{with_moved}
+use Rattle.dc_plain.specs.Spots.{spot_at}
+use Rattle.dc_plain.specs.declared.call.Flags.{Flags}
 use Rattle.dc_plain.specs.Reads.{look, readlink, stat, list_names}
-use Rattle.dc_plain.specs.Operations.{Change, make, link, unlink, rmdir, is_beneath, replaceable, same_inode, rename, left_alone, change_of, settled}
+use Rattle.dc_plain.specs.Operations.{Change, make, link, unlink, rmdir, is_beneath, replaceable, same_inode, move_name, swap_names, rename, left_alone, change_of, settled}
 use Rattle.dc_plain.specs.Laws.{RefusalsAlterNothing}
 
 -- a refused change leaves the tree
@@ -79,17 +81,27 @@ rmdir-spares t base text =
     step t (refuse (not (is_directory inode)) NotDirectory) _ λ dir.
     step t (refuse (not (is_empty (names_in t inode.0))) NotEmpty) _ λ empty. nothing t (without_entry t at.dir name inode.0)
 
-move-spares : (t : Tree) (from to : Where) (old new : List ℕ) (moved : Target) (there : Option Target)
-    → Spares t (do
-      apart ← refuse (is_directory moved && is_beneath (length t.inodes) t to.dir moved.0) Invalid
-      may ← replaceable t moved there
-      Ok (Nothing, with_moved t moved (record { dir = from.dir; name = old }) (record { dir = to.dir; name = new }) there))
-move-spares t from to old new moved there =
-    step t (refuse (is_directory moved && is_beneath (length t.inodes) t to.dir moved.0) Invalid) _ λ apart.
-    step t (replaceable t moved there) _ λ may. nothing t (with_moved t moved (record { dir = from.dir; name = old }) (record { dir = to.dir; name = new }) there)
+move-spares : (t : Tree) (from : Where) (old : List ℕ) (to : Where) (new : List ℕ) (moved : Target) (no_replace : Bool) → Spares t (move_name t from old to new moved no_replace)
+move-spares t from old to new moved no_replace =
+    step t (refuse (not (is_directory moved) && (from.slash || to.slash)) NotDirectory) _ λ ends.
+    let there = entry_of t to.dir (Entry new) in
+    step t (refuse (no_replace && is_some there) Exists) _ λ free.
+    either t (same_inode moved there) _ _ (nothing t t)
+    (step t (refuse (is_directory moved && is_beneath (length t.inodes) t to.dir moved.0) Invalid) _ λ apart.
+    step t (replaceable t moved there) _ λ may. nothing t (with_moved t moved (record { dir = from.dir; name = old }) (record { dir = to.dir; name = new }) there))
 
-rename-spares : (t : Tree) (base : ℕ) (old new : List ℕ) → Spares t (rename t base old new)
-rename-spares t base old new =
+swap-spares : (t : Tree) (from : Where) (old : List ℕ) (to : Where) (new : List ℕ) (moved : Target) → Spares t (swap_names t from old to new moved)
+swap-spares t from old to new moved =
+    step t (present NotFound (entry_of t to.dir (Entry new))) _ λ there.
+    step t (refuse (not (is_directory moved) && from.slash) NotDirectory) _ λ old_ends.
+    step t (refuse (not (is_directory there) && to.slash) NotDirectory) _ λ new_ends.
+    either t (moved.0 == there.0) _ _ (nothing t t)
+    (step t (refuse (is_directory moved && is_beneath (length t.inodes) t to.dir moved.0) Invalid) _ λ apart.
+    step t (refuse (is_directory there && is_beneath (length t.inodes) t from.dir there.0) Invalid) _ λ apart_too. nothing t (tree_swapped t (spot_at from.dir old) moved.0 (spot_at to.dir new) there.0))
+
+rename-spares : (t : Tree) (base : ℕ) (old new : List ℕ) (flags : Flags) → Spares t (rename t base old new flags)
+rename-spares t base old new flags =
+    step t (refuse (flags.no_replace && flags.exchange) Invalid) _ λ one.
     step t (path_or_fault old) _ λ old_path.
     step t (path_or_fault new) _ λ new_path.
     step t (place_on t base old_path) _ λ from.
@@ -97,9 +109,7 @@ rename-spares t base old new =
     step t (name_or_each Busy Invalid Invalid from.last) _ λ old_name.
     step t (name_or_each Busy Invalid Invalid to.last) _ λ new_name.
     step t (present NotFound (entry_of t from.dir (Entry old_name))) _ λ moved.
-    step t (refuse (not (is_directory moved) && (from.slash || to.slash)) NotDirectory) _ λ ends.
-    let there = entry_of t to.dir (Entry new_name) in
-    either t (same_inode moved there) _ _ (nothing t t) (move-spares t from to old_name new_name moved there)
+    either t flags.exchange _ _ (swap-spares t from old_name to new_name moved) (move-spares t from old_name to new_name moved flags.no_replace)
 
 reads-spare : (t : Tree) (answered : Result Answer Refusal) → Spares t (left_alone t answered)
 reads-spare t (Ok answer) = λ number e. refl
@@ -116,7 +126,7 @@ changes-spare limit t (Hard_link base old new) = link-spares t base old new
 changes-spare limit t (Symlink base text path) = step t (path_or_fault text) _ λ link_text. make-spares limit t base path false (Symbolic text)
 changes-spare limit t (Unlink base path) = unlink-spares t base path
 changes-spare limit t (Rmdir base path) = rmdir-spares t base path
-changes-spare limit t (Rename base old new) = rename-spares t base old new
+changes-spare limit t (Rename base old new flags) = rename-spares t base old new flags
 
 pub refusals-spare : RefusalsAlterNothing
 refusals-spare limit t request number e = changes-spare limit t request number e

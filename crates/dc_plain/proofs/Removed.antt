@@ -3,7 +3,7 @@ use Rattle.std.proofs.Common.{◌≡◌, ◌≢◌, ℕ, ◌+◌, ◌≤◌, ◌
 use Rattle.std.specs.Ordering.{nat_cmp, is_eq}
 use Rattle.std.specs.List.{AllByRecursion}
 use Rattle.std.specs.FinMap.Entries.{is_sorted, is_sorted-where_key, find-where_key}
-use Rattle.dc_plain.specs.declared.TheConstants.{MOST_NAMES}
+use Rattle.dc_names.specs.declared.limits.TheConstants.{MOST_NAMES}
 use Rattle.dc_names.specs.Bytes.{is_empty}
 use Rattle.dc_plain.specs.Trees.{names_in, Tree, Spot, Inode, spot_cmp, inode_of, entry_number, names_of, holder_of, is_live_directory, is_directory_inode, without_spot, without_number}
 use Rattle.dc_plain.specs.Trees.Inode.{Directory, Regular, Symbolic}

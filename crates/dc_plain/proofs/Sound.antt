@@ -1,7 +1,7 @@
 -- What calls make of the machine is sound.
 use Rattle.std.proofs.Common.{◌≡◌, ◌≤◌, subst, sym}
 use Rattle.dc_names.specs.Laws.{PartsAreNamesOrDots}
-use Rattle.dc_plain.specs.declared.TheConstants.{MOST_INODES}
+use Rattle.dc_names.specs.declared.limits.TheConstants.{MOST_INODES}
 use Rattle.dc_plain.specs.Trees.{Tree}
 use Rattle.dc_plain.specs.Requests.{Answer}
 use Rattle.dc_plain.specs.IsWellFormed.{IsWellFormed, IsWithin}

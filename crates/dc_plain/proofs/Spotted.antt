@@ -2,7 +2,7 @@
 use Rattle.std.proofs.Common.{◌≡◌, ℕ, ◌-◌, zero, suc, ◌==◌, ◌||◌, not, List, [], ◌∷◌, Bool, true, false, cond, Option, Some, None, Result, Ok, Err, IsTrue, refl, ap, ◌∙◌, subst, length, take, slice_get, option_map, option_and_then}
 use Rattle.dc_names.specs.Laws.{IsNameOrDots, PartsAreNamesOrDots}
 use Rattle.dc_names.specs.declared.refusal.Refusal.{Refusal}
-use Rattle.dc_plain.specs.declared.TheConstants.{MOST_LINKS}
+use Rattle.dc_names.specs.declared.limits.TheConstants.{MOST_LINKS}
 use Rattle.dc_names.specs.Bytes.{is_name}
 use Rattle.dc_names.specs.Paths.Part.{Name as PartName, Dot, DotDot}
 use Rattle.dc_names.specs.declared.fault.TextFault.{TextFault}

@@ -7,6 +7,7 @@ use Rattle.dc_plain.specs.Requests.Request.{Look, Readlink, Stat, List_names, Mk
 use Rattle.dc_plain.specs.Requests.Answer.{Found, Done, Nothing, Bytes, Names, Counted, Refused}
 use Rattle.dc_plain.specs.Resolution.{resolve}
 use Rattle.dc_plain.specs.Runs.{replies_of}
+use Rattle.dc_plain.proofs.WorkedFlags.{plain, unreplacing, exchanging, both_flags}
 
 -- nothing asked
 nothing_asked : replies_of 16 empty_tree []
@@ -94,7 +95,7 @@ eight_links_and_nine = refl
 rename_onto_same_file : replies_of 65536 empty_tree (
     Create 1 (codes "/f")
     ∷ Hard_link 1 (codes "/f") (codes "/g")
-    ∷ Rename 1 (codes "/f") (codes "/g")
+    ∷ Rename 1 (codes "/f") (codes "/g") plain
     ∷ Look 1 (codes "/f") follow.Yes
     ∷ [])
     ≡ Done 2 ∷ Done 2 ∷ Nothing ∷ Found 2 File ∷ []
@@ -104,7 +105,7 @@ rename_onto_same_file = refl
 -- a directory beneath itself
 directory_beneath_itself : replies_of 65536 empty_tree (
     Mkdir 1 (codes "/a")
-    ∷ Rename 1 (codes "/a") (codes "/a/b")
+    ∷ Rename 1 (codes "/a") (codes "/a/b") plain
     ∷ [])
     ≡ Done 2 ∷ Refused 22 ∷ []
 unfolding resolve
@@ -204,11 +205,11 @@ renames : replies_of 65536 empty_tree (
     ∷ Mkdir 1 (codes "/b")
     ∷ Create 1 (codes "/b/x")
     ∷ Symlink 1 (codes "b") (codes "/l")
-    ∷ Rename 1 (codes "/a") (codes "/b")
-    ∷ Rename 1 (codes "/a") (codes "/b/x")
-    ∷ Rename 1 (codes "/b/x") (codes "/a")
-    ∷ Rename 1 (codes "/l/") (codes "/m")
-    ∷ Rename 1 (codes "/a") (codes "/b/c")
+    ∷ Rename 1 (codes "/a") (codes "/b") plain
+    ∷ Rename 1 (codes "/a") (codes "/b/x") plain
+    ∷ Rename 1 (codes "/b/x") (codes "/a") plain
+    ∷ Rename 1 (codes "/l/") (codes "/m") plain
+    ∷ Rename 1 (codes "/a") (codes "/b/c") plain
     ∷ Look 1 (codes "/b/c/..") follow.Yes
     ∷ Look 1 (codes "/l/c") follow.Yes
     ∷ [])
@@ -226,3 +227,22 @@ unlinks : replies_of 65536 empty_tree (
     ≡ Done 2 ∷ Refused 20 ∷ Nothing ∷ Done 3 ∷ []
 unfolding resolve
 unlinks = refl
+
+-- an exchange of two directories, and what the flags refuse
+flags_of_a_rename : replies_of 65536 empty_tree (
+    Mkdir 1 (codes "/a")
+    ∷ Mkdir 1 (codes "/a/b")
+    ∷ Mkdir 1 (codes "/c")
+    ∷ Rename 1 (codes "/a/b") (codes "/c") exchanging
+    ∷ Look 1 (codes "/a/b") follow.Yes
+    ∷ Look 1 (codes "/c/..") follow.Yes
+    ∷ Rename 1 (codes "/a") (codes "/a/b") exchanging
+    ∷ Rename 1 (codes "/a/b") (codes "/a") exchanging
+    ∷ Rename 1 (codes "/a") (codes "/c") unreplacing
+    ∷ Rename 1 (codes "/a") (codes "/c") both_flags
+    ∷ Rename 1 (codes "/a") (codes "/d") unreplacing
+    ∷ Rename 1 (codes "/d") (codes "/e") plain
+    ∷ [])
+    ≡ Done 2 ∷ Done 3 ∷ Done 4 ∷ Nothing ∷ Found 4 Dir ∷ Found 1 Dir ∷ Refused 22 ∷ Refused 22 ∷ Refused 17 ∷ Refused 22 ∷ Nothing ∷ Nothing ∷ []
+unfolding resolve
+flags_of_a_rename = refl

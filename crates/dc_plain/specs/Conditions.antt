@@ -2,10 +2,10 @@
 use Rattle.std.specs.Prelude.{◌≡◌, ◌≢◌, ℕ, ◌<◌, ◌&&◌, List, Bool, false, not, length, None, Some, is_some, IfSome, IsTrue}
 use Rattle.dc_names.specs.Bytes.{is_empty, is_name}
 use Rattle.dc_names.specs.Paths.{fault_of}
-use Rattle.dc_plain.specs.declared.TheConstants.{MOST_NAMES, NUMBER_LIMIT}
+use Rattle.dc_names.specs.declared.limits.TheConstants.{MOST_NAMES, NUMBER_LIMIT}
 use Rattle.dc_plain.specs.Operations.{is_beneath}
 use Rattle.dc_plain.specs.Spots.{spot_at}
-use Rattle.dc_plain.specs.Trees.{Tree, Inode, entry_number, inode_of, is_live_directory, names_in, names_of}
+use Rattle.dc_plain.specs.Trees.{Tree, Spot, Inode, entry_number, inode_of, is_live_directory, names_in, names_of}
 use Rattle.dc_plain.specs.Trees.Inode.{Directory, Regular, Symbolic}
 
 -- a name in a live directory, under which no entry stands
@@ -53,3 +53,11 @@ pub record CanMove (t : Tree) (from : ℕ) (old : List ℕ) (to : ℕ) (new : Li
   pub leads : entry_number t (spot_at from old) ≡ Some n
   pub stands : CanStandAt t to new n
   pub named : IsTrue (is_name new)
+
+-- two entries lead to two inodes, and neither is a directory that is above the other's name
+pub record CanSwap (t : Tree) (a : Spot) (m : ℕ) (b : Spot) (n : ℕ) : Type 0 where
+  pub first : entry_number t a ≡ Some m
+  pub second : entry_number t b ≡ Some n
+  pub two : m ≢ n
+  pub apart : (is_live_directory t m && is_beneath (length t.inodes) t b.dir m) ≡ false
+  pub apart_too : (is_live_directory t n && is_beneath (length t.inodes) t a.dir n) ≡ false

@@ -51,3 +51,14 @@ pub record MovesName (t : Tree) (from : ℕ) (old : List ℕ) (to : ℕ) (new : 
   pub held : IsTrue (is_live_directory t n) → holder_of u n ≡ Some to
   pub still_held : (q : ℕ) → q ≢ n → holder_of u q ≡ holder_of (cleared t to new) q
   pub still_named : (q : ℕ) → names_of u q ≡ names_of (cleared t to new) q
+
+-- two inodes at each other's names. The counts of names are as they were, and a directory is held where it stands now
+pub record SwapsNames (t : Tree) (a : Spot) (m : ℕ) (b : Spot) (n : ℕ) (u : Tree) : Type 0 where
+  pub first : entry_number u a ≡ Some n
+  pub second : entry_number u b ≡ Some m
+  pub elsewhere : (spot : Spot) → spot ≢ a → spot ≢ b → entry_number u spot ≡ entry_number t spot
+  pub kept : (q : ℕ) → inode_of u q ≡ inode_of t q
+  pub held : IsTrue (is_live_directory t m) → holder_of u m ≡ Some b.dir
+  pub held_too : IsTrue (is_live_directory t n) → holder_of u n ≡ Some a.dir
+  pub still_held : (q : ℕ) → q ≢ m → q ≢ n → holder_of u q ≡ holder_of t q
+  pub still_named : (q : ℕ) → names_of u q ≡ names_of t q

@@ -4,7 +4,7 @@ use Rattle.std.specs.Ordering.{nat_cmp}
 use Rattle.std.specs.FinMap.Entries.{put}
 use Rattle.dc_plain.specs.Facts.{Target}
 use Rattle.dc_plain.specs.Facts.Label.{Entry}
-use Rattle.dc_plain.specs.Trees.{Tree, Inode, spot_cmp, entry_of, without_spot, without_number, names_of}
+use Rattle.dc_plain.specs.Trees.{Tree, Spot, Inode, spot_cmp, entry_of, without_spot, without_number, names_of}
 
 -- with an entry that leads to n, in place of one that stands there
 abbrev pub with_entry_for : Tree → ℕ → List ℕ → ℕ → Tree
@@ -40,3 +40,7 @@ cleared t d name = without_there t d name (entry_of t d (Entry name))
 -- n at the new name in place of the old one and of what stood there
 abbrev pub tree_moved : Tree → ℕ → List ℕ → ℕ → List ℕ → ℕ → Tree
 tree_moved t from old to new n = with_entry_for (without_entry_alone (cleared t to new) from old) to new n
+
+-- m, which stands at a, and n, which stands at b, at each other's names
+abbrev pub tree_swapped : Tree → Spot → ℕ → Spot → ℕ → Tree
+tree_swapped t a m b n = with_entry_for (with_entry_for t a.dir a.name n) b.dir b.name m

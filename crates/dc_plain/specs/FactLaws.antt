@@ -34,7 +34,7 @@ answer_told teller (Hard_link base old new) = None
 answer_told teller (Symlink base text path) = None
 answer_told teller (Unlink base path) = None
 answer_told teller (Rmdir base path) = None
-answer_told teller (Rename base old new) = None
+answer_told teller (Rename base old new flags) = None
 
 -- an answer that follows from true facts is the operation's on the tree, which stays as it is
 abbrev pub RepliesByFacts : Type 0

@@ -3,7 +3,7 @@ use Rattle.std.specs.Prelude.{◌≡◌, ◌≢◌, ℕ, zero, suc, ◌==◌, �
 use Rattle.std.specs.Ordering.{nat_cmp}
 use Rattle.std.specs.List.{AllByRecursion}
 use Rattle.std.specs.FinMap.Entries.{is_sorted}
-use Rattle.dc_plain.specs.declared.TheConstants.{MOST_NAMES, NUMBER_LIMIT}
+use Rattle.dc_names.specs.declared.limits.TheConstants.{MOST_NAMES, NUMBER_LIMIT}
 use Rattle.dc_names.specs.Bytes.{is_name}
 use Rattle.dc_names.specs.Paths.{path_of}
 use Rattle.dc_plain.specs.Trees.{spot_cmp, inode_of, Tree, Spot, Inode, is_live_directory, names_of, holder_of, if_held}

@@ -2,7 +2,7 @@
 use Rattle.std.specs.Prelude.{ℕ, zero, suc, List, Bool, true, false, not, ◌==◌, ◌&&◌, ◌||◌, nat_le, length, Option, Some, None, is_some, if◌then◌else◌, Result, Ok, Err}
 use Rattle.dc_names.specs.declared.refusal.Refusal.{Refusal}
 use Rattle.dc_names.specs.declared.refusal.Refusal.TheVariants.{NotPermitted, NotFound, Busy, Exists, NotDirectory, IsDirectory, Invalid, NoSpace, TooManyNames, NotEmpty}
-use Rattle.dc_plain.specs.declared.TheConstants.{MOST_NAMES}
+use Rattle.dc_names.specs.declared.limits.TheConstants.{MOST_NAMES}
 use Rattle.dc_names.specs.Bytes.{is_empty}
 use Rattle.dc_names.specs.Lasts.{name_or, name_or_each}
 use Rattle.dc_names.specs.Refusals.{refusal_number}
@@ -15,8 +15,11 @@ use Rattle.dc_plain.specs.Requests.{Request, Answer}
 use Rattle.dc_plain.specs.Requests.Request.{Look, Readlink, Stat, List_names, Mkdir, Create, Hard_link, Symlink, Unlink, Rmdir, Rename}
 use Rattle.dc_plain.specs.Requests.Answer.{Done, Nothing, Refused}
 use Rattle.dc_plain.specs.Refusals.{◌>>=◌, refuse, path_or_fault, place_on, where_on, present, is_full}
+use Rattle.dc_plain.specs.Places.{Where}
+use Rattle.dc_plain.specs.Spots.{spot_at}
+use Rattle.dc_plain.specs.declared.call.Flags.{Flags}
 use Rattle.dc_plain.specs.Reads.{look, readlink, stat, list_names}
-use Rattle.dc_plain.specs.Effects.{with_new, with_entry_for, without_entry, without_entry_alone, without_there}
+use Rattle.dc_plain.specs.Effects.{with_new, with_entry_for, without_entry, without_entry_alone, without_there, tree_swapped}
 
 -- the answer with the tree that is left, or a refusal
 abbrev pub Change : Type 0
@@ -86,22 +89,45 @@ abbrev pub same_inode : Target → Option Target → Bool
 same_inode moved None = false
 same_inode moved (Some there) = moved.0 == there.0
 
--- an inode gets another name in place of one of its names
-abbrev pub rename : Tree → ℕ → List ℕ → List ℕ → Change
-rename t base old new = do
+-- an inode gets another name in place of one of its names, which no inode may have where none may be replaced
+abbrev pub move_name : Tree → Where → List ℕ → Where → List ℕ → Target → Bool → Change
+move_name t from old to new moved no_replace = do
+  ends ← refuse (not (is_directory moved) && (from.slash || to.slash)) NotDirectory
+  let there = entry_of t to.dir (Entry new)
+  free ← refuse (no_replace && is_some there) Exists
+  if same_inode moved there then Ok (Nothing, t) else do
+    apart ← refuse (is_directory moved && is_beneath (length t.inodes) t to.dir moved.0) Invalid
+    may ← replaceable t moved there
+    Ok (Nothing, with_entry_for (without_entry_alone (without_there t to.dir new there) from.dir old) to.dir new moved.0)
+
+-- two names swap their inodes, of any kinds, where neither is above the other's name
+abbrev pub swap_names : Tree → Where → List ℕ → Where → List ℕ → Target → Change
+swap_names t from old to new moved = do
+  there ← present NotFound (entry_of t to.dir (Entry new))
+  old_ends ← refuse (not (is_directory moved) && from.slash) NotDirectory
+  new_ends ← refuse (not (is_directory there) && to.slash) NotDirectory
+  if moved.0 == there.0 then Ok (Nothing, t) else do
+    apart ← refuse (is_directory moved && is_beneath (length t.inodes) t to.dir moved.0) Invalid
+    apart_too ← refuse (is_directory there && is_beneath (length t.inodes) t from.dir there.0) Invalid
+    Ok (Nothing, tree_swapped t (spot_at from.dir old) moved.0 (spot_at to.dir new) there.0)
+
+-- by the flags
+abbrev pub rename_at : Tree → Where → List ℕ → Where → List ℕ → Flags → Change
+rename_at t from old to new flags = do
+  moved ← present NotFound (entry_of t from.dir (Entry old))
+  if flags.exchange then swap_names t from old to new moved else move_name t from old to new moved flags.no_replace
+
+-- an inode gets another name, or swaps names with another inode (rename; renameat2 with RENAME_NOREPLACE or RENAME_EXCHANGE)
+abbrev pub rename : Tree → ℕ → List ℕ → List ℕ → Flags → Change
+rename t base old new flags = do
+  one ← refuse (flags.no_replace && flags.exchange) Invalid
   old_path ← path_or_fault old
   new_path ← path_or_fault new
   from ← place_on t base old_path
   to ← place_on t base new_path
   old_name ← name_or_each Busy Invalid Invalid from.last
   new_name ← name_or_each Busy Invalid Invalid to.last
-  moved ← present NotFound (entry_of t from.dir (Entry old_name))
-  ends ← refuse (not (is_directory moved) && (from.slash || to.slash)) NotDirectory
-  let there = entry_of t to.dir (Entry new_name)
-  if same_inode moved there then Ok (Nothing, t) else do
-    apart ← refuse (is_directory moved && is_beneath (length t.inodes) t to.dir moved.0) Invalid
-    may ← replaceable t moved there
-    Ok (Nothing, with_entry_for (without_entry_alone (without_there t to.dir new_name there) from.dir old_name) to.dir new_name moved.0)
+  rename_at t from old_name to new_name flags
 
 -- a link whose text has a path
 abbrev pub symlink : ℕ → Tree → ℕ → List ℕ → List ℕ → Change
@@ -125,7 +151,7 @@ change_of limit t (Hard_link base old new) = link t base old new
 change_of limit t (Symlink base text path) = symlink limit t base text path
 change_of limit t (Unlink base path) = unlink t base path
 change_of limit t (Rmdir base path) = rmdir t base path
-change_of limit t (Rename base old new) = rename t base old new
+change_of limit t (Rename base old new flags) = rename t base old new flags
 
 -- a refusal is told by its number, and leaves the tree as it was
 abbrev pub settled : Tree → Change → Answer × Tree

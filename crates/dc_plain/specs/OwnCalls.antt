@@ -16,4 +16,4 @@ own_request (owns.Link base old new) = Hard_link base old.items new.items
 own_request (owns.Symlink base text path) = Symlink base text.items path.items
 own_request (owns.Unlink base path) = Unlink base path.items
 own_request (owns.Rmdir base path) = Rmdir base path.items
-own_request (owns.Rename base old new) = Rename base old.items new.items
+own_request (owns.Rename base old new flags) = Rename base old.items new.items flags

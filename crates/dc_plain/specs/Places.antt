@@ -2,7 +2,7 @@
 use Rattle.std.specs.Prelude.{ℕ, Bool, false, ◌==◌, ◌||◌, ◌-◌, length, take, slice_get, option_map, Option, Some, None, if◌then◌else◌}
 use Rattle.dc_names.specs.declared.refusal.Refusal.{Refusal}
 use Rattle.dc_names.specs.declared.refusal.Refusal.TheVariants.{NotFound}
-use Rattle.dc_plain.specs.declared.TheConstants.{MOST_LINKS}
+use Rattle.dc_names.specs.declared.limits.TheConstants.{MOST_LINKS}
 use Rattle.dc_names.specs.Paths.{Part, Path}
 use Rattle.dc_names.specs.Lasts.{Last, last_part}
 use Rattle.dc_names.specs.Lasts.Last.{Root}

@@ -1,5 +1,5 @@
 -- What a call was found to answer, or to change.
-use Rattle.std.specs.Prelude.{◌≡◌, ℕ, List, false, Option, Some, None, MatchOption, Ok}
+use Rattle.std.specs.Prelude.{◌≡◌, ◌≢◌, ℕ, List, false, Option, Some, None, MatchOption, Ok}
 use Rattle.dc_plain.specs.declared.plan.New as rust_new
 use Rattle.dc_plain.specs.declared.plan.New.TheVariants as news
 use Rattle.dc_plain.specs.declared.plan.Change as rust_change
@@ -12,7 +12,7 @@ use Rattle.dc_plain.specs.Trees.{Tree, Spot, Inode, entry_number}
 use Rattle.dc_plain.specs.Trees.Inode.{Directory, Regular, Symbolic}
 use Rattle.dc_plain.specs.Requests.{Request, Answer, answer_of}
 use Rattle.dc_plain.specs.Requests.Answer.{Done, Nothing}
-use Rattle.dc_plain.specs.Effects.{with_new, with_entry_for, without_entry, without_entry_alone, without_there}
+use Rattle.dc_plain.specs.Effects.{with_new, with_entry_for, without_entry, without_entry_alone, without_there, tree_swapped}
 use Rattle.dc_plain.specs.Operations.{change_of, same_inode}
 
 abbrev pub new_shown : rust_new.New → Inode
@@ -34,6 +34,7 @@ changed t (changes.Make spot new) = (Done t.next, with_new t spot.dir spot.name.
 changed t (changes.Link spot number) = (Done number, with_entry_for t spot.dir spot.name.bytes.now number)
 changed t (changes.Drop spot number) = (Nothing, without_entry t spot.dir spot.name.bytes.now number)
 changed t (changes.Move moved from to there) = (Nothing, with_moved t moved (spot_shown from) (spot_shown to) there)
+changed t (changes.Swap moved from to there) = (Nothing, tree_swapped t (spot_shown from) moved.0 (spot_shown to) there.0)
 
 abbrev pub planned : Tree → rust_plan.Plan → Answer × Tree
 planned t (plans.Answer reply) = (answer_of reply, t)
@@ -51,6 +52,8 @@ HasSpots t (changes.Make spot new) = entry_number t (spot_shown spot) ≡ None
 HasSpots t (changes.Link spot number) = entry_number t (spot_shown spot) ≡ None
 HasSpots t (changes.Drop spot number) = entry_number t (spot_shown spot) ≡ Some number
 HasSpots t (changes.Move moved from to there) = LeadsTo t to.dir to.name.bytes.now there × (same_inode moved there ≡ false)
+HasSpots t (changes.Swap moved from to there) =
+    (entry_number t (spot_shown from) ≡ Some moved.0) × (entry_number t (spot_shown to) ≡ Some there.0) × (moved.0 ≢ there.0)
 
 abbrev pub HasSpotsIfChange : Tree → rust_plan.Plan → Type 0
 HasSpotsIfChange t (plans.Answer reply) = Unit {0}

@@ -2,7 +2,7 @@
 use Rattle.std.specs.Prelude.{ℕ, List, Bool, true, false, ◌==◌, ◌||◌, nat_le, length, Option, Some, None, Result, Ok, Err}
 use Rattle.dc_names.specs.declared.refusal.Refusal.{Refusal}
 use Rattle.dc_names.specs.declared.refusal.Refusal.TheVariants.{NotFound}
-use Rattle.dc_plain.specs.declared.TheConstants.{NUMBER_LIMIT}
+use Rattle.dc_names.specs.declared.limits.TheConstants.{NUMBER_LIMIT}
 use Rattle.dc_names.specs.Paths.{Path, path_of}
 use Rattle.dc_names.specs.Refusals.{refusal_of}
 use Rattle.dc_plain.specs.declared.call.Follow.{Follow}

@@ -1,6 +1,7 @@
 -- The keys whose facts a change alters: those of the names, and those of inodes that come, go or move.
 use Rattle.std.specs.Prelude.{ℕ, List, [], ◌∷◌, ◌++◌, Bool, false, not, ◌==◌, ◌&&◌, Option, Some, None, Result, Ok, Err, if◌then◌else◌}
 use Rattle.dc_names.specs.declared.refusal.Refusal.{Refusal}
+use Rattle.dc_plain.specs.declared.call.Flags.{Flags}
 use Rattle.dc_plain.specs.Facts.{Key}
 use Rattle.dc_plain.specs.Facts.Label.{Entry, Parent, Text}
 use Rattle.dc_names.specs.Lasts.{Last}
@@ -63,6 +64,18 @@ keys_renamed t from old to new =
     else entry_key from old ∷ entry_key to new
     ∷ with_number (entry_number t (record { dir = from; name = old })) (keys_moved t from to) ++ keys_taken t to new
 
+-- both names, and the dot-dot of each directory that gets another parent
+abbrev pub keys_swapped : Tree → ℕ → List ℕ → ℕ → List ℕ → List Key
+keys_swapped t from old to new =
+    if lead_to_one (entry_number t (record { dir = from; name = old })) (entry_number t (record { dir = to; name = new })) then []
+    else entry_key from old ∷ entry_key to new
+    ∷ with_number (entry_number t (record { dir = from; name = old })) (keys_moved t from to)
+    ++ with_number (entry_number t (record { dir = to; name = new })) (keys_moved t to from)
+
+-- by the flags of a rename
+abbrev pub keys_by : Flags → Tree → ℕ → List ℕ → ℕ → List ℕ → List Key
+keys_by flags t from old to new = if flags.exchange then keys_swapped t from old to new else keys_renamed t from old to new
+
 -- by the directory and the name in which a path ends
 abbrev pub by_last : Last → (List ℕ → List Key) → List Key
 by_last (Name name) keys = keys name
@@ -89,7 +102,7 @@ listed t (Hard_link base old new) = at_name t base new (λ d name. entry_key d n
 listed t (Symlink base text path) = at_name t base path (λ d name. entry_key d name ∷ own_keys t.next Link)
 listed t (Unlink base path) = at_name t base path (λ d name. entry_key d name ∷ keys_taken t d name)
 listed t (Rmdir base path) = at_name t base path (λ d name. entry_key d name ∷ keys_taken t d name)
-listed t (Rename base old new) = at_name t base old (λ from a. at_name t base new (λ to b. keys_renamed t from a to b))
+listed t (Rename base old new flags) = at_name t base old (λ from a. at_name t base new (λ to b. keys_by flags t from a to b))
 
 abbrev pub unless_refused : Change → List Key → List Key
 unless_refused (Ok done) keys = keys

@@ -16,6 +16,15 @@ pub enum Follow {
     Dir,
 }
 
+/// What a rename may do with what stands at the new name. The two together are refused.
+#[derive(Clone, Copy, Debug, Default, PartialEq, Eq)]
+pub struct Flags {
+    /// The new name has to be free.
+    pub no_replace: bool,
+    /// The two names swap what they lead to.
+    pub exchange: bool,
+}
+
 /// A call on a tree. `base` is the number of the directory that a relative path starts from, and
 /// paths come as the bytes that the caller gave.
 #[derive(Clone, Copy, Debug, PartialEq, Eq)]
@@ -73,11 +82,12 @@ pub enum Call<'a> {
         base: u64,
         path: &'a [u8],
     },
-    /// What `old` names gets the name `new` in its place.
+    /// What `old` names gets the name `new` in its place, or as the flags say.
     Rename {
         base: u64,
         old: &'a [u8],
         new: &'a [u8],
+        flags: Flags,
     },
 }
 

@@ -9,7 +9,9 @@ ghost use Rattle.dc_plain.specs.Requests.{answer_of};
 
 use crate::counts::leading_to;
 use crate::plan::{Change, New};
-use crate::rows::{Entry, Inode, Node, insert_entry, insert_inode, remove_entry, remove_inode};
+use crate::rows::{
+    Entry, Inode, Node, insert_entry, insert_inode, redirect, remove_entry, remove_inode,
+};
 use crate::{PlainTree, Reply, Spot, Target};
 use dc_names::{NoMemory, parts_are_names_or_dots};
 use std::alloc::Global;
@@ -54,6 +56,15 @@ impl PlainTree {
                 there,
             } => {
                 self.relocate(alloc, moved, from, to, there)?;
+                Ok(Reply::Unit)
+            }
+            Change::Swap {
+                moved,
+                from,
+                to,
+                there,
+            } => {
+                self.swap(moved, from, to, there);
                 Ok(Reply::Unit)
             }
         }
@@ -135,6 +146,20 @@ impl PlainTree {
         make_way(&mut self.entries, &mut self.inodes, from, to, there);
         insert_entry(&mut self.entries, to.dir, name, moved.0).unwrap();
         Ok(())
+    }
+
+    /// Lets two names lead to each other's inodes.
+    fn swap(&mut self, moved: Target, from: Spot, to: Spot, there: Target)
+        requires made { IsMade self.old.limit self.old.tree
+            (changed self.old.tree (Change.Swap moved from to there)) }
+        requires leads { HasSpots self.old.tree (Change.Swap moved from to there) }
+        ensures tree { self.new.tree
+            ≡ (changed self.old.tree (Change.Swap moved from.entry to.entry there)).1 }
+        ensures limit { self.new.limit ≡ self.old.limit }
+    {
+        parts_are_names_or_dots();
+        redirect(&mut self.entries, from.dir, from.name.bytes(), there.0);
+        redirect(&mut self.entries, to.dir, to.name.bytes(), moved.0);
     }
 }
 

@@ -2,7 +2,7 @@
 
 ghost use Rattle.std.specs.Cmp.{IsTotalOrder};
 ghost use Rattle.dc_plain.specs.Trees.{empty_tree, spot_cmp};
-ghost use Rattle.dc_plain.specs.EffectLaws.{NewKeepsWellFormed, FurtherNameKeepsWellFormed, LostNameKeepsWellFormed, MoveKeepsWellFormed, NewChanges, FurtherNameChanges, LostNameChanges, MoveChanges};
+ghost use Rattle.dc_plain.specs.EffectLaws.{NewKeepsWellFormed, FurtherNameKeepsWellFormed, LostNameKeepsWellFormed, MoveKeepsWellFormed, SwapKeepsWellFormed, NewChanges, FurtherNameChanges, LostNameChanges, MoveChanges, SwapChanges};
 ghost use Rattle.dc_plain.specs.LivingLaws.{WalksLeadToTheLiving, PlacesAreInLiveDirectories, TextsAreInLiveDirectories, NamesLeadToTheLiving, NamesLeadSomewhere, HoldersAreLiveDirectories, DirectoriesHaveOneName, NextNumberIsUnused, ClimbsEndUnheld, ClimbsGoByHolders, SpotsTie, AltersDecides, SameTreeDecides};
 ghost use Rattle.dc_plain.specs.IsWellFormed.{IsWellFormed};
 ghost use Rattle.dc_plain.specs.FactLaws.{RepliesByFacts, UntouchedStay};
@@ -73,6 +73,7 @@ pub fn effects_keep_trees_well_formed()
     ensures further { FurtherNameKeepsWellFormed }
     ensures lost { LostNameKeepsWellFormed }
     ensures moved { MoveKeepsWellFormed }
+    ensures swapped { SwapKeepsWellFormed }
 {}
 
 /// What the effects of changes make of entries, inodes, holders and counts of names.
@@ -81,6 +82,7 @@ pub fn effects_change_what_they_name()
     ensures further { FurtherNameChanges }
     ensures lost { LostNameChanges }
     ensures moved { MoveChanges }
+    ensures swapped { SwapChanges }
 {}
 
 /// What a path leads to lives, of the kind that is told, and its last part is to be looked up in a

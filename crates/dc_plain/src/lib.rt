@@ -28,7 +28,8 @@ mod target;
 mod tests;
 mod told;
 
-pub use call::{Call, Follow, Reply, Sort, Stamped};
+pub use call::{Call, Flags, Follow, Reply, Sort, Stamped};
+pub use dc_names::{MOST_COUNT, MOST_INODES, MOST_LINKS, MOST_NAMES, NUMBER_LIMIT};
 pub use fact::{Fact, answer};
 pub use key::{Key, Label};
 pub use laws::{
@@ -45,20 +46,5 @@ pub use refusals::{present, refuse};
 pub use spot::{Spot, Where};
 pub use target::{ROOT, Target, is_directory};
 
-/// The most links that one resolution follows: at least _POSIX_SYMLOOP_MAX.
-pub const MOST_LINKS: u64 = 8;
-
-/// The most names that a file or a link has.
-pub const MOST_NAMES: u64 = 65_000;
-
-/// The most inodes that a tree may be allowed.
-pub const MOST_INODES: u64 = 1_048_576;
-
-/// Every inode has a number below this one.
-pub const NUMBER_LIMIT: u64 = 1 << 63;
-
 /// The most keys that one call touches.
 pub const MOST_TOUCHED: usize = 4;
-
-/// The most that a clock, a pin's count or a sequence count comes to.
-pub const MOST_COUNT: u64 = 1 << 62;

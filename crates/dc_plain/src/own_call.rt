@@ -5,7 +5,7 @@ ghost use Rattle.dc_plain.specs.OwnCalls.{own_request};
 ghost use Rattle.dc_plain.specs.RequestBytes.{bytes_of};
 ghost use Rattle.dc_plain.specs.Requests.{request_of};
 
-use crate::{Call, Follow};
+use crate::{Call, Flags, Follow};
 use dc_names::NoMemory;
 use std::alloc::Global;
 
@@ -65,11 +65,12 @@ pub enum OwnCall {
         base: u64,
         path: Vec<u8>,
     },
-    /// What `old` names gets the name `new` in its place.
+    /// What `old` names gets the name `new` in its place, or as the flags say.
     Rename {
         base: u64,
         old: Vec<u8>,
         new: Vec<u8>,
+        flags: Flags,
     },
 }
 
@@ -126,10 +127,11 @@ impl OwnCall {
             },
             Call::Unlink { base, .. } => OwnCall::Unlink { base, path },
             Call::Rmdir { base, .. } => OwnCall::Rmdir { base, path },
-            Call::Rename { base, .. } => OwnCall::Rename {
+            Call::Rename { base, flags, .. } => OwnCall::Rename {
                 base,
                 old: path,
                 new: second,
+                flags,
             },
         }
     }
@@ -161,10 +163,16 @@ impl OwnCall {
             },
             OwnCall::Unlink { base, path } => Call::Unlink { base: *base, path },
             OwnCall::Rmdir { base, path } => Call::Rmdir { base: *base, path },
-            OwnCall::Rename { base, old, new } => Call::Rename {
+            OwnCall::Rename {
+                base,
+                old,
+                new,
+                flags,
+            } => Call::Rename {
                 base: *base,
                 old,
                 new,
+                flags: *flags,
             },
         }
     }

@@ -35,6 +35,13 @@ pub(crate) enum Change<'a> {
         to: Spot<'a>,
         there: Option<Target>,
     },
+    /// Two inodes get each other's names.
+    Swap {
+        moved: Target,
+        from: Spot<'a>,
+        to: Spot<'a>,
+        there: Target,
+    },
 }
 
 /// What a call that isn't refused answers, or changes.
@@ -72,7 +79,12 @@ impl PlainTree {
             }
             Call::Unlink { base, path } => Ok(Plan::Change(self.unlink(alloc, base, path)?)),
             Call::Rmdir { base, path } => Ok(Plan::Change(self.rmdir(alloc, base, path)?)),
-            Call::Rename { base, old, new } => self.rename(alloc, base, old, new),
+            Call::Rename {
+                base,
+                old,
+                new,
+                flags,
+            } => self.rename(alloc, base, old, new, flags),
         }
     }
 }

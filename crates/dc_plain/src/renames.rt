@@ -1,30 +1,35 @@
 //! The change of two names.
 
-ghost use Rattle.std.specs.Prelude.{◌≡◌, length, true, IfOk};
-ghost use Rattle.dc_plain.specs.Operations.{is_beneath, rename, replaceable, same_inode};
+ghost use Rattle.std.specs.Prelude.{◌≡◌, length, true, Some, IfOk};
+ghost use Rattle.dc_plain.specs.Operations.{is_beneath, move_name, rename, rename_at, replaceable, same_inode, swap_names};
+ghost use Rattle.dc_plain.specs.Spots.{spot_at, where_shown};
+ghost use Rattle.dc_plain.specs.Trees.{entry_number};
 ghost use Rattle.dc_plain.specs.Plans.{planned, HasSpotsIfChange};
 ghost use Rattle.dc_plain.specs.Failures.{Finds};
 
 use crate::failure::Failure;
 use crate::place::path_of;
 use crate::plan::{Change, Plan};
-use crate::{PlainTree, Reply, Target, is_directory, present, refuse};
-use dc_names::Refusal;
+use crate::{Flags, PlainTree, Reply, Target, Where, is_directory, present, refuse};
+use dc_names::{Name, Refusal};
 use std::alloc::Global;
 
 impl PlainTree {
-    /// An inode gets another name in place of one of its names.
+    /// An inode gets another name in place of one of its names, or swaps names with another.
     pub(crate) fn rename<'c>(
         &self,
         alloc: Global,
         base: u64,
         old: &'c [u8],
         new: &'c [u8],
+        flags: Flags,
     ) -> Result<Plan<'c>, Failure>
         ensures found { Finds result (planned self.now.tree)
-            (rename self.now.tree base old.now new.now) }
+            (rename self.now.tree base old.now new.now flags) }
         ensures spots { IfOk result (HasSpotsIfChange self.now.tree) }
     {
+        let both = flags.no_replace && flags.exchange;
+        refuse(both, Refusal::Invalid)?;
         let old = path_of(old)?;
         let new = path_of(new)?;
         let from = self.place_on(alloc, base, old)?;
@@ -35,12 +40,52 @@ impl PlainTree {
         let new = to
             .last
             .name_or_each(Refusal::Busy, Refusal::Invalid, Refusal::Invalid)?;
+        self.rename_at(from, old, to, new, flags)
+    }
+
+    /// The rename once both names are known.
+    fn rename_at<'c>(
+        &self,
+        from: Where<'c>,
+        old: Name<'c>,
+        to: Where<'c>,
+        new: Name<'c>,
+        flags: Flags,
+    ) -> Result<Plan<'c>, Failure>
+        ensures found { Finds result (planned self.now.tree) (rename_at self.now.tree
+            (where_shown from.entry) old.entry.bytes.now
+            (where_shown to.entry) new.entry.bytes.now flags) }
+        ensures spots { IfOk result (HasSpotsIfChange self.now.tree) }
+    {
         let moved = present(self.entry(from.dir, old.bytes()), Refusal::NotFound)?;
+        if flags.exchange {
+            self.swap_names(from, old, to, new, moved)
+        } else {
+            self.move_name(from, old, to, new, moved, flags.no_replace)
+        }
+    }
+
+    /// What stands at the old name gets the new one, in place of what stands there.
+    fn move_name<'c>(
+        &self,
+        from: Where<'c>,
+        old: Name<'c>,
+        to: Where<'c>,
+        new: Name<'c>,
+        moved: Target,
+        no_replace: bool,
+    ) -> Result<Plan<'c>, Failure>
+        ensures found { Finds result (planned self.now.tree) (move_name self.now.tree
+            (where_shown from.entry) old.entry.bytes.now
+            (where_shown to.entry) new.entry.bytes.now moved no_replace) }
+        ensures spots { IfOk result (HasSpotsIfChange self.now.tree) }
+    {
         refuse(
             !is_directory(moved) && (from.slash || to.slash),
             Refusal::NotDirectory,
         )?;
         let there = self.entry(to.dir, new.bytes());
+        refuse(no_replace && there.is_some(), Refusal::Exists)?;
         if same_inode(moved, there) {
             return Ok(Plan::Answer(Reply::Unit));
         }
@@ -48,6 +93,39 @@ impl PlainTree {
         refuse(moves_beneath, Refusal::Invalid)?;
         self.replaceable(moved, there)?;
         Ok(Plan::Change(Change::Move {
+            moved,
+            from: from.spot(old),
+            to: to.spot(new),
+            there,
+        }))
+    }
+
+    /// What stands at the two names swaps them.
+    fn swap_names<'c>(
+        &self,
+        from: Where<'c>,
+        old: Name<'c>,
+        to: Where<'c>,
+        new: Name<'c>,
+        moved: Target,
+    ) -> Result<Plan<'c>, Failure>
+        requires { entry_number self.now.tree (spot_at from.dir old.bytes.now) ≡ Some moved.0 }
+        ensures found { Finds result (planned self.now.tree) (swap_names self.now.tree
+            (where_shown from.entry) old.entry.bytes.now
+            (where_shown to.entry) new.entry.bytes.now moved) }
+        ensures spots { IfOk result (HasSpotsIfChange self.now.tree) }
+    {
+        let there = present(self.entry(to.dir, new.bytes()), Refusal::NotFound)?;
+        refuse(!is_directory(moved) && from.slash, Refusal::NotDirectory)?;
+        refuse(!is_directory(there) && to.slash, Refusal::NotDirectory)?;
+        if moved.0 == there.0 {
+            return Ok(Plan::Answer(Reply::Unit));
+        }
+        let moves_beneath = is_directory(moved) && self.is_beneath(to.dir, moved.0);
+        refuse(moves_beneath, Refusal::Invalid)?;
+        let comes_beneath = is_directory(there) && self.is_beneath(from.dir, there.0);
+        refuse(comes_beneath, Refusal::Invalid)?;
+        Ok(Plan::Change(Change::Swap {
             moved,
             from: from.spot(old),
             to: to.spot(new),

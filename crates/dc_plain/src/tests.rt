@@ -1,14 +1,10 @@
+//! Tests of the slow machine, by replies and effects that come from outside.
+
 ghost use Rattle.std.specs.Prelude.{◌≤◌};
 
 use crate::{
-    Call, Follow, Key, Label, PlainTree, ROOT, Reply, Sort, Spot, Where,
-    alters_tells_whether_trees_differ, answers_from_true_facts_are_replies,
-    calls_touch_the_listed_keys, directories_have_one_holder, effects_change_what_they_name,
-    effects_keep_trees_well_formed, is_directory, names_in_directories_are_in_order,
-    names_lead_to_the_living, opening_tree_is_well_formed, operations_keep_trees_well_formed,
-    paths_lead_to_the_living, present, refusals_alter_nothing, refuse,
-    resolution_refuses_by_a_list, resolution_stays_as_more_is_told,
-    same_tree_tells_whether_trees_are_one, untouched_facts_stay,
+    Call, Flags, Follow, Key, Label, PlainTree, ROOT, Reply, Sort, Spot, Where, is_directory,
+    present, refuse,
 };
 use dc_names::{Kind, Last, Name, NoMemory, Refusal};
 use std::alloc::Global;
@@ -108,6 +104,7 @@ fn answers_each_call(rt: HostRuntime) -> Result<(), Fail> {
                 base,
                 old: file.1,
                 new: file.0,
+                flags: Flags::default(),
             },
             Reply::Unit,
             true,
@@ -117,11 +114,52 @@ fn answers_each_call(rt: HostRuntime) -> Result<(), Fail> {
                 base,
                 old: file.0,
                 new: file.0,
+                flags: Flags::default(),
             },
             Reply::Unit,
             false,
         ),
         (made(file.0), Reply::Refused(17), false),
+        (
+            Call::Rename {
+                base,
+                old: file.0,
+                new: b"/d",
+                flags: Flags {
+                    no_replace: true,
+                    exchange: false,
+                },
+            },
+            Reply::Refused(17),
+            false,
+        ),
+        (
+            Call::Rename {
+                base,
+                old: file.0,
+                new: b"/d",
+                flags: Flags {
+                    no_replace: false,
+                    exchange: true,
+                },
+            },
+            Reply::Unit,
+            true,
+        ),
+        (look(b"/d", Follow::Yes), Reply::Found(3, Kind::File), false),
+        (
+            Call::Rename {
+                base,
+                old: b"/d",
+                new: file.0,
+                flags: Flags {
+                    no_replace: false,
+                    exchange: true,
+                },
+            },
+            Reply::Unit,
+            true,
+        ),
         (Call::Rmdir { base, path: b"/d" }, Reply::Unit, true),
         (
             Call::Mkdir {
@@ -194,25 +232,4 @@ fn tells_keys_and_sorts(rt: HostRuntime) -> Result<(), Fail> {
     assert_eq!(rt; refuse(true, Refusal::Busy), Err(Refusal::Busy));
     assert_eq!(rt; present(None, Refusal::NotFound), Err(Refusal::NotFound));
     Ok(())
-}
-
-/// The laws hold by their proofs; here each is called.
-#[test]
-fn laws_are_called() {
-    opening_tree_is_well_formed();
-    operations_keep_trees_well_formed();
-    refusals_alter_nothing();
-    resolution_refuses_by_a_list();
-    resolution_stays_as_more_is_told();
-    calls_touch_the_listed_keys();
-    answers_from_true_facts_are_replies();
-    untouched_facts_stay();
-    effects_keep_trees_well_formed();
-    effects_change_what_they_name();
-    paths_lead_to_the_living();
-    names_lead_to_the_living();
-    directories_have_one_holder();
-    names_in_directories_are_in_order();
-    alters_tells_whether_trees_differ();
-    same_tree_tells_whether_trees_are_one();
 }

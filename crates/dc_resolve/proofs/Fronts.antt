@@ -1,5 +1,5 @@
 -- Texts that are cut behind a slash.
-use Rattle.std.proofs.Common.{◌≡◌, ℕ, suc, ◌-◌, ◌<◌, ◌≤◌, ◌==◌, ◌&&◌, ◌||◌, inl, inr, ◌∷◌, [], ◌++◌, List, drop, get_or, map, length, slice_get, take, Bool, true, false, cond, not, Option, Some, None, refl, ap, sym, ◌∙◌, arith, rules, append_assoc, length-append}
+use Rattle.std.proofs.Common.{◌≡◌, ℕ, suc, ◌-◌, ◌<◌, ◌≤◌, ◌==◌, ◌&&◌, ◌||◌, inl, inr, ◌∷◌, [], ◌++◌, List, drop, get_or, map, length, slice_get, take, Bool, true, false, cond, not, Option, Some, None, IfNone, refl, ap, sym, ◌∙◌, arith, rules, append_assoc, length-append}
 use Rattle.std.proofs.Math.Seq.{drop-append_seam, take-length}
 use Rattle.std.specs.List.{onto_first, list_any, list_all, filter}
 use Rattle.std.proofs.lemmas.List.{append-nil, map-append}
@@ -135,6 +135,6 @@ no_word (b ∷ bs) e =
 pub empty_piece : (piece : List ℕ) → pieces piece ≡ piece ∷ [] → parts_of piece ≡ [] → piece ≡ []
 empty_piece piece whole is = no_word piece (sym (ap (λ ps. map part_of (filter (λ p. not (is_empty p)) ps)) whole) ∙ is)
 
-pub both : (a b : Bool) → (a && b) ≡ true → (a ≡ true) × (b ≡ true)
-both true b e = (refl, e)
-both false b e = absurd (cc)
+pub none_so : {A P : Type 0} (r : Option A) → P → IfNone r P
+none_so None p = p
+none_so (Some x) p = tt

@@ -1,5 +1,6 @@
 -- Questions that an outcome needs.
 use Rattle.std.proofs.Common.{◌≡◌, ℕ, ◌<◌, List, [], ◌∷◌, ◌++◌, ◌&&◌, ◌||◌, ◌-◌, ◌==◌, not, if◌then◌else◌, Bool, true, false, Option, Some, None, IsTrue, refl, ap, sym, ◌∙◌}
+use Rattle.std.proofs.lemmas.Bool.{and_parts}
 use Rattle.std.proofs.lemmas.List.{append-nil}
 use Rattle.dc_names.specs.Bytes.{is_empty}
 use Rattle.dc_names.specs.Paths.{Part, parts_of, begins_with_slash, has_end_slash}
@@ -17,20 +18,16 @@ use Rattle.dc_resolve.proofs.Following.{resolve_is, unfollowed, with_told}
 use Rattle.dc_resolve.proofs.Going.{told_still}
 use Rattle.dc_resolve.proofs.Passing.{last_of, not_kept, CameTo, CameToLink}
 
-both : (a b : Bool) → (a && b) ≡ true → (a ≡ true) × (b ≡ true)
-both true b e = (refl, e)
-both false b e = absurd cc
-
 flipped : (b : Bool) → not b ≡ true → b ≡ false
 flipped true e = absurd cc
 flipped false e = refl
 
 -- a part leads nowhere whose question isn't told of
 unmet : (teller : Teller) (at : Target) (part : Part) → IsTrue (asks at part) → IsUntold teller at.0 (label_of part) → at_part teller at part ≡ None
-unmet teller at (Name name) asked none = rw ((both (is_directory at) true asked).0) (ap met_by none)
-unmet teller at Dot asked none = let never = (both (is_directory at) false asked).1 in absurd cc
+unmet teller at (Name name) asked none = rw ((and_parts (is_directory at) true asked).0) (ap met_by none)
+unmet teller at Dot asked none = let never = (and_parts (is_directory at) false asked).1 in absurd cc
 unmet teller at DotDot asked none =
-    let is = both (is_directory at) (not (at.0 == 1)) asked in rw (is.0, flipped (at.0 == 1) is.1) (ap met_by none)
+    let is = and_parts (is_directory at) (not (at.0 == 1)) asked in rw (is.0, flipped (at.0 == 1) is.1) (ap met_by none)
 
 unmet_first : (teller : Teller) (how : Follow) (follow_link : Target → ℕ → List Part → Bool → Option Outcome) (at : Target) (part : Part) (rest : List Part) (slash : Bool) → at_part teller at part ≡ None → over_parts teller how follow_link at (part ∷ rest) slash ≡ None
 unmet_first teller how follow_link at part rest slash none = rw none refl

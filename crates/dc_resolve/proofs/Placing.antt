@@ -2,7 +2,7 @@
 use Rattle.std.proofs.Common.{◌≡◌, ℕ, ◌-◌, List, [], ◌∷◌, ◌++◌, false, Option, Some, length, slice_get, take, ap, ◌∙◌}
 use Rattle.dc_names.specs.Paths.{Part, has_end_slash, parts_of, path_in}
 use Rattle.dc_plain.specs.declared.call.Follow.TheVariants as follow
-use Rattle.dc_plain.specs.declared.TheConstants.{MOST_LINKS}
+use Rattle.dc_names.specs.declared.limits.TheConstants.{MOST_LINKS}
 use Rattle.dc_plain.specs.Facts.{Teller}
 use Rattle.dc_plain.specs.Places.{place, placed_by, start, with_start}
 use Rattle.dc_plain.specs.Resolution.{Outcome, resolve}

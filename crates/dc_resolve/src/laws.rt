@@ -46,6 +46,7 @@ impl Finder for Unasked {
 
 /// Where a path leads that needs no fact, as `/..`. A walk asks only for what it needs, so nobody is
 /// asked, and the walk never stops.
+#[must_use]
 pub fn walk_alone(base: u64, path: PathText<'_>, follow: Follow) -> Walked
     requires { IsSome (walk (told_by []) base (path_in path.bytes.now) follow) }
     ensures { outcome_shown result ≡ walk (told_by []) base (path_in path.entry.bytes.now) follow }

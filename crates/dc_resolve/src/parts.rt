@@ -30,6 +30,7 @@ fn is_beyond_slashes(bytes: &[u8]) -> bool
 }
 
 /// Whether a resolution has no part left after what it came to: none in the bytes, and none below them.
+// Inlined, as is all that a walk does for each part.
 #[inline(always)]
 pub(crate) fn is_end(rest: &[u8], is_last: bool) -> bool
     ensures { result ≡ (is_last && is_empty (parts_of rest.now)) }
@@ -38,6 +39,7 @@ pub(crate) fn is_end(rest: &[u8], is_last: bool) -> bool
 }
 
 /// Asks at the first part of some bytes, if there is one, and answers the bytes after it too.
+// Inlined, so that the hash is taken while the end of the part is sought, or left out.
 #[inline(always)]
 pub(crate) fn ask_first<'b, F: Finder>(
     finder: &mut F,

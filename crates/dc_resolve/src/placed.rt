@@ -1,11 +1,7 @@
 //! Where the last part of a path is to be looked up.
 
-ghost use Rattle.std.specs.Prelude.{◌≡◌, Some, IfSome};
-ghost use Rattle.dc_names.specs.Paths.{path_in};
-ghost use Rattle.dc_plain.specs.Facts.{Teller};
-ghost use Rattle.dc_plain.specs.Places.{place};
-ghost use Rattle.dc_plain.specs.Tellers.{Extends};
-ghost use Rattle.dc_resolve.specs.Ends.{placed_shown, stopped_after};
+ghost use Rattle.std.specs.Prelude.{◌≡◌};
+ghost use Rattle.dc_resolve.specs.Ends.{Answers, place_by, placed_shown, stopped_after};
 ghost use Rattle.dc_resolve.specs.Needs.{MayAsk};
 
 use crate::front::split_last;
@@ -29,13 +25,12 @@ pub enum Placed<'p> {
 /// The directory to which all components of a path but the last lead, and the last, which is neither
 /// asked for nor followed. It is refused as by `walk`, and asks only for what its answer can't be told
 /// without.
+#[must_use]
 pub fn place<'p, F: Finder>(finder: &mut F, base: u64, path: PathText<'p>) -> Placed<'p>
-    requires may { MayAsk F.Finder finder.old (λ teller.
-        place teller base (path_in path.bytes.now)) }
+    requires may { MayAsk F.Finder finder.old (place_by base path.bytes.now) }
     // Whatever else may be learnt later, the answer stays.
-    ensures answer { IfSome (placed_shown result) (λ placed.
-        (teller : Teller) → Extends (F.said finder.new) teller →
-        place teller base (path_in path.entry.bytes.now) ≡ Some placed) }
+    ensures answer { Answers (F.said finder.new) (place_by base path.entry.bytes.now)
+        (placed_shown result) }
     ensures stopped { F.has_stopped finder.new
         ≡ stopped_after (placed_shown result) (F.has_stopped finder.old) }
     ensures becomes { F.becomes finder.old finder.new }

@@ -5,10 +5,10 @@ ghost use Rattle.dc_names.specs.Bytes.{has_parts};
 ghost use Rattle.dc_names.specs.Paths.{begins_with_slash, has_end_slash, parts_of, path_in};
 ghost use Rattle.dc_plain.specs.Facts.{Teller};
 ghost use Rattle.dc_plain.specs.Facts.Label.{Parent};
-ghost use Rattle.dc_plain.specs.Places.{start, with_start};
+ghost use Rattle.dc_plain.specs.Places.{start};
 ghost use Rattle.dc_plain.specs.Resolution.{resolve, root};
-ghost use Rattle.dc_plain.specs.Tellers.{Extends};
 ghost use Rattle.dc_resolve.specs.Asked.{IsSaidLink};
+ghost use Rattle.dc_resolve.specs.Ends.{Stands, resolve_by};
 ghost use Rattle.dc_resolve.specs.Finders.{KeepsAnswering};
 ghost use Rattle.dc_resolve.specs.Needs.{MayAsk, MayAskOver, MayAskThrough};
 ghost use Rattle.dc_resolve.specs.Steps.{end_shown};
@@ -18,8 +18,11 @@ use crate::outcome::{End, Reached, Way};
 use crate::parts::{ask_first, is_end};
 use crate::step::{ending, is_kept};
 use crate::{Bytes, Finder, Stop};
-use dc_names::{Kind, Part, PathText, Refusal};
-use dc_plain::{Follow, MOST_LINKS, ROOT, Target};
+use dc_names::{Kind, MOST_LINKS, Part, PathText, Refusal};
+use dc_plain::{Follow, ROOT, Target};
+
+// `slash_after`, `base_of`, and in `step` `on_to`, `ending`, `is_kept` stand in `dc_plain` once more: its slow
+// machine answers by code of its own, so that a mistake in one of the two is no mistake of both.
 
 /// Whether a slash ends a path whose link was replaced by a text.
 fn slash_after(slash: bool, is_last: bool, text: PathText<'_>) -> bool
@@ -101,6 +104,7 @@ fn walk_bytes<F: Finder>(
 ///
 /// A text may have links too, or the link itself: with each that is followed one less may be, so no more
 /// than `MOST_LINKS` texts are gone over one within another.
+// Inlined into the loop over the parts (measured): what a call answers would be copied once more.
 #[inline(always)]
 #[cycle(over_links)]
 fn walk_link<F: Finder>(
@@ -127,13 +131,14 @@ fn walk_link<F: Finder>(
         return Ok(Way::Ended(End::Refused(Refusal::TooManyLinks)));
     }
     let text = finder.link_text(link)?;
-    let path = PathText::new(text.bytes());
+    let path = PathText::known(text.bytes());
     let base = base_of(path, at);
     let ends = slash_after(slash, is_last, path);
     walk_bytes(finder, base, path.bytes(), is_last, ends, follow, links - 1)
 }
 
 /// Where the parts of some bytes lead from a place.
+// Inlined, as the other steps of a walk: it has one caller.
 #[inline(always)]
 fn resolve<F: Finder>(
     finder: &mut F,
@@ -157,6 +162,7 @@ fn resolve<F: Finder>(
 }
 
 /// Where a path begins, if its starting directory is live.
+// Inlined: it has one caller, and mostly tests one byte.
 #[inline(always)]
 fn start<F: Finder>(finder: &mut F, base: u64, path: PathText<'_>) -> Result<Option<Target>, Stop>
     requires { (begins_with_slash path.bytes.now || base == 1) ≡ false →
@@ -165,7 +171,7 @@ fn start<F: Finder>(finder: &mut F, base: u64, path: PathText<'_>) -> Result<Opt
         start (F.said finder.new) base (path_in path.entry.bytes.now) ≡ Some found) }
     ensures kept { KeepsAnswering F.Finder finder.old finder.new result }
 {
-    if path.is_absolute() || base == 1 {
+    if path.is_absolute() || base == ROOT.0 {
         return Ok(Some(ROOT));
     }
     match finder.find(base, Part::DotDot)? {
@@ -175,6 +181,7 @@ fn start<F: Finder>(finder: &mut F, base: u64, path: PathText<'_>) -> Result<Opt
 }
 
 /// Where the parts of some bytes lead from where a path begins.
+// Inlined into `walk` and `place`, so that each finder has one loop of its own.
 #[inline(always)]
 pub(crate) fn resolve_from<F: Finder>(
     finder: &mut F,
@@ -185,13 +192,10 @@ pub(crate) fn resolve_from<F: Finder>(
     follow: Follow,
 ) -> Result<End, Stop>
     requires valid { IsTrue (has_parts parts.now) }
-    requires may { MayAsk F.Finder finder.old (λ teller.
-        with_start (start teller base (path_in path.bytes.now)) (λ place.
-        resolve teller follow MOST_LINKS place (parts_of parts.now) slash)) }
-    ensures ends { IfOk result (λ end. (teller : Teller) → Extends (F.said finder.new) teller →
-        with_start (start teller base (path_in path.entry.bytes.now)) (λ place.
-        resolve teller follow MOST_LINKS place (parts_of parts.entry.now) slash)
-        ≡ Some (end_shown end)) }
+    requires may { MayAsk F.Finder finder.old
+        (resolve_by base path.bytes.now parts.now slash follow) }
+    ensures ends { IfOk result (λ end. Stands (F.said finder.new)
+        (resolve_by base path.entry.bytes.now parts.entry.now slash follow) (end_shown end)) }
     ensures kept { KeepsAnswering F.Finder finder.old finder.new result }
 {
     match start(finder, base, path)? {

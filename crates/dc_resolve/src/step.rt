@@ -14,8 +14,10 @@ ghost use Rattle.dc_resolve.specs.Steps.{met_shown, end_shown, Leads, IfMeets, I
 use crate::outcome::{End, Reached};
 use crate::{Finder, Stop};
 use dc_names::{Kind, Part, Refusal};
-use dc_plain::{Follow, Target, is_directory};
+use dc_plain::{Follow, ROOT, Target, is_directory};
 
+/// What an entry leads to, by what a finder found there. The slow machine of `dc_plain` has its own.
+// Inlined, as is all that a walk does for each part.
 #[inline(always)]
 fn on_to(there: Option<Target>) -> Reached
     ensures met { Some (met_shown result) ≡ met_by (Some there) }
@@ -30,6 +32,7 @@ fn on_to(there: Option<Target>) -> Reached
 }
 
 /// From a place, one part on. The hash is of the question that it asks there, if it asks one.
+// Inlined, as is all that a walk does for each part.
 #[inline(always)]
 pub(crate) fn step_on<F: Finder>(
     finder: &mut F,
@@ -49,12 +52,12 @@ pub(crate) fn step_on<F: Finder>(
     }
     match part {
         Part::Dot => Ok(Reached::Dir(place.0)),
-        Part::DotDot if place.0 == 1 => Ok(Reached::Dir(place.0)),
+        Part::DotDot if place.0 == ROOT.0 => Ok(Reached::Dir(place.0)),
         Part::DotDot | Part::Normal(_) => Ok(on_to(finder.find_hashed(place.0, part, hash)?)),
     }
 }
 
-/// Where a resolution ends that has no part left.
+/// Where a resolution ends that has no part left. The slow machine of `dc_plain` has its own.
 pub(crate) fn ending(follow: Follow, place: Target, slash: bool) -> End
     ensures { end_shown result ≡ ending follow place slash }
 {
@@ -65,7 +68,9 @@ pub(crate) fn ending(follow: Follow, place: Target, slash: bool) -> End
     }
 }
 
-/// Whether a resolution ends at a link. `is_last` says that nothing is left after it.
+/// Whether a resolution ends at a link. `is_last` says that nothing is left after it. The slow machine of
+/// `dc_plain` has its own.
+// Inlined, as is all that a walk does for each part.
 #[inline(always)]
 pub(crate) fn is_kept(follow: Follow, is_last: bool, slash: bool) -> bool
     ensures { result ≡ (is_last && not slash && keeps_link follow) }

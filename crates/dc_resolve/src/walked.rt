@@ -1,11 +1,7 @@
 //! Where a path leads.
 
-ghost use Rattle.std.specs.Prelude.{◌≡◌, Some, IfSome};
-ghost use Rattle.dc_names.specs.Paths.{path_in};
-ghost use Rattle.dc_plain.specs.Facts.{Teller};
-ghost use Rattle.dc_plain.specs.Places.{walk};
-ghost use Rattle.dc_plain.specs.Tellers.{Extends};
-ghost use Rattle.dc_resolve.specs.Ends.{outcome_shown, stopped_after};
+ghost use Rattle.std.specs.Prelude.{◌≡◌};
+ghost use Rattle.dc_resolve.specs.Ends.{Answers, outcome_shown, stopped_after, walk_by};
 ghost use Rattle.dc_resolve.specs.Needs.{MayAsk};
 
 use crate::outcome::End;
@@ -30,13 +26,12 @@ pub enum Walked {
 ///
 /// It is refused with `NotFound`, `NotDirectory` or `TooManyLinks`, the last where more than `MOST_LINKS`
 /// links would be followed, and with nothing else: see `dc_plain::resolution_refuses_by_a_list`.
+#[must_use]
 pub fn walk<F: Finder>(finder: &mut F, base: u64, path: PathText<'_>, follow: Follow) -> Walked
-    requires may { MayAsk F.Finder finder.old (λ teller.
-        walk teller base (path_in path.bytes.now) follow) }
+    requires may { MayAsk F.Finder finder.old (walk_by base path.bytes.now follow) }
     // Whatever else may be learnt later, the outcome stays.
-    ensures answer { IfSome (outcome_shown result) (λ outcome.
-        (teller : Teller) → Extends (F.said finder.new) teller →
-        walk teller base (path_in path.entry.bytes.now) follow ≡ Some outcome) }
+    ensures answer { Answers (F.said finder.new) (walk_by base path.entry.bytes.now follow)
+        (outcome_shown result) }
     ensures stopped { F.has_stopped finder.new
         ≡ stopped_after (outcome_shown result) (F.has_stopped finder.old) }
     ensures becomes { F.becomes finder.old finder.new }

@@ -8,3 +8,5 @@ pub mod Decoded
 pub mod Paths
 pub mod Texts
 pub mod Lanes
+pub mod Empty
+pub mod Lasts

@@ -7,7 +7,7 @@ use Rattle.std.proofs.lemmas.List.Folds.{list_any_at}
 use Rattle.dc_names.specs.Bytes.{is_empty}
 use Rattle.dc_names.specs.Laws.{NoPieceIsLonger}
 use Rattle.dc_names.specs.Paths.{is_long}
-use Rattle.dc_names.specs.declared.TheConstants.{NAME_MAX, PATH_MAX}
+use Rattle.dc_names.specs.declared.limits.TheConstants.{NAME_MAX, PATH_MAX}
 use Rattle.dc_names.specs.declared.fault.TextFault.TheVariants.{Empty, Long, Zero}
 use Rattle.dc_row.specs.Spelling.{is_path}
 

@@ -7,6 +7,7 @@ use Rattle.dc_plain.specs.Facts.Label.{Entry, Parent}
 use Rattle.dc_plain.specs.Facts.Fact.{Leads, Reads}
 use Rattle.dc_row.specs.Spelling.{Spells}
 use Rattle.dc_row.specs.declared.TheConstants.{ROW_TEXT}
+use Rattle.dc_row.specs.declared.layout.TheConstants.{KIND_UNIT, LENGTH_UNIT, LENGTHS, TAGS}
 
 -- where an entry leads, by the code of a kind and a number
 abbrev pub target_by : ℕ → ℕ → Option Target
@@ -46,8 +47,8 @@ bytes_from byte k (suc n) = byte k ∷ bytes_from byte (suc k) n
 abbrev pub fact_in : List ℕ → Option (Option Fact)
 fact_in words =
     let head = slice_index words 1 in
-    fact_by (head % 256) (head / 16777216 % 256) (slice_index words 2) (slice_index words 3)
-    (bytes_from (byte_in words) 0 (head / 256 % 65536))
+    fact_by (head % TAGS) (head / KIND_UNIT % TAGS) (slice_index words 2) (slice_index words 3)
+    (bytes_from (byte_in words) 0 (head / LENGTH_UNIT % LENGTHS))
 
 -- words that spell a fact, or none, have just that
 abbrev pub SpelledIsRead : Type 0

@@ -8,6 +8,7 @@ use Rattle.dc_plain.specs.Facts.{Target, Label, Key, Fact, key_of, label_bytes}
 use Rattle.dc_plain.specs.Facts.Label.{Entry, Parent, Text}
 use Rattle.dc_plain.specs.Facts.Fact.{Leads, Reads}
 use Rattle.dc_row.specs.declared.TheConstants.{ROW_WORDS, ROW_TEXT}
+use Rattle.dc_row.specs.declared.layout.TheConstants.{KIND_UNIT, LENGTH_UNIT}
 
 -- no place 0, a directory 1, a file 2, a link 3
 abbrev pub kind_code : Option Target → ℕ
@@ -37,7 +38,7 @@ fields_of (Some (Reads n text)) = fields 2 0 n 0 text
 
 -- the tag in the lowest byte, the length of the text in the next two, the kind in the next
 abbrev pub head_of : Fields → ℕ
-head_of f = f.tag + 256 * length f.text + 16777216 * f.kind
+head_of f = f.tag + LENGTH_UNIT * length f.text + KIND_UNIT * f.kind
 
 -- eight bytes of a text, the first lowest, zeros past its end
 abbrev pub text_word : List ℕ → ℕ → ℕ
@@ -74,6 +75,17 @@ pub record Spells (words : List ℕ) (fact : Option Fact) : Type 0 where
   pub allowed : IsTrue (has_spelling fact)
   pub bytes : AreBytes (fields_of fact).text
   pub spelled : IsSpelled words (fields_of fact)
+
+-- the entry of a key, by where it leads
+abbrev pub entry_of : Key → Option Target → Option Fact
+entry_of key target = Some (Leads key.number key.label target)
+
+-- the words spell an entry of a key, wherever it leads, or none
+abbrev pub SpellsEntry : List ℕ → Key → Type 0
+SpellsEntry words key = (target : Option Target) × Spells words (entry_of key target)
+
+abbrev pub SpellsNoEntry : List ℕ → Key → Type 0
+SpellsNoEntry words key = (target : Option Target) → Spells words (entry_of key target) → ⊥
 
 -- the words spell the text of a link
 abbrev pub SpellsText : List ℕ → Type 0

@@ -1,23 +1,24 @@
 //! A fact of a key that is sought in the words of rows, which are compared and not decoded.
 
-ghost use Rattle.std.specs.Prelude.{◌≡◌, ◌≤◌, ◌↔◌, length, slice_index, Option, Some, IfSome, IsTrue, true, false};
+ghost use Rattle.std.specs.Prelude.{◌≡◌, ◌≤◌, ◌↔◌, length, slice_index, Some, IfSome, IsTrue, true, false};
 ghost use Rattle.dc_names.specs.Words.{AreBytes};
-ghost use Rattle.dc_plain.specs.Facts.{Target};
-ghost use Rattle.dc_plain.specs.Facts.Fact.{Leads, Reads};
+ghost use Rattle.dc_plain.specs.Facts.Fact.{Reads};
 ghost use Rattle.dc_plain.specs.KeysShown.{key_shown};
 ghost use Rattle.dc_row.specs.Rooms.{EndsAt};
-ghost use Rattle.dc_row.specs.Spelling.{Spells, SpellsText, TellsOf, TellsText, has_spelling, fields, IsSpelled};
+ghost use Rattle.dc_row.specs.Spelling.{Spells, SpellsEntry, SpellsNoEntry, SpellsText, TellsOf, TellsText, entry_of, has_spelling, fields, IsSpelled};
 ghost use Rattle.dc_row.specs.declared.TheConstants.{ROW_WORDS, ROW_TEXT};
 
 use crate::reading::{room_of, spelled_text};
 use crate::writing::{is_numbered, kind_code, target_number, text_word};
-use crate::{ROW_TEXT, ROW_WORDS, RowText, number, target};
+use crate::{KIND_UNIT, LENGTH_UNIT, ROW_TEXT, ROW_WORDS, RowText, TAGS, number, target};
 use dc_names::{Kind, no_piece_is_longer};
 use dc_plain::{Key, Label};
 use std::simd::prelude::*;
 
 /// Whether the words spell a fact of a key. The sequence count isn't looked at, and no row spells an
 /// entry of the label `Text`.
+#[must_use]
+// Inlined: most rows are left after the first test, and a call costs more than that.
 #[inline(always)]
 pub fn tells_of(words: &[u64], key: Key<'_>) -> bool
     ensures { IsTrue result ↔ TellsOf words.now (key_shown key.entry) }
@@ -34,6 +35,7 @@ pub fn tells_of(words: &[u64], key: Key<'_>) -> bool
 
 /// The text that the words say a link has, or `None` where they spell no link's text. The sequence
 /// count isn't looked at.
+#[must_use]
 pub fn text_of(words: &[u64]) -> Option<RowText>
     ensures spelled { IfSome result (λ text.
         Spells words.now (Some (Reads (slice_index words.now 2) text))) }
@@ -47,13 +49,14 @@ pub fn text_of(words: &[u64]) -> Option<RowText>
 }
 
 /// Whether the words spell the text of a link.
+// Inlined, as are the functions below, for the sake of `tells_of`.
 #[inline(always)]
 fn is_text(words: &[u64]) -> bool
     requires size { length words.now ≡ ROW_WORDS }
     ensures { IsTrue result ↔ SpellsText words.now }
 {
-    let len = words[1] / 256;
-    if words[1] % 256 != 2 || len == 0 || len > ROW_TEXT as u64 || words[2] == 0 || words[3] != 0 {
+    let len = words[1] / LENGTH_UNIT;
+    if words[1] % TAGS != 2 || len == 0 || len > ROW_TEXT as u64 || words[2] == 0 || words[3] != 0 {
         return false;
     }
     // No component of so short a text is too long, and so only a zero byte is looked for.
@@ -76,10 +79,8 @@ fn ends_at(room: u8x32, len: u64) -> bool
 #[inline(always)]
 fn is_entry_of(words: &[u64], key: Key<'_>) -> bool
     requires size { length words.now ≡ ROW_WORDS }
-    ensures spelled { result ≡ true → let key = key_shown key.entry in
-        (target : Option Target) × Spells words.now (Some (Leads key.number key.label target)) }
-    ensures none { result ≡ false → (target : Option Target) → let key = key_shown key.entry in
-        Spells words.now (Some (Leads key.number key.label target)) → ⊥ }
+    ensures spelled { result ≡ true → SpellsEntry words.now (key_shown key.entry) }
+    ensures none { result ≡ false → SpellsNoEntry words.now (key_shown key.entry) }
 {
     let target = target(words);
     if !has_spelling(key, &target) {
@@ -99,7 +100,7 @@ fn is_spelled(words: &[u64], tag: u64, kind: u64, number: u64, value: u64, text:
     ensures bytes { AreBytes text.now }
     ensures is { IsTrue result ↔ IsSpelled words.now (fields tag kind number value text.now) }
 {
-    let head = tag + 256 * text.len() as u64 + 16777216 * kind;
+    let head = tag + LENGTH_UNIT * text.len() as u64 + KIND_UNIT * kind;
     if words[1] != head || words[2] != number || words[3] != value {
         return false;
     }
@@ -113,8 +114,7 @@ fn is_spelled(words: &[u64], tag: u64, kind: u64, number: u64, value: u64, text:
 
 /// Whether an entry can stand in a row.
 fn has_spelling(key: Key<'_>, target: &Option<(u64, Kind)>) -> bool
-    ensures { let key = key_shown key.entry in
-        result ≡ has_spelling (Some (Leads key.number key.label target.now)) }
+    ensures { result ≡ has_spelling (entry_of (key_shown key.entry) target.now) }
 {
     match key.label {
         Label::Name(name) => {

@@ -17,7 +17,7 @@ pub fn rows_have_one_spelling()
 pub fn words_spell_one_row(words: &[u64])
     ensures { (a b : Option Fact) → Spells words.now a → Spells words.now b → a ≡ b }
 {
-    decode(words);
+    let _ = decode(words);
 }
 
 /// Words that spell a fact have just the fact that can be read from them, field by field.

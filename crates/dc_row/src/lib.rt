@@ -1,9 +1,11 @@
-//! Rows of the cache as words of 64 bits. Nothing here takes memory.
+//! Rows of the cache as words of 64 bits: what they spell, how a fact is spelled, and how it is sought
+//! without being decoded. Nothing here takes memory. The file `layout` has the table of the words.
 #![tactic(auto)]
 
 mod entry;
 mod fields;
 mod laws;
+mod layout;
 mod reading;
 mod row;
 #[cfg(test)]
@@ -17,6 +19,7 @@ pub use laws::{
     counts_tell_nothing, empty_row_spells_nothing, rows_have_one_spelling,
     words_have_the_fact_they_spell, words_spell_one_row,
 };
+pub use layout::{KIND_UNIT, LENGTH_UNIT, LENGTHS, TAGS};
 pub use reading::{decode, spelled_text, target, text_in};
 pub use row::{Row, RowLabel};
 pub use text::RowText;

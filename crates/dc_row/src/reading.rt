@@ -1,3 +1,5 @@
+//! What the words of a row tell.
+
 ghost use Rattle.std.specs.Prelude.{◌≡◌, length, Option, Some, IfSome};
 ghost use Rattle.std.specs.Option.{option_map};
 ghost use Rattle.dc_plain.specs.Facts.{Fact};
@@ -13,6 +15,7 @@ use dc_names::Kind;
 use std::simd::prelude::*;
 
 /// The row that the words spell, or `None` where they spell none, whatever the sequence count is.
+#[must_use]
 pub fn decode(words: &[u64]) -> Option<Row>
     ensures spelled { IfSome result (λ row. Spells words.now (row_shown row)) }
     ensures any { TellsRow words.now (option_map row_shown result) }
@@ -41,6 +44,7 @@ fn read(words: &[u64]) -> Option<Row>
     }
 }
 
+/// The label of the entry that the words spell.
 fn label_in(words: &[u64]) -> Option<RowLabel>
     ensures { TellsLabel words.now (option_map label_shown result) }
 {
@@ -53,6 +57,8 @@ fn label_in(words: &[u64]) -> Option<RowLabel>
 }
 
 /// Where the entry that the words spell leads. Of other words it is whatever their kind and value say.
+#[must_use]
+// Inlined: the walk that asks tests the kind at once.
 #[inline(always)]
 pub fn target(words: &[u64]) -> Option<(u64, Kind)>
     ensures { TellsTarget words.now result }
@@ -67,6 +73,7 @@ pub fn target(words: &[u64]) -> Option<(u64, Kind)>
 
 /// The text that stands in the words of a name or a link. Of other words it is whatever they have there,
 /// or `None` where they are not as many as a row has or say that it is longer than a row has room for.
+#[must_use]
 pub fn text_in(words: &[u64]) -> Option<RowText>
     ensures { (fact : Option Fact) → Spells words.now fact → result ≡ Some (fields_of fact).text }
 {
@@ -78,6 +85,8 @@ pub fn text_in(words: &[u64]) -> Option<RowText>
 }
 
 /// The text of the link that the words spell.
+#[must_use]
+// Inlined (measured): the text stays in one vector register.
 #[inline(always)]
 pub fn spelled_text(words: &[u64]) -> RowText
     requires spelled { SpellsText words.now }
@@ -86,7 +95,8 @@ pub fn spelled_text(words: &[u64]) -> RowText
     RowText::from_room(room_of(words).to_array(), length(words) as usize)
 }
 
-/// All the bytes that the words have for a text, side by side. An array of them would go through memory.
+/// All the bytes that the words have for a text, side by side.
+// Inlined (measured), and a vector: an array of them would go through memory.
 #[inline(always)]
 pub(crate) fn room_of(words: &[u64]) -> u8x32
     requires size { length words.now ≡ ROW_WORDS }

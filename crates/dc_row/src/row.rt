@@ -1,3 +1,5 @@
+//! A row by value, as it is spelled or was read.
+
 use crate::RowText;
 use dc_names::Kind;
 

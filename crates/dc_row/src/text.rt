@@ -1,3 +1,5 @@
+//! The text of a row: a name, or what a link has.
+
 ghost use Rattle.std.specs.Prelude.{◌≡◌, ◌≤◌, ◌<◌, ℕ, List, length, take, IfSome, IfNone};
 ghost use Rattle.dc_row.specs.Rooms.{padded};
 ghost use Rattle.dc_row.specs.declared.TheConstants.{ROW_TEXT};
@@ -30,6 +32,7 @@ impl Model for RowText {
 
 impl RowText {
     /// The bytes by value, or `None` where they are more than a row has room for.
+    #[must_use]
     pub fn of(bytes: &[u8]) -> Option<RowText>
         ensures bytes { IfSome result (λ text. text ≡ bytes.now) }
         ensures none { IfNone result (ROW_TEXT < length bytes.now) }
@@ -46,6 +49,7 @@ impl RowText {
     }
 
     /// The first bytes of a room that has zeros after them.
+    // Inlined, as is `spelled_text`, its one caller.
     #[inline(always)]
     pub(crate) fn from_room(room: [u8; ROW_TEXT], len: usize) -> RowText
         requires fits { len ≤ ROW_TEXT }
@@ -56,6 +60,7 @@ impl RowText {
     }
 
     /// The bytes that stand in the room.
+    #[must_use]
     pub fn bytes(&self) -> &[u8]
         ensures bytes { result.now ≡ self.now }
         ensures room { length result.now ≤ ROW_TEXT }

@@ -1,3 +1,5 @@
+//! The words that spell a row.
+
 ghost use Rattle.std.specs.Prelude.{◌≡◌, ◌≤◌, ◌<◌, ◌↔◌, ◌+◌, length, drop, slice_index, Some, IfSome, IsSome, IsTrue};
 ghost use Rattle.dc_names.specs.Words.{AreBytes, word_of};
 ghost use Rattle.dc_plain.specs.Facts.Fact.{Reads};
@@ -5,13 +7,14 @@ ghost use Rattle.dc_row.specs.Rows.{row_shown};
 ghost use Rattle.dc_row.specs.Spelling.{Spells, has_spelling, is_numbered, kind_code, target_number, text_word, fields, IsSpelled};
 ghost use Rattle.dc_row.specs.declared.TheConstants.{ROW_WORDS, ROW_TEXT};
 
-use crate::{ROW_WORDS, Row, RowLabel, RowText};
+use crate::{KIND_UNIT, LENGTH_UNIT, ROW_WORDS, Row, RowLabel, RowText};
 use dc_names::{Kind, Name, pack, parse};
 
 /// The words of a row, with 0 for its sequence count, or `None` where nothing spells the row.
 ///
 /// A name is one of `dc_names`, a link's text a path without a fault, a dot-dot leads to a
 /// directory if anywhere, and no number is 0.
+#[must_use]
 pub fn encode(row: &Row) -> Option<[u64; ROW_WORDS]>
     ensures spelled { IfSome result (λ words. Spells words (row_shown row.now)) }
     ensures count { IfSome result (λ words. slice_index words 0 ≡ 0) }
@@ -40,6 +43,7 @@ pub fn encode(row: &Row) -> Option<[u64; ROW_WORDS]>
     })
 }
 
+/// Whether a row has words.
 fn has_spelling(row: &Row) -> bool
     ensures { result ≡ has_spelling (row_shown row.now) }
 {
@@ -62,6 +66,7 @@ fn can_be_text(number: u64, text: &RowText) -> bool
     number != 0 && parse(text.bytes()).is_ok()
 }
 
+/// Whether the number of a target, if there is one, isn't 0.
 pub(crate) fn is_numbered(target: &Option<(u64, Kind)>) -> bool
     ensures { result ≡ is_numbered target.now }
 {
@@ -71,6 +76,7 @@ pub(crate) fn is_numbered(target: &Option<(u64, Kind)>) -> bool
     }
 }
 
+/// What the head says of where an entry leads.
 pub(crate) fn kind_code(target: &Option<(u64, Kind)>) -> u64
     ensures { result ≡ kind_code target.now }
 {
@@ -82,6 +88,7 @@ pub(crate) fn kind_code(target: &Option<(u64, Kind)>) -> u64
     }
 }
 
+/// The number of a target, or 0 for none.
 pub(crate) fn target_number(target: &Option<(u64, Kind)>) -> u64
     ensures { result ≡ target_number target.now }
 {
@@ -101,7 +108,7 @@ pub(crate) fn spell(tag: u64, kind: u64, number: u64, value: u64, text: &[u8]) -
     ensures count { slice_index result 0 ≡ 0 }
 {
     let mut words = [0; ROW_WORDS];
-    words[1] = tag + 256 * text.len() as u64 + 16777216 * kind;
+    words[1] = tag + LENGTH_UNIT * text.len() as u64 + KIND_UNIT * kind;
     words[2] = number;
     words[3] = value;
     for i in 4..ROW_WORDS {
@@ -111,6 +118,7 @@ pub(crate) fn spell(tag: u64, kind: u64, number: u64, value: u64, text: &[u8]) -
 }
 
 /// Eight bytes of a text in one word, with zeros past its end.
+// Inlined: it is called four times for each row that is compared, mostly for bytes past the end.
 #[inline(always)]
 pub(crate) fn text_word(text: &[u8], at: usize) -> u64
     requires { at < ROW_WORDS }
@@ -127,6 +135,7 @@ pub(crate) fn text_word(text: &[u8], at: usize) -> u64
 }
 
 /// The bytes of a text from one of its last eight on, in one word.
+// Inlined, as is `text_word`: it has one caller.
 #[inline(always)]
 fn last_word(text: &[u8], from: usize) -> u64
     requires some { from < length text.now }

@@ -15,8 +15,9 @@ use Rattle.dc_lang.specs.declared.TheConstants.{SESSIONS}
 use Rattle.dc_lang.specs.Replies.{reply_text}
 use Rattle.dc_plain.specs.Runs.{alters, reply_of, tree_after}
 use Rattle.dc_plain.specs.Trees.{Tree, empty_tree}
-use Rattle.dc_serve.specs.Phases.{by_session, in_order, of_session, of_sessions}
-use Rattle.dc_serve.specs.Serving.{State, after, bases_after, opening, replies_in, reply_in, request_in}
+use Rattle.dc_lang.specs.Phases.{by_session, in_order, of_session, of_sessions}
+use Rattle.dc_lang.specs.Bases.{bases_after}
+use Rattle.dc_serve.specs.Serving.{State, after, opening, replies_in, reply_in, request_in}
 use Rattle.dc_serve.specs.Turns.{AsAsked, IsAlone, IsRun, OrdersAre, Turn, all_of, orders_of, records_of, strand, strands, text_of, turn_text}
 use Rattle.dc_serve.proofs.Sessions.{strand_all, strand_other}
 

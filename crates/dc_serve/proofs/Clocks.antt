@@ -6,10 +6,10 @@ use Rattle.std.proofs.Math.Nat.{le_refl}
 use Rattle.dc_lang.specs.Commands.{Order, Meaning}
 use Rattle.dc_lang.specs.Commands.Meaning.{Sync, Orders}
 use Rattle.dc_lang.specs.declared.TheConstants.{SESSIONS}
-use Rattle.dc_plain.specs.declared.TheConstants.{MOST_COUNT}
-use Rattle.dc_serve.specs.Input.{AllSay}
-use Rattle.dc_serve.specs.Lines.{lines_of}
-use Rattle.dc_serve.specs.Phases.{by_session, in_order, is_sync, of_session, of_sessions, orders_in, phases}
+use Rattle.dc_names.specs.declared.limits.TheConstants.{MOST_COUNT}
+use Rattle.dc_lang.specs.Inputs.{AllSay}
+use Rattle.dc_lang.specs.Lines.{lines_of}
+use Rattle.dc_lang.specs.Phases.{by_session, in_order, is_sync, of_session, of_sessions, orders_in, phases}
 use Rattle.dc_serve.specs.declared.TheConstants.{MOST_BYTES}
 
 length_kept : {X : Type 0} (p : X → Bool) (xs : List X) → length (filter p xs) ≤ length xs

@@ -19,7 +19,7 @@ use Rattle.dc_events.specs.declared.sizes.MakeFault.TheVariants as makings
 use Rattle.dc_serve.specs.Bytes.{AppendsFront}
 use Rattle.dc_serve.specs.Endings.{Answers, AnswersPlainly, EndsBy, Serves, ServesFront, Streams, Understood}
 use Rattle.dc_serve.specs.Faults.{from_making}
-use Rattle.dc_serve.specs.Phases.{phases}
+use Rattle.dc_lang.specs.Phases.{phases}
 use Rattle.dc_serve.specs.Rounds.{StopsBy, Wrote}
 use Rattle.dc_serve.specs.Turns.{IsRun, strands}
 use Rattle.dc_serve.specs.declared.fault.ServeFault.{ServeFault}
@@ -50,7 +50,7 @@ none_at (x ∷ xs) a zero s e = subst (λ l. l ≡ []) (some-injective x s e) a.
 none_at (x ∷ xs) a (suc i) s e = none_at xs a.1 i s e
 
 no_run : (limit : ℕ) → IsRun limit [] []
-no_run limit = record { orders = refl; asked = tt; legal = record { order = []; merges = none_at (strands SESSIONS []) (strands_empty SESSIONS); runs = tt }; phased = tt }
+no_run limit = record { orders = refl; asked = tt; legal = record { order = []; merges = none_at (strands SESSIONS []) (strands_empty SESSIONS); runs = tt }; phased = λ a b in_a in_b less. (let none = in_a.1 in absurd (omega arith)) }
 
 pub nothing_served : (limit : ℕ) (phases : List (List Order)) (old : Option (List ℕ)) → (count : ℕ) × Serves limit (take count phases) (Appends old old)
 nothing_served limit phases old = (0, record { turns = []; run = no_run limit; plain = λ _. refl; written = none_written old })

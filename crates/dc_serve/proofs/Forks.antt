@@ -8,7 +8,7 @@ use Rattle.dc_events.specs.Standing.{Rising, ends}
 use Rattle.dc_events.specs.Views.{Book, Record}
 use Rattle.dc_lang.specs.Commands.{Order}
 use Rattle.dc_table.specs.Shares.{Known}
-use Rattle.dc_serve.specs.Phases.{of_session, of_sessions}
+use Rattle.dc_lang.specs.Phases.{of_session, of_sessions}
 use Rattle.dc_serve.specs.Sessions.{AllRise, AskedBy, Obeyed, ObeyedBelow, Outcome, RecordedSome, TookInSome, outcome, present, progress, size, some_of}
 use Rattle.dc_serve.specs.Turns.{OrdersAre, Turn, bases_then, orders_of, records_of, strand}
 use Rattle.dc_serve.proofs.Counts.{size-append}

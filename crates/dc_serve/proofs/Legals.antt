@@ -1,5 +1,5 @@
 -- The records of the phases that were served are a run of the plain tree.
-use Rattle.std.proofs.Common.{◌≡◌, ℕ, zero, suc, refl, ◌<◌, ◌≤◌, ◌==◌, Bool, true, false, cond, List, [], ◌∷◌, ◌++◌, filter, length, take, ap, sym, ◌∙◌, subst, arith, eq-eqb}
+use Rattle.std.proofs.Common.{◌≡◌, ℕ, zero, suc, refl, ◌<◌, ◌≤◌, ◌==◌, Bool, true, false, cond, List, [], ◌∷◌, ◌++◌, filter, length, map, take, ap, sym, ◌∙◌, subst, inl, inr, arith, eq-eqb, le_refl, ◌+◌}
 use mathlib.Core.Logic.{dite}
 use mathlib.Core.Option.{some, some-injective, some-ne-none}
 use native.Mathlib.Decide.{dec_lt}
@@ -17,7 +17,9 @@ use Rattle.dc_table.specs.Ends.{Ends}
 use Rattle.dc_table.specs.Shares.{Known}
 use Rattle.dc_serve.specs.Rounds.{Holds, Rounds}
 use Rattle.dc_serve.specs.Sessions.{AllRise, Between, present}
-use Rattle.dc_serve.specs.Turns.{InPhases, IsRun, Turn, Within, all_of, records_of, strand, strands}
+use Rattle.dc_lang.specs.Spans.{InPhases, Span}
+use Rattle.dc_serve.specs.Turns.{IsRun, Turn, all_of, records_of, span_in, spans_from, strand, strands}
+use Rattle.dc_serve.proofs.Items.{Has, has, has-append, has-map}
 use Rattle.dc_serve.proofs.Hits.{all-append, more_none, none_late, once_cut, once_past, rounds_hits, strands_none}
 use Rattle.dc_serve.proofs.Sessions.{strand-append}
 use Rattle.dc_serve.proofs.Stood.{AllStand, ListsStand, cut_all, lists_at, lists_stand, rounds_stand, stand-left, stand_all, stand_at, strands_stand}
@@ -52,28 +54,75 @@ strands_rise p (suc k) turns f = both (strands k turns) (strand k turns) (strand
     both (x ∷ xs) y a b = (a.0, both xs y a.1 b)
 
 -- each record lies between the clocks of its phase
-within_from : (p q : ℕ) (turns : List Turn) → Between p q turns → Within p q turns
-within_from p q [] b = tt
-within_from p q (t ∷ turns) b =
-    let s = t.order.session in
-    let here = ap (λ c. records_of (cond c (t ∷ filter (λ u. u.order.session == s) turns) (filter (λ u. u.order.session == s) turns))) (eq-eqb s s refl) in
+abbrev Within : ℕ → ℕ → Turn → Type 0
+Within p q t = (p ≤ t.made.at) × (after t.made ≤ q)
+
+within_at : (p q : ℕ) (turns : List Turn) → Between p q turns → (t : Turn) → Has turns t → Within p q t
+within_at p q [] b t h = absurd h
+within_at p q (u ∷ turns) b t (inl is) =
+    let s = u.order.session in
+    let here = ap (λ c. records_of (cond c (u ∷ filter (λ v. v.order.session == s) turns) (filter (λ v. v.order.session == s) turns))) (eq-eqb s s refl) in
     let mine = subst (λ l. Rising p l × (ends p l ≤ q)) here (b s) in
-    let low = ends_up (after t.made) (strand s turns) mine.0.1 in
+    let low = ends_up (after u.made) (strand s turns) mine.0.1 in
     let last = mine.1 in
-    (mine.0.0, omega arith, within_from p q turns (λ k. rest k (t.order.session == k) (b k)))
+    subst (Within p q) is (mine.0.0, omega arith)
+within_at p q (u ∷ turns) b t (inr more) = within_at p q turns (λ k. rest k (u.order.session == k) (b k)) t more
   where
-    rest : (k : ℕ) (c : Bool) → Rising p (records_of (cond c (t ∷ filter (λ u. u.order.session == k) turns) (filter (λ u. u.order.session == k) turns))) × (ends p (records_of (cond c (t ∷ filter (λ u. u.order.session == k) turns) (filter (λ u. u.order.session == k) turns))) ≤ q)
+    rest : (k : ℕ) (c : Bool) → Rising p (records_of (cond c (u ∷ filter (λ v. v.order.session == k) turns) (filter (λ v. v.order.session == k) turns))) × (ends p (records_of (cond c (u ∷ filter (λ v. v.order.session == k) turns) (filter (λ v. v.order.session == k) turns))) ≤ q)
         → Rising p (strand k turns) × (ends p (strand k turns) ≤ q)
     rest k true m =
         let up = m.0.0 in
-        let far = ends_from p (after t.made) (strand k turns) (omega arith) in
+        let far = ends_from p (after u.made) (strand k turns) (omega arith) in
         let last = m.1 in
-        (rising_from p (after t.made) (strand k turns) (omega arith) m.0.1, omega arith)
+        (rising_from p (after u.made) (strand k turns) (omega arith) m.0.1, omega arith)
     rest k false m = m
 
-in_phases : (p q : ℕ) (turns : List (List Turn)) → Rounds p turns q → InPhases p turns
-in_phases p q [] r = tt
-in_phases p q (t ∷ turns) r = (r.0, within_from p r.0 t r.1, in_phases r.0 q turns r.2)
+-- a phase doesn't end before it begins
+phase_up : (p q : ℕ) (turns : List Turn) → Between p q turns → p ≤ q
+phase_up p q turns b = let up = ends_up p (strand 0 turns) (b 0).0 in let last = (b 0).1 in omega arith
+
+-- the spans of later phases
+record Later (p phase : ℕ) (s : Span) : Type 0 where
+  pub at : p ≤ s.at
+  pub from : phase ≤ s.phase
+
+later : (p q phase : ℕ) (turns : List (List Turn)) → Rounds p turns q → (s : Span) → Has (spans_from phase turns) s → Later p phase s
+later p q phase [] r s h = absurd h
+later p q phase (t ∷ turns) r s h = elim (has-append (map (span_in phase) t) (spans_from (phase + 1) turns) s h) [
+  | inl here ↦ (let found = has-map (span_in phase) t s here in
+      subst (Later p phase) found.2 (record { at = (within_at p r.0 t r.1 found.0 found.1).0; from = le_refl phase }))
+  | inr more ↦ (let rest = later r.0 q (phase + 1) turns r.2 s more in
+      let at = rest.at in let from = rest.from in let up = phase_up p r.0 t r.1 in record { at = omega arith; from = omega arith })
+]
+
+-- the spans of a phase
+record Now (m phase : ℕ) (s : Span) : Type 0 where
+  pub end : s.end ≤ m
+  pub is : s.phase ≡ phase
+
+now : (p m phase : ℕ) (t : List Turn) → Between p m t → (s : Span) → Has (map (span_in phase) t) s → Now m phase s
+now p m phase t b s h = let found = has-map (span_in phase) t s h in subst (Now m phase) found.2 (record { end = (within_at p m t b found.0 found.1).1; is = refl })
+
+ordered_spans : (p q phase : ℕ) (turns : List (List Turn)) → Rounds p turns q → (a b : Span) → Has (spans_from phase turns) a → Has (spans_from phase turns) b → a.phase < b.phase → a.end ≤ b.at
+ordered_spans p q phase [] r a b in_a in_b less = absurd in_a
+ordered_spans p q phase (t ∷ turns) r a b in_a in_b less = elim (has-append (map (span_in phase) t) (spans_from (phase + 1) turns) a in_a) [
+  | inl here ↦ (let first = now p r.0 phase t r.1 a here in
+      let end = first.end in
+      let is = first.is in
+      elim (has-append (map (span_in phase) t) (spans_from (phase + 1) turns) b in_b) [
+        | inl also ↦ (let second = now p r.0 phase t r.1 b also in let same = second.is in absurd (omega arith))
+        | inr more ↦ (let next = later r.0 q (phase + 1) turns r.2 b more in let at = next.at in omega arith)
+      ])
+  | inr further ↦ (let next = later r.0 q (phase + 1) turns r.2 a further in
+      let from = next.from in
+      elim (has-append (map (span_in phase) t) (spans_from (phase + 1) turns) b in_b) [
+        | inl also ↦ (let second = now p r.0 phase t r.1 b also in let same = second.is in absurd (omega arith))
+        | inr more ↦ ordered_spans r.0 q (phase + 1) turns r.2 a b further more less
+      ])
+]
+
+in_phases : (p q : ℕ) (turns : List (List Turn)) → Rounds p turns q → InPhases (spans_from 0 turns)
+in_phases p q turns r a b in_a in_b less = ordered_spans p q 0 turns r a b (has (spans_from 0 turns) a in_a) (has (spans_from 0 turns) b in_b) less
 
 -- a history in which the records of each session stand, and of which they make each call once
 pub record Found (limit : ℕ) (turns : List Turn) : Type 0 where

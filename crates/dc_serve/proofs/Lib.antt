@@ -6,10 +6,8 @@ pub mod Ended
 pub mod Forks
 pub mod Hits
 pub mod Legals
-pub mod LinesLemmas
 pub mod Orders
 pub mod Phased
-pub mod Readings
 pub mod Rounds
 pub mod Served
 pub mod Sessions
@@ -17,3 +15,4 @@ pub mod Shared
 pub mod Stood
 pub mod Strands
 pub mod Turnwise
+pub mod Items

@@ -5,7 +5,7 @@ use Rattle.std.proofs.lemmas.List.Elements.{filter-append}
 use Rattle.dc_lang.specs.declared.line.Line.{Line}
 use Rattle.dc_lang.specs.Commands.{Meaning, meaning_of}
 use Rattle.dc_lang.specs.Commands.Meaning.{Sync, Orders}
-use Rattle.dc_serve.specs.Phases.{of_session, ordered, ordered_by, orders_in}
+use Rattle.dc_lang.specs.Phases.{of_session, ordered, ordered_by, orders_in}
 use Rattle.dc_serve.specs.Threads.{is_order_of}
 
 orders_in-append : (xs ys : List Meaning) → orders_in (xs ++ ys) ≡ orders_in xs ++ orders_in ys

@@ -4,7 +4,7 @@ use Rattle.std.specs.Prelude.{Result, Ok, Err, IfOk, IsOkAnd, slice_index}
 use Rattle.dc_events.specs.Views.{Book}
 use Rattle.dc_lang.specs.Commands.{Order}
 use Rattle.dc_table.specs.Shares.{Known}
-use Rattle.dc_serve.specs.Phases.{of_session}
+use Rattle.dc_lang.specs.Phases.{of_session}
 use Rattle.dc_serve.specs.Sessions.{Obeyed, ObeyedBelow, outcome, progress}
 use Rattle.dc_serve.specs.Threads.{Adds}
 use Rattle.dc_serve.specs.declared.fault.ServeFault.{ServeFault}

@@ -11,9 +11,9 @@ use Rattle.dc_lang.specs.declared.line.Line.{Line}
 use Rattle.dc_lang.specs.Commands.{Order}
 use Rattle.dc_table.specs.Shares.{Known}
 use Rattle.dc_serve.specs.Bytes.{AppendsFront, IsServiceFault, WritesFront}
-use Rattle.dc_serve.specs.Phases.{by_session, in_order, ordered}
+use Rattle.dc_lang.specs.Phases.{by_session, in_order, ordered}
 use Rattle.dc_serve.specs.Rounds.{Goes, Holds, Rounds, StopsBy}
-use Rattle.dc_serve.specs.Serving.{first_bases}
+use Rattle.dc_lang.specs.Bases.{first_bases}
 use Rattle.dc_serve.specs.Sessions.{Between, ObeyedBelow, SameShare, TookInSome, outcome, present, size}
 use Rattle.dc_serve.specs.Turns.{AsAsked, Turn, all_of, bases_then, orders_of, strand, text_of}
 use Rattle.dc_serve.specs.declared.fault.ServeFault.{ServeFault}

@@ -5,8 +5,8 @@ use Rattle.std.proofs.lemmas.List.{append-nil, get_or-set_other, get_or-set_same
 use Rattle.std.proofs.lemmas.List.Elements.{filter-append}
 use Rattle.std.specs.Prelude.{slice_index, slice_set}
 use Rattle.dc_lang.specs.Commands.{Order, request_from}
-use Rattle.dc_serve.specs.Phases.{of_session, of_sessions}
-use Rattle.dc_serve.specs.Serving.{base_after}
+use Rattle.dc_lang.specs.Phases.{of_session, of_sessions}
+use Rattle.dc_lang.specs.Bases.{base_after}
 use Rattle.dc_serve.specs.Sessions.{AskedBy, present, some_of}
 use Rattle.dc_serve.specs.Turns.{AsAsked, OrdersAre, Turn, bases_behind, bases_then, orders_of, records_of, strand}
 use Rattle.dc_serve.proofs.Strands.{records-append}

@@ -10,7 +10,7 @@ use Rattle.dc_lang.specs.Replies.{reply_text}
 use Rattle.dc_plain.specs.Requests.{Answer, Request}
 use Rattle.dc_table.specs.Changes.{Recorded}
 use Rattle.dc_serve.specs.Sessions.{AskedBy, Obeyed, Progress, RecordedAll, RecordedSome, progress}
-use Rattle.dc_serve.specs.Serving.{base_after}
+use Rattle.dc_lang.specs.Bases.{base_after}
 use Rattle.dc_serve.specs.Turns.{Turn, orders_of, records_of, text_of, turn_text}
 
 pub ends-append : (p : ℕ) (xs ys : List Record) → ends p (xs ++ ys) ≡ ends (ends p xs) ys

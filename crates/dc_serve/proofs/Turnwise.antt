@@ -13,7 +13,7 @@ use Rattle.dc_lang.specs.Commands.{Order}
 use Rattle.dc_lang.specs.declared.TheConstants.{SESSIONS}
 use Rattle.dc_plain.specs.Requests.{Request}
 use Rattle.dc_plain.specs.Trees.{empty_tree}
-use Rattle.dc_serve.specs.Phases.{by_session, in_order}
+use Rattle.dc_lang.specs.Phases.{by_session, in_order}
 use Rattle.dc_serve.specs.Rounds.{Rounds}
 use Rattle.dc_serve.specs.Serving.{opening, replies_in}
 use Rattle.dc_serve.specs.Turns.{IsRun, IsTurnwise, OrdersAre, Turn, all_of, orders_of, records_of, strand, strands, text_of}

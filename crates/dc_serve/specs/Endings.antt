@@ -2,11 +2,11 @@
 use Rattle.std.specs.Prelude.{◌≡◌, ℕ, ◌≤◌, List, length, take, Option, ◌⊎◌}
 use Rattle.std.specs.Io.KnownBytes.{Appends, Keeps}
 use Rattle.dc_lang.specs.Commands.{Order, Meaning}
-use Rattle.dc_plain.specs.declared.TheConstants.{MOST_COUNT}
+use Rattle.dc_names.specs.declared.limits.TheConstants.{MOST_COUNT}
 use Rattle.dc_serve.specs.Bytes.{AppendsFront, ReadWhole}
-use Rattle.dc_serve.specs.Input.{AllSay, IsFirstBad}
-use Rattle.dc_serve.specs.Lines.{lines_of}
-use Rattle.dc_serve.specs.Phases.{in_order, phases}
+use Rattle.dc_lang.specs.Inputs.{AllSay, IsFirstBad}
+use Rattle.dc_lang.specs.Lines.{lines_of}
+use Rattle.dc_lang.specs.Phases.{in_order, phases}
 use Rattle.dc_serve.specs.Serving.{opening, replies_in}
 use Rattle.dc_serve.specs.Turns.{IsRun, IsTurnwise, Turn, all_of, text_of}
 use Rattle.dc_serve.specs.declared.fault.ServeFault.{ServeFault}

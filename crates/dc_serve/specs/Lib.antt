@@ -3,9 +3,6 @@ pub mod Bytes
 pub mod CommandLine
 pub mod Endings
 pub mod Faults
-pub mod Input
-pub mod Lines
-pub mod Phases
 pub mod Rounds
 pub mod Serving
 pub mod Sessions

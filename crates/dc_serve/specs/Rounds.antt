@@ -5,11 +5,11 @@ use Rattle.std.specs.List.{flat_map}
 use Rattle.dc_events.specs.Views.{Record}
 use Rattle.dc_lang.specs.Commands.{Order}
 use Rattle.dc_lang.specs.declared.TheConstants.{SESSIONS}
-use Rattle.dc_plain.specs.declared.TheConstants.{MOST_COUNT}
+use Rattle.dc_names.specs.declared.limits.TheConstants.{MOST_COUNT}
 use Rattle.dc_table.specs.Shares.{IsWhole, Known}
 use Rattle.dc_serve.specs.Bytes.{AppendsFront}
-use Rattle.dc_serve.specs.Phases.{by_session, in_order}
-use Rattle.dc_serve.specs.Serving.{first_bases}
+use Rattle.dc_lang.specs.Phases.{by_session, in_order}
+use Rattle.dc_lang.specs.Bases.{first_bases}
 use Rattle.dc_serve.specs.Sessions.{AllRise, Between, present, size}
 use Rattle.dc_serve.specs.Turns.{AsAsked, Turn, all_of, bases_then, orders_of, text_of}
 use Rattle.dc_serve.specs.declared.fault.ServeFault.{ServeFault}

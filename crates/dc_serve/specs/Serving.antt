@@ -1,14 +1,11 @@
 -- The plain server: it answers commands one after the other, with no cache and no threads.
-use Rattle.std.specs.Prelude.{ℕ, List, [], ◌∷◌, ◌++◌, replicate, slice_index, slice_set}
+use Rattle.std.specs.Prelude.{ℕ, List, [], ◌∷◌, ◌++◌, slice_index}
 use Rattle.dc_plain.specs.Trees.{Tree, empty_tree}
 use Rattle.dc_plain.specs.Requests.{Request, Answer}
-use Rattle.dc_plain.specs.Requests.Answer.{Found}
 use Rattle.dc_plain.specs.Runs.{reply_of, tree_after, clock_after}
-use Rattle.dc_lang.specs.declared.line.Verb.{Verb}
-use Rattle.dc_lang.specs.declared.line.Verb.TheVariants.{Cd}
+use Rattle.dc_lang.specs.Bases.{bases_after, first_bases}
 use Rattle.dc_lang.specs.Commands.{Order, request_from}
 use Rattle.dc_lang.specs.Replies.{reply_text}
-use Rattle.dc_lang.specs.declared.TheConstants.{SESSIONS}
 
 -- how many inodes may live, the tree, how many calls have altered it, and where each session starts
 pub record State : Type 0 where
@@ -18,9 +15,6 @@ pub record State : Type 0 where
   pub bases : List ℕ
 
 -- an empty tree, and each session starts at the root
-abbrev pub first_bases : List ℕ
-first_bases = replicate SESSIONS 1
-
 abbrev pub opening : ℕ → State
 opening limit = record { limit = limit; tree = empty_tree; clock = 0; bases = first_bases }
 
@@ -34,15 +28,6 @@ answer_in state order = reply_of state.limit state.tree (request_in state order)
 -- the line that an order is answered
 abbrev pub reply_in : State → Order → List ℕ
 reply_in state order = reply_text order.session (answer_in state order) state.clock
-
--- a directory that a `cd` finds is where its session starts from then on
-abbrev pub base_after : Verb → Answer → ℕ → ℕ
-base_after Cd (Found number kind) base = number
-base_after verb answer base = base
-
--- where each session starts then
-abbrev pub bases_after : Verb → ℕ → Answer → List ℕ → List ℕ
-bases_after verb session answer bases = slice_set bases session (base_after verb answer (slice_index bases session))
 
 -- what a call leaves
 abbrev pub called : State → Request → State

@@ -4,8 +4,8 @@ use Rattle.dc_events.specs.Standing.{Rising, ends}
 use Rattle.dc_events.specs.Views.{Book, Record}
 use Rattle.dc_lang.specs.Commands.{Order, request_from}
 use Rattle.dc_table.specs.Shares.{Share}
-use Rattle.dc_serve.specs.Phases.{of_sessions}
-use Rattle.dc_serve.specs.Serving.{base_after}
+use Rattle.dc_lang.specs.Phases.{of_sessions}
+use Rattle.dc_lang.specs.Bases.{base_after}
 use Rattle.dc_serve.specs.Turns.{AsAsked, Turn, bases_then, orders_of, records_of, strand, text_of}
 
 -- these calls were recorded, none at a point before what had been seen

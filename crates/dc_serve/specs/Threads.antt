@@ -1,5 +1,5 @@
 -- What a session's thread gives back.
-use Rattle.std.specs.Prelude.{◌≡◌, ℕ, Bool, false, List, [], ◌++◌, ◌==◌, length, slice_set, IfOk, IfErr, Result}
+use Rattle.std.specs.Prelude.{◌≡◌, ℕ, Bool, false, List, [], ◌++◌, ◌==◌, length, map, slice_set, IfOk, IfErr, Result}
 use Rattle.dc_cache.specs.Passes.{Fits, share, view}
 use Rattle.dc_cache.specs.declared.cache.Dcache.{Dcache}
 use Rattle.dc_cache.specs.declared.cache.Pass.{Pass}
@@ -7,9 +7,11 @@ use Rattle.dc_events.specs.Views.{Book}
 use Rattle.dc_lang.specs.Commands.{Order, Meaning}
 use Rattle.dc_lang.specs.Commands.Meaning.{Sync, Orders}
 use Rattle.dc_serve.specs.Bytes.{IsServiceFault}
-use Rattle.dc_serve.specs.Sessions.{Obeyed, RecordedSome, progress}
+use Rattle.dc_serve.specs.Sessions.{Obeyed, Outcome, Progress, RecordedSome, outcome, progress}
 use Rattle.dc_serve.specs.declared.fault.ServeFault.{ServeFault}
-use Rattle.dc_serve.specs.Phases.{ordered_by}
+use Rattle.std.specs.Borrow.{Bor}
+use Rattle.dc_lang.specs.declared.line.Line.{Line}
+use Rattle.dc_lang.specs.Phases.{ordered, ordered_by}
 use Rattle.dc_serve.specs.declared.phase.Handed.{Handed}
 use Rattle.dc_serve.specs.declared.phase.PhaseReplies.{PhaseReplies}
 use Rattle.dc_serve.specs.declared.session.SessionReplies.{SessionReplies}
@@ -42,3 +44,14 @@ pub record Adds (front : PhaseReplies) (session : ℕ) (last : SessionReplies) (
 abbrev pub is_order_of : ℕ → Meaning → Bool
 is_order_of session Sync = false
 is_order_of session (Orders order) = order.session == session
+
+-- what the program holds of a session and of a phase
+abbrev pub progress_of : SessionReplies → Progress
+progress_of replies = progress replies.text.items replies.base
+
+abbrev pub outcome_of : PhaseReplies → Outcome
+outcome_of replies = outcome replies.text.items replies.bases
+
+-- the orders of each phase
+abbrev pub all_ordered : List (Bor (List Line)) → List (List Order)
+all_ordered phases = map (λ phase. ordered phase.now) phases

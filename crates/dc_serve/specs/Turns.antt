@@ -1,14 +1,15 @@
 -- What commands were answered: orders with the records of their calls.
-use Rattle.std.specs.Prelude.{◌≡◌, ℕ, zero, suc, ◌<◌, ◌≤◌, List, [], ◌∷◌, ◌++◌, ◌==◌, filter, map, slice_index}
+use Rattle.std.specs.Prelude.{◌≡◌, ℕ, zero, suc, ◌+◌, ◌<◌, List, [], ◌∷◌, ◌++◌, ◌==◌, filter, map, slice_index}
 use Rattle.std.specs.List.{flat_map}
 use Rattle.dc_events.specs.Legal.{Legal}
 use Rattle.dc_events.specs.Standing.{after}
 use Rattle.dc_events.specs.Views.{Record}
 use Rattle.dc_lang.specs.Commands.{Order, request_from}
 use Rattle.dc_lang.specs.Replies.{reply_text}
+use Rattle.dc_lang.specs.Spans.{InPhases, Span}
 use Rattle.dc_lang.specs.declared.TheConstants.{SESSIONS}
-use Rattle.dc_serve.specs.Phases.{by_session}
-use Rattle.dc_serve.specs.Serving.{bases_after, first_bases}
+use Rattle.dc_lang.specs.Phases.{by_session}
+use Rattle.dc_lang.specs.Bases.{bases_after, first_bases}
 
 -- an order, and the record of its call
 pub record Turn : Type 0 where
@@ -51,15 +52,14 @@ unfoldable pub strands : ℕ → List Turn → List (List Record)
 strands zero turns = []
 strands (suc session) turns = strands session turns ++ strand session turns ∷ []
 
--- the calls took effect between two clocks
-abbrev pub Within : ℕ → ℕ → List Turn → Type 0
-Within clock later [] = Unit {0}
-Within clock later (t ∷ turns) = (clock ≤ t.made.at) × (after t.made ≤ later) × Within clock later turns
+-- where the call of a turn took effect in this phase
+abbrev pub span_in : ℕ → Turn → Span
+span_in phase t = record { phase = phase; at = t.made.at; end = after t.made }
 
--- no call of a phase took effect before one of an earlier phase
-abbrev pub InPhases : ℕ → List (List Turn) → Type 0
-InPhases clock [] = Unit {0}
-InPhases clock (turns ∷ rest) = (later : ℕ) × Within clock later turns × InPhases later rest
+-- where those of each phase did, from this phase on
+abbrev pub spans_from : ℕ → List (List Turn) → List Span
+spans_from phase [] = []
+spans_from phase (turns ∷ rest) = map (span_in phase) turns ++ spans_from (phase + 1) rest
 
 abbrev pub all_of : List (List Turn) → List Turn
 all_of = flat_map (λ turns. turns)
@@ -73,7 +73,7 @@ pub record IsRun (limit : ℕ) (phases : List (List Order)) (turns : List (List 
   -- with a list for each session the records are those of one thread in some order
   pub legal : Legal limit (strands SESSIONS (all_of turns))
   -- and phase comes after phase
-  pub phased : InPhases 0 turns
+  pub phased : InPhases (spans_from 0 turns)
 
 -- the orders are of one session
 abbrev pub OrdersAre : ℕ → List Order → Type 0
@@ -89,3 +89,8 @@ IsAlone session (orders ∷ phases) = OrdersAre session orders × IsAlone sessio
 abbrev pub IsTurnwise : List (List Order) → Type 0
 IsTurnwise [] = Unit {0}
 IsTurnwise (orders ∷ phases) = ((session : ℕ) × (session < SESSIONS) × OrdersAre session orders) × IsTurnwise phases
+
+-- where one session alone has orders, each run of them tells what the plain server answers
+abbrev pub OneSessionIsPlain : (List (List Order) → ℕ → List ℕ) → Type 0
+OneSessionIsPlain plain_text = (limit session : ℕ) (phases : List (List Order)) (turns : List (List Turn))
+    → session < SESSIONS → IsRun limit phases turns → IsAlone session phases → text_of (all_of turns) ≡ plain_text phases limit

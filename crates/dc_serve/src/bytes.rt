@@ -1,3 +1,5 @@
+//! How the input is read whole, and how replies are written.
+
 ghost use Rattle.std.specs.Prelude.{OnOk, IfOk, IfErr};
 ghost use Rattle.std.specs.Io.KnownBytes.{Appends};
 ghost use Rattle.dc_serve.specs.Bytes.{ReadWhole, IsReadFault, WritesFront};

@@ -33,6 +33,12 @@ pub fn answer<R: Wait>(
         Call::Stat { base, path } => Ok(cache.stat(rt, pass, base, path)),
         Call::Readlink { base, path } => Ok(cache.readlink(rt, alloc, pass, base, path)?),
         Call::List { base, path } => Ok(cache.list(rt, alloc, pass, base, path)?),
-        _ => Ok(cache.change(rt, alloc, pass, call)?),
+        Call::Mkdir { .. }
+        | Call::Create { .. }
+        | Call::Link { .. }
+        | Call::Symlink { .. }
+        | Call::Unlink { .. }
+        | Call::Rmdir { .. }
+        | Call::Rename { .. } => Ok(cache.change(rt, alloc, pass, call)?),
     }
 }

@@ -1,3 +1,5 @@
+//! The words of the command line.
+
 ghost use Rattle.std.specs.Prelude.{◌≡◌, [], IfOk, IfErr, unwrap_or, map, string_bytes};
 ghost use Rattle.clap.specs.Words.{FailsBy, first_of, found_of, matches_of, rows_of};
 ghost use Rattle.clap.specs.Faults.{fault_of};

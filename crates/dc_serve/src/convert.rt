@@ -1,9 +1,12 @@
+//! What faults of the cache and of the input are to the server.
+
 ghost use Rattle.std.specs.Prelude.{◌≡◌};
-ghost use Rattle.dc_serve.specs.Faults.{from_change, from_making};
+ghost use Rattle.dc_serve.specs.Faults.{from_change, from_input, from_making};
 ghost use Rattle.dc_serve.specs.declared.fault.ServeFault.TheVariants.{NoMemory as NoMemoryFault};
 
 use crate::ServeFault;
 use dc_cache::{ChangeFault, MakeFault};
+use dc_lang::InputFault;
 use dc_names::NoMemory;
 use std::alloc::{AllocError, AllocFailed};
 
@@ -49,6 +52,17 @@ impl From<MakeFault> for ServeFault {
         match error {
             MakeFault::BadSize => ServeFault::BadSize,
             MakeFault::NoMemory => ServeFault::NoMemory,
+        }
+    }
+}
+
+impl From<InputFault> for ServeFault {
+    ghost from_gives = { λ error fault. fault ≡ from_input error };
+
+    fn from(error: InputFault) -> ServeFault {
+        match error {
+            InputFault::BadLine(line) => ServeFault::BadLine(line),
+            InputFault::NoMemory => ServeFault::NoMemory,
         }
     }
 }

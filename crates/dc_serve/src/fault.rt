@@ -1,3 +1,5 @@
+//! Why an input isn't answered, and why there are no options.
+
 use thiserror::Error;
 
 /// Why an input wasn't answered in whole.

@@ -1,10 +1,11 @@
-ghost use Rattle.std.specs.Prelude.{◌≡◌, ◌<◌, ℕ, List};
+//! Laws of the plain server and of runs: functions with no body whose contracts are theorems.
+
+ghost use Rattle.std.specs.Prelude.{◌≡◌, ℕ, List};
 ghost use Rattle.dc_plain.specs.Runs.{replies_of, tree_after_all};
 ghost use Rattle.dc_lang.specs.Commands.{Order};
-ghost use Rattle.dc_lang.specs.declared.TheConstants.{SESSIONS};
-ghost use Rattle.dc_serve.specs.Phases.{in_order};
+ghost use Rattle.dc_lang.specs.Phases.{in_order};
 ghost use Rattle.dc_serve.specs.Serving.{State, after_all, answers_in, opening, replies_in, requests_in};
-ghost use Rattle.dc_serve.specs.Turns.{IsAlone, IsRun, Turn, all_of, text_of};
+ghost use Rattle.dc_serve.specs.Turns.{OneSessionIsPlain};
 
 /// What the plain server answers to orders, one after the other, is a run of the plain tree.
 pub fn replies_are_those_of_a_run()
@@ -16,7 +17,5 @@ pub fn replies_are_those_of_a_run()
 
 /// Where one session alone has commands, each run of them tells what the plain server answers.
 pub fn one_session_is_answered_plainly()
-    ensures { (limit session : ℕ) (phases : List (List Order)) (turns : List (List Turn))
-        → session < SESSIONS → IsRun limit phases turns → IsAlone session phases
-        → text_of (all_of turns) ≡ replies_in (opening limit) (in_order phases) }
+    ensures { OneSessionIsPlain (λ phases limit. replies_in (opening limit) (in_order phases)) }
 {}

@@ -9,10 +9,7 @@ mod convert;
 mod fault;
 mod gate;
 mod laws;
-mod lines;
 mod phase;
-mod phases;
-mod read;
 mod running;
 mod serve;
 mod session;
@@ -30,8 +27,4 @@ pub use sizes::Options;
 pub const MOST_BYTES: usize = 1_048_576;
 
 #[cfg(test)]
-mod rows;
-#[cfg(test)]
 mod tests;
-#[cfg(test)]
-mod tests_of_streams;

@@ -5,9 +5,9 @@ ghost use Rattle.std.specs.Thread.{IsSync};
 ghost use Rattle.dc_cache.specs.Passes.{known, share, Fits};
 ghost use Rattle.dc_lang.specs.Commands.{meaning_of};
 ghost use Rattle.dc_serve.specs.Bytes.{IsServiceFault};
-ghost use Rattle.dc_serve.specs.Phases.{by_session, of_sessions, ordered, ordered_by};
-ghost use Rattle.dc_serve.specs.Sessions.{ObeyedBelow, SameShare, TookInSome, outcome};
-ghost use Rattle.dc_serve.specs.Threads.{Adds, GaveBack, IsHanded, book, is_order_of};
+ghost use Rattle.dc_lang.specs.Phases.{by_session, of_sessions, ordered, ordered_by};
+ghost use Rattle.dc_serve.specs.Sessions.{ObeyedBelow, SameShare, TookInSome};
+ghost use Rattle.dc_serve.specs.Threads.{Adds, GaveBack, IsHanded, book, is_order_of, outcome_of};
 ghost use Rattle.dc_table.specs.Shares.{both};
 ghost use Rattle.dc_serve.specs.declared.fault.ServeFault.TheVariants.{NoMemory};
 
@@ -181,7 +181,7 @@ fn serve_sessions<'s, E, R: Threads + Wait + Sync, G: Gate>(
     ensures took_in { TookInSome (length (of_sessions count (ordered phase.now.lines.now)))
         (book pass) (book result.0) }
     ensures ok { IfOk result.1 (λ replies. ObeyedBelow (book pass) bases count
-        (ordered phase.now.lines.now) (outcome replies.text.items replies.bases)
+        (ordered phase.now.lines.now) (outcome_of replies)
         (book result.0)) }
     ensures err { IfErr result.1 (IsServiceFault (book result.0).seen) }
 {
@@ -215,7 +215,7 @@ pub fn serve_phase<R: Threads + Wait + Sync, G: Gate>(
     ensures took_in { TookInSome (length (by_session (ordered phase.now.lines.now)))
         (book pass) (book result.0) }
     ensures ok { IfOk result.1 (λ replies. ObeyedBelow (book pass) bases SESSIONS
-        (ordered phase.now.lines.now) (outcome replies.text.items replies.bases)
+        (ordered phase.now.lines.now) (outcome_of replies)
         (book result.0)) }
     ensures err { IfErr result.1 (IsServiceFault (book result.0).seen) }
 {
@@ -230,7 +230,7 @@ pub fn serve_phase<R: Threads + Wait + Sync, G: Gate>(
             ensures took_in { TookInSome (length (by_session (ordered lines.entry.now)))
                 (book pass) (book result.0) }
             ensures ok { IfOk result.1 (λ replies. ObeyedBelow (book pass) bases SESSIONS
-                (ordered lines.entry.now) (outcome replies.text.items replies.bases)
+                (ordered lines.entry.now) (outcome_of replies)
                 (book result.0)) }
             ensures err { IfErr result.1 (IsServiceFault (book result.0).seen) }
         {

@@ -6,20 +6,19 @@ ghost use Rattle.dc_lang.specs.Commands.{meaning_of};
 ghost use Rattle.dc_serve.specs.Endings.{Answers, AnswersPlainly, EndsBy, IsInputFault, Reads, streams};
 
 use crate::bytes::read_whole;
-use crate::read::read_lines;
 use crate::serve::serve;
 use crate::{Gate, Options, ServeFault};
-use dc_lang::Line;
+use dc_lang::{Line, read_lines};
 use std::alloc::Global;
 use std::io::{Read, Write};
 use std::sync::Wait;
 use std::thread::Threads;
 
-/// What the lines of the input say. The sizes are tested first; then the input is read whole, and
-/// each of its lines. It has no handle, so it waits for nobody and is proved to return, whatever the
-/// reader does. `BadSize` where a size is wrong, `Read` where a read fails or the input is longer than
-/// 1,048,576 bytes, `BadLine` of the first line that is none of the grammar, `NoMemory` where memory
-/// was refused.
+/// What the lines of the input say. The sizes are tested first; then the input is read whole, by at most
+/// 1,048,578 reads, and each of its lines. It has no handle, so it waits for nobody and is proved to
+/// return, whatever the reader does. `BadSize` comes exactly where a size is wrong, and `BadLine` of the
+/// first line that is none of the grammar. `Read` is for a read that fails and an input of more than
+/// `MOST_BYTES` bytes, `NoMemory` for memory that was refused: no clause says when these two come.
 pub fn understand<R: Read>(
     alloc: Global,
     reader: &mut R,
@@ -35,17 +34,19 @@ pub fn understand<R: Read>(
         return Err(ServeFault::BadSize);
     }
     let input = read_whole(alloc, reader)?;
-    read_lines(alloc, &input)
+    Ok(read_lines(alloc, &input)?)
 }
 
-/// Answers the commands of the input. The sizes are tested first; then the whole input is read, at
-/// most 1,048,576 bytes by at most 1,048,578 reads, and every line of it before any is run: that is
-/// `understand`, which returns. From then on threads take a lock and are joined, and what follows is
-/// promised if they get on. In a phase each session that has lines is served in a thread of its own,
-/// which calls the gate round each command. Replies are written phase by phase, by session and line,
-/// with one flush after the last. `Read` where a read fails or the input is longer, `Write` where a
-/// write fails or takes nothing, or the flush fails; `NoMemory` only where memory or a thread was
-/// refused; `Spent` never, as no input is long enough.
+/// Answers the commands of the input, which `understand` reads. In a phase each session that has lines is
+/// served in a thread of its own, which calls the gate round each command; threads take a lock and are
+/// joined, so all that is said holds if they get on. The replies of a phase are written, by session and
+/// line, before the next phase begins, and the writer is flushed once, after the last.
+///
+/// The clauses say what is written then, whichever the answer is, and of the faults: `BadSize` comes
+/// exactly where a size is wrong, before anything is read; `BadLine` of the first bad line of an input
+/// that was read whole; `Spent` never. When `Read`, `Write` and `NoMemory` come isn't said: `Read` is
+/// for a read that fails and an input of more than `MOST_BYTES` bytes, `Write` for a write that fails or
+/// takes nothing and a flush that fails, `NoMemory` for memory or a thread that was refused.
 pub fn run<T: Threads + Wait + Sync, R: Read, W: Write, G: Gate>(
     rt: &T,
     alloc: Global,

@@ -6,18 +6,18 @@ ghost use Rattle.dc_cache.specs.Passes.{known, share, Fits};
 ghost use Rattle.dc_events.specs.Sizes.{are_right};
 ghost use Rattle.dc_lang.specs.Commands.{meaning_of};
 ghost use Rattle.dc_serve.specs.Endings.{Serves, ServesFront};
-ghost use Rattle.dc_serve.specs.Phases.{ordered, phases};
+ghost use Rattle.dc_lang.specs.Phases.{phases};
 ghost use Rattle.dc_serve.specs.Rounds.{StopsBy, Wrote};
+ghost use Rattle.dc_serve.specs.Threads.{all_ordered};
 ghost use Rattle.dc_table.specs.Shares.{first_known};
 
 use crate::bytes::write_whole;
 use crate::phase::serve_phase;
-use crate::phases::phases;
 use crate::session::Phase;
 use crate::{Gate, Options, ServeFault};
 use dc_cache::{Dcache, Pass};
 use dc_events::records_are_legal;
-use dc_lang::{Line, SESSIONS};
+use dc_lang::{Line, SESSIONS, phases};
 use std::alloc::Global;
 use std::io::Write;
 use std::sync::Wait;
@@ -39,10 +39,10 @@ fn serve_phases<R: Threads + Wait + Sync, G: Gate, W: Write>(
     requires first { known pass ≡ first_known (share pass).limit (share pass).rows }
     ensures pass { Fits cache.now result.0 }
     ensures ok { OnOk result.1 (Wrote (share pass).limit
-        (map (λ phase. ordered phase.now) phases.now)
+        (all_ordered phases.now)
         (Appends (W.contents writer.old) (W.contents writer.new)) (known result.0)) }
     ensures err { IfErr result.1 (StopsBy (share pass).limit
-        (map (λ phase. ordered phase.now) phases.now)
+        (all_ordered phases.now)
         (W.contents writer.old) (W.contents writer.new) (known result.0)) }
 {
     let mut first = 1u64;

@@ -3,18 +3,15 @@
 ghost use Rattle.std.specs.Prelude.{◌≡◌, ◌∷◌, [], OnOk, IfOk, IfErr, length};
 ghost use Rattle.dc_cache.specs.Passes.{share, Fits};
 ghost use Rattle.dc_lang.specs.Commands.{order_of};
-ghost use Rattle.dc_plain.specs.Requests.{answer_of};
 ghost use Rattle.dc_serve.specs.Bytes.{IsServiceFault};
-ghost use Rattle.dc_serve.specs.Phases.{ordered_by};
-ghost use Rattle.dc_serve.specs.Serving.{base_after};
+ghost use Rattle.dc_lang.specs.Phases.{ordered_by};
 ghost use Rattle.dc_serve.specs.Sessions.{Obeyed, RecordedSome, progress};
-ghost use Rattle.dc_serve.specs.Threads.{GaveBack, book};
+ghost use Rattle.dc_serve.specs.Threads.{GaveBack, book, progress_of};
 
 use crate::calls::answer;
 use crate::{Gate, ServeFault};
 use dc_cache::{Dcache, Pass};
-use dc_lang::{Command, Line, Verb, call, write_reply};
-use dc_plain::Reply;
+use dc_lang::{Command, Line, base_after, call, write_reply};
 use std::alloc::Global;
 use std::sync::Wait;
 use std::sync::atomic::{AtomicU64, Ordering};
@@ -39,16 +36,6 @@ pub struct Phase<'a, G: Gate> {
     pub refused: &'a AtomicU64,
 }
 
-/// Where a session starts once a command is answered.
-fn base_after(command: &Command, reply: &Reply, base: u64) -> u64
-    ensures { result ≡ base_after command.now.verb (answer_of reply.now) base }
-{
-    match (command.verb, reply) {
-        (Verb::Cd, Reply::Found(number, _)) => *number,
-        _ => base,
-    }
-}
-
 /// Answers a command, after the text.
 fn obey<R: Wait>(
     rt: &R,
@@ -62,8 +49,8 @@ fn obey<R: Wait>(
     ensures same { Fits cache.now pass.new × (share pass.new ≡ share pass.old) }
     ensures recorded { RecordedSome 1 (book pass.old) (book pass.new) }
     ensures ok { OnOk result (Obeyed (book pass.old)
-        (progress replies.old.text.items replies.old.base) (order_of command.now ∷ [])
-        (progress replies.new.text.items replies.new.base) (book pass.new)) }
+        (progress_of replies.old) (order_of command.now ∷ [])
+        (progress_of replies.new) (book pass.new)) }
     ensures err { IfErr result (IsServiceFault (book pass.new).seen) }
 {
     let stamped = answer(rt, cache, alloc, pass, &call(command, replies.base))?;
@@ -89,9 +76,9 @@ impl<'a, G: Gate> Phase<'a, G> {
         ensures recorded { RecordedSome (length (ordered_by session (line.now ∷ [])))
             (book pass.old) (book pass.new) }
         ensures ok { OnOk result (Obeyed (book pass.old)
-            (progress replies.old.text.items replies.old.base)
+            (progress_of replies.old)
             (ordered_by session (line.now ∷ []))
-            (progress replies.new.text.items replies.new.base) (book pass.new)) }
+            (progress_of replies.new) (book pass.new)) }
         ensures err { IfErr result (IsServiceFault (book pass.new).seen) }
     {
         let Line::Command(command) = line else {
@@ -120,7 +107,7 @@ impl<'a, G: Gate> Phase<'a, G> {
             (book pass.old) (book pass.new) }
         ensures ok { IfOk result (λ replies. Obeyed (book pass.old) (progress [] base)
             (ordered_by session self.now.lines.now)
-            (progress replies.text.items replies.base) (book pass.new)) }
+            (progress_of replies) (book pass.new)) }
         ensures err { IfErr result (IsServiceFault (book pass.new).seen) }
     {
         let mut replies = SessionReplies {

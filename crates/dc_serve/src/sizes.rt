@@ -1,3 +1,5 @@
+//! The sizes that a server is started with.
+
 ghost use Rattle.std.specs.Prelude.{◌≡◌};
 ghost use Rattle.dc_events.specs.Sizes.{are_right};
 

@@ -1,3 +1,5 @@
+//! The statuses that a program ends with.
+
 ghost use Rattle.std.specs.Prelude.{◌≡◌};
 ghost use Rattle.dc_serve.specs.Statuses.{status_of, words_status};
 

@@ -1,7 +1,9 @@
-use crate::{
-    FreeGate, Options, OptionsFault, ServeFault, one_session_is_answered_plainly, options,
-    replies_are_those_of_a_run, run, understand,
-};
+//! Runs over inputs and sizes of all kinds, and the words of the command line.
+
+mod rows;
+mod streams;
+
+use crate::{FreeGate, Options, OptionsFault, ServeFault, options, run, understand};
 use std::alloc::{AllocError, Global};
 use std::sync::Wait;
 use std::test::Fail;
@@ -355,10 +357,4 @@ fn lines_that_are_understood(rt: HostRuntime) {
     let lines = understand(rt.alloc(), &mut rest, USUAL);
     assert!(rt; lines.is_ok_and(|lines| lines.len() == 3));
     assert!(rt; rest.is_empty());
-}
-
-#[test]
-fn laws_can_be_called() {
-    replies_are_those_of_a_run();
-    one_session_is_answered_plainly();
 }

@@ -4,7 +4,7 @@ use Rattle.std.specs.Ordering.{nat_cmp}
 use Rattle.std.specs.FinMap as map
 use Rattle.std.proofs.lemmas.Bool.{eqb-true, eq-eqb, and_parts, or_cases, not-true}
 use Rattle.std.proofs.lemmas.Map.Steps.{length-le_from_distinct_below}
-use Rattle.dc_shrink.specs.declared.TheConstants.{MOST_PINS}
+use Rattle.dc_names.specs.declared.limits.TheConstants.{MOST_COUNT}
 use Rattle.dc_shrink.specs.Listings.{Listing, listing, is_in, without, is_used, IsListing}
 use Rattle.dc_shrink.proofs.Lists.{is_in-without, distinct_without, distinct_cons}
 use Rattle.dc_shrink.proofs.Entries.{get_inserted, get_removed}
@@ -68,7 +68,7 @@ module _ {n : ℕ} {listed : List ℕ} {pins : map.FinMap nat_cmp ℕ} (is : IsL
       both true = refl
       both false = refl
 
-      kept : (a : Bool) (o : Option ℕ) → IfSome o (λ pins. (1 ≤ pins) × (pins ≤ MOST_PINS)) → IfSome (cond a None o) (λ pins. (1 ≤ pins) × (pins ≤ MOST_PINS))
+      kept : (a : Bool) (o : Option ℕ) → IfSome o (λ pins. (1 ≤ pins) × (pins ≤ MOST_COUNT)) → IfSome (cond a None o) (λ pins. (1 ≤ pins) × (pins ≤ MOST_COUNT))
       kept true o h = tt
       kept false o h = h
 
@@ -76,7 +76,7 @@ module _ {n : ℕ} {listed : List ℕ} {pins : map.FinMap nat_cmp ℕ} (is : IsL
       left true o h = cc
       left false o h = h
 
-  pub listing_pinned : (v : ℕ) → row < n → 1 ≤ v → v ≤ MOST_PINS → IsListing (listing n (without row listed) (map.insert pins row v))
+  pub listing_pinned : (v : ℕ) → row < n → 1 ≤ v → v ≤ MOST_COUNT → IsListing (listing n (without row listed) (map.insert pins row v))
   listing_pinned v below some most = record {
     distinct = distinct_without row listed is.distinct;
     apart = λ r h. let two = and_parts (is_in listed r) (not (nat_eq row r)) (sym (is_in-without row listed r) ∙ h) in
@@ -88,7 +88,7 @@ module _ {n : ℕ} {listed : List ℕ} {pins : map.FinMap nat_cmp ℕ} (is : IsL
     ];
   }
     where
-      kept : (a : Bool) (o : Option ℕ) → IfSome o (λ pins. (1 ≤ pins) × (pins ≤ MOST_PINS)) → IfSome (cond a (Some v) o) (λ pins. (1 ≤ pins) × (pins ≤ MOST_PINS))
+      kept : (a : Bool) (o : Option ℕ) → IfSome o (λ pins. (1 ≤ pins) × (pins ≤ MOST_COUNT)) → IfSome (cond a (Some v) o) (λ pins. (1 ≤ pins) × (pins ≤ MOST_COUNT))
       kept true o h = (some, most)
       kept false o h = h
 

@@ -15,7 +15,7 @@ use Rattle.std.specs.Vec.{with_items}
 use Rattle.std.proofs.lemmas.List.{with_items_is, length-set}
 use Rattle.std.proofs.lemmas.Map.Entries.{length-keys_of}
 use Rattle.lru.specs.LruCache.{LruCache, lru_cache, promoted, put_entries}
-use Rattle.dc_shrink.specs.declared.TheConstants.{MOST_PINS}
+use Rattle.dc_names.specs.declared.limits.TheConstants.{MOST_COUNT}
 use Rattle.dc_shrink.specs.Listings.{Listing, listing, dropped, pins_of, is_in, is_used, in_bucket, without, IsListing}
 use Rattle.dc_shrink.specs.Orders.{promoted_in, IsKept, four_rows}
 use Rattle.dc_shrink.proofs.Lists.{without_absent}
@@ -54,7 +54,7 @@ module _ {n : ℕ} {listed : List ℕ} {pins : map.FinMap nat_cmp ℕ} {buckets 
   pub kept_dropped : IsKept (listing n (without row listed) (map.remove pins row)) buckets
   kept_dropped = (listing_dropped kept.0 row, orders_dropped kept.1 row)
 
-  pub kept_pinned : (v : ℕ) → row < n → 1 ≤ v → v ≤ MOST_PINS → IsKept (listing n (without row listed) (map.insert pins row v)) buckets
+  pub kept_pinned : (v : ℕ) → row < n → 1 ≤ v → v ≤ MOST_COUNT → IsKept (listing n (without row listed) (map.insert pins row v)) buckets
   kept_pinned v below some most = (listing_pinned kept.0 row v below some most, orders_dropped kept.1 row)
 
   pub unused : not (is_used (listing n listed pins) row) ≡ true → (is_in listed row ≡ false) × (map.get pins row ≡ None)

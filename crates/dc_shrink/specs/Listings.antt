@@ -5,7 +5,7 @@ use Rattle.std.specs.Option.{unwrap_or}
 use Rattle.std.specs.Ordering.{nat_cmp}
 use Rattle.std.specs.Coded.{Coded, code_by, coded×, coded_list, coded_ℕ}
 use Rattle.std.specs.FinMap as map
-use Rattle.dc_shrink.specs.declared.TheConstants.{MOST_PINS}
+use Rattle.dc_names.specs.declared.limits.TheConstants.{BUCKET_ROWS, MOST_COUNT}
 
 -- how many rows there are, the unpinned ones in use with the most recently used first, and the pins of the pinned ones
 pub record Listing : Type 0 where
@@ -32,7 +32,7 @@ abbrev pub last_of : List ℕ → Option ℕ
 last_of rows = slice_get rows (length rows - 1)
 
 abbrev pub in_bucket : ℕ → ℕ → Bool
-in_bucket bucket row = nat_eq (row / 4) bucket
+in_bucket bucket row = nat_eq (row / BUCKET_ROWS) bucket
 
 abbrev pub pins_of : Listing → ℕ → ℕ
 pins_of s row = unwrap_or (map.get s.pins row) 0
@@ -70,5 +70,5 @@ unpinned_once s row =
 pub record IsListing (s : Listing) : Type 0 where
   pub distinct : IsDistinct nat_eq s.listed
   pub apart : (row : ℕ) → is_in s.listed row ≡ true → map.get s.pins row ≡ None
-  pub pinned : (row : ℕ) → IfSome (map.get s.pins row) (λ pins. (1 ≤ pins) × (pins ≤ MOST_PINS))
+  pub pinned : (row : ℕ) → IfSome (map.get s.pins row) (λ pins. (1 ≤ pins) × (pins ≤ MOST_COUNT))
   pub within : (row : ℕ) → is_used s row ≡ true → row < s.rows

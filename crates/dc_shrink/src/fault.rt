@@ -1,3 +1,5 @@
+//! Why a row gets no further pin.
+
 ghost use Rattle.std.specs.Prelude.{◌≡◌};
 ghost use Rattle.dc_shrink.specs.declared.fault.PinFault.TheVariants.{NoMemory as NoMemoryFault};
 
@@ -10,7 +12,7 @@ use std::fmt;
 pub enum PinFault {
     /// Memory was refused.
     NoMemory,
-    /// The row has `MOST_PINS` pins.
+    /// The row has `MOST_COUNT` pins.
     Most,
 }
 

@@ -9,6 +9,3 @@ mod tests;
 
 pub use fault::PinFault;
 pub use shrinker::Shrinker;
-
-/// The most pins that a row can have: 2^62.
-pub const MOST_PINS: u64 = 1 << 62;

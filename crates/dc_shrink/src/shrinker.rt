@@ -1,13 +1,15 @@
+//! The rows in use: the list by last use and the pins.
+
 ghost use Rattle.std.specs.Prelude.{◌≡◌, ◌↔◌, ◌<◌, ◌≤◌, [], Err, IfOk, OnOk, OnErr, filter, IsTrue, not, true, false};
 ghost use Rattle.std.specs.FinMap as map;
-ghost use Rattle.dc_shrink.specs.declared.TheConstants.{MOST_PINS};
+ghost use Rattle.dc_names.specs.declared.limits.TheConstants.{MOST_COUNT};
 ghost use Rattle.dc_shrink.specs.declared.fault.PinFault.TheVariants as fault;
 ghost use Rattle.dc_shrink.specs.Listings.{listing, added, touched, with_pins, pinned_once, unpinned_once, dropped, is_in, is_used, pins_of, last_of, in_bucket, IsListing};
 ghost use Rattle.dc_shrink.specs.Uses.{KeepsUse, SetsUse, UsesNone};
 
+use crate::PinFault;
 use crate::bucket::{Bucket, buckets_of, promote};
-use crate::{MOST_PINS, PinFault};
-use dc_names::NoMemory;
+use dc_names::{MOST_COUNT, NoMemory};
 use lru::LruCache;
 use std::alloc::Global;
 use std::collections::HashMap;
@@ -16,7 +18,7 @@ use std::num::NonZeroUsize;
 
 /// The rows in use: the unpinned ones by last use, and the pins of the others.
 ///
-/// A row of a pinned dentry can't be emptied. Rows count from 0, four to a bucket.
+/// A row of a pinned dentry can't be emptied. Rows count from 0, `BUCKET_ROWS` to a bucket.
 #[derive(Drop)]
 pub struct Shrinker {
     listed: LruCache<u64, ()>,
@@ -72,6 +74,9 @@ impl Shrinker {
     }
 
     /// Makes a listed row the most recently used.
+    ///
+    /// No walk calls it: a walk without the lock can't, and one with the lock has pinned the row. So the row
+    /// that was least recently used is the one that was filled or lost its last pin before all others.
     pub fn touch(&mut self, row: u64)
         requires { IsTrue (is_in self.old.listed row) }
         ensures touched { self.new ≡ touched self.old row }
@@ -85,13 +90,13 @@ impl Shrinker {
     pub fn pin(&mut self, row: u64) -> Result<(), PinFault>
         requires { IsTrue (is_used self.old row) }
         ensures pinned { OnOk result (self.new ≡ pinned_once self.old row) }
-        ensures most { (result ≡ Err fault.Most) ↔ (pins_of self.old row ≡ MOST_PINS) }
+        ensures most { (result ≡ Err fault.Most) ↔ (pins_of self.old row ≡ MOST_COUNT) }
         ensures no_memory { result ≡ Err fault.NoMemory → pins_of self.old row ≡ 0 }
         ensures err { OnErr result (self.new ≡ self.old) }
         ensures same_use { KeepsUse self.old self.new }
     {
         let pins = self.pins(row);
-        if pins == MOST_PINS {
+        if pins == MOST_COUNT {
             return Err(PinFault::Most);
         }
         Ok(self.set_pins(row, pins + 1)?)
@@ -119,7 +124,7 @@ impl Shrinker {
     /// Makes a row in use have so many pins. `NoMemory` comes only where it had none.
     fn set_pins(&mut self, row: u64, pins: u64) -> Result<(), NoMemory>
         requires used { IsTrue (is_used self.old row) }
-        requires limits { (1 ≤ pins) × (pins ≤ MOST_PINS) }
+        requires limits { (1 ≤ pins) × (pins ≤ MOST_COUNT) }
         ensures set { OnOk result (self.new ≡ with_pins self.old row pins) }
         ensures err { OnErr result (self.new ≡ self.old) }
         ensures first { OnErr result (pins_of self.old row ≡ 0) }
@@ -131,6 +136,7 @@ impl Shrinker {
     }
 
     /// How many pins a row has: 0 where it has none.
+    #[must_use]
     pub fn pins(&self, row: u64) -> u64
         ensures pins { result ≡ pins_of self.now row }
         ensures valid { IsListing self.now }
@@ -148,14 +154,16 @@ impl Shrinker {
     }
 
     /// The unpinned row in use that was least recently used.
+    #[must_use]
     pub fn victim(&self) -> Option<u64>
         ensures { result ≡ last_of self.now.listed }
     {
         self.listed.peek_lru().map(|(row, _)| *row)
     }
 
-    /// The unpinned row in use that was least recently used, of the rows `4 * bucket` to
-    /// `4 * bucket + 3`.
+    /// The unpinned row in use that was least recently used, of the rows of a
+    /// bucket.
+    #[must_use]
     pub fn victim_of(&self, bucket: u64) -> Option<u64>
         ensures victim { result ≡ last_of (filter (in_bucket bucket) self.now.listed) }
         ensures valid { IsListing self.now }

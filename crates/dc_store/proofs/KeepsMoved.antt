@@ -31,7 +31,7 @@ still_some f true (Some i) h = refl
 still_some f false (Some i) h = refl
 
 -- an inode is there as another one changes
-still_there : (n : ℕ) (f : Inode → Inode) (inodes : List (ℕ × Inode)) (q : ℕ) → IsTrue (is_some (inode_at inodes q)) → IsTrue (is_some (inode_at (changed n f inodes) q))
+pub still_there : (n : ℕ) (f : Inode → Inode) (inodes : List (ℕ × Inode)) (q : ℕ) → IsTrue (is_some (inode_at inodes q)) → IsTrue (is_some (inode_at (changed n f inodes) q))
 still_there n f inodes q h = ap is_some (found_changed n f inodes q) ∙ still_some f (eq_by_cmp nat_cmp q n) (inode_at inodes q) h
 
 module _ {inodes : List (ℕ × Inode)} {next : ℕ} {t : Tree} (now : Keeps inodes next t) where

@@ -25,4 +25,6 @@ pub mod NameCounts
 pub mod Lost
 pub mod Keeps
 pub mod KeepsMoved
+pub mod Swaps
+pub mod KeepsSwapped
 pub mod KeepsRead

@@ -8,7 +8,7 @@ use Rattle.std.specs.Ordering.{nat_cmp, eq_by_cmp}
 use Rattle.std.proofs.lemmas.Bool.Decides.{nat_tests}
 use Rattle.dc_plain.specs.Conditions.{IsFree, HasPath}
 use Rattle.dc_plain.specs.Effects.{with_new}
-use Rattle.dc_plain.specs.declared.TheConstants.{NUMBER_LIMIT}
+use Rattle.dc_names.specs.declared.limits.TheConstants.{NUMBER_LIMIT}
 use Rattle.dc_plain.specs.Trees.{Tree, Spot, spot_cmp, holder_of}
 use Rattle.dc_plain.specs.Trees.Inode.{Directory}
 use Rattle.dc_store.specs.Laws.{TreeLaws}

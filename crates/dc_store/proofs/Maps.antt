@@ -1,13 +1,13 @@
 -- An ordered map, seen as a list of entries under other keys: look-up, insert and remove.
-use Rattle.std.proofs.Common.{◌≡◌, List, [], ◌∷◌, true, false, cond, Some, None, map, option_map, refl, ap, sym, ◌∙◌, T, Bool, not, ◌&&◌}
+use Rattle.std.proofs.Common.{◌≡◌, ◌+◌, List, [], ◌∷◌, true, false, cond, Some, None, is_some, length, arith, map, option_map, refl, ap, sym, ◌∙◌, T, Bool, not, ◌&&◌}
 use Rattle.std.specs.BTreeMap.{is_at, insert_entry}
 use Rattle.std.specs.Cmp.{IsTotalOrder, tied_itself}
 use Rattle.std.specs.FinMap.Entries.{put, by_order, find-put}
 use Rattle.std.specs.FinMap.Entries.{find as lookup_entry}
-use Rattle.std.specs.FinMap.Entries.{where_key, below_all, is_sorted}
+use Rattle.std.specs.FinMap.Entries.{where_key, below_all, is_sorted, length-put}
 use Rattle.std.specs.Ordering.{is_lt}
 use Rattle.std.specs.List.{AllByRecursion}
-use Rattle.std.specs.Map.{lookup, remove_entry}
+use Rattle.std.specs.Map.{lookup, remove_entry, set_value}
 use Rattle.std.specs.declared.cmp.Ordering.{Ordering}
 use Rattle.std.specs.declared.cmp.Ordering.TheVariants.{Less, Equal, Greater}
 use Rattle.std.specs.Ordering.{match_ordering, eq_by_cmp, is_eq}
@@ -128,6 +128,34 @@ module _ {K L X Y : Type 0} (S : L → L → Ordering) (total : IsTotalOrder S) 
         | true ↦ λ is. sym (none_taken q (key e.0) (equal_of (S q (key e.0)) is) (map (shown S key value) es) parts.0)
         | false ↦ λ is. ap (λ l. shown S key value e ∷ l) (remove_shown compare q es agree.1 parts.1)
       ] refl
+
+module _ {K L X Y : Type 0} (S : L → L → Ordering) (total : IsTotalOrder S) (key : K → L) (value : X → Y) where
+  -- a key that stands among keys in order isn't below the first
+  not_below : (q : L) (old : Y) (f : L × Y) (fs : List (L × Y)) → T (is_sorted S (f ∷ fs)) → S q f.0 ≡ Less → lookup_entry S q (f ∷ fs) ≡ Some old → ⊥
+  not_below q old f fs sorted less found =
+      let counted : length (by_order Less ((q, old) ∷ f ∷ fs) ((f.0, old) ∷ fs) (f ∷ put S q old fs)) ≡ length (f ∷ fs) =
+      ap (λ r. length (by_order r ((q, old) ∷ f ∷ fs) ((f.0, old) ∷ fs) (f ∷ put S q old fs))) (sym less) ∙ length-put S total q old (f ∷ fs) sorted
+      ∙ ap (λ o. cond (is_some o) (length (f ∷ fs)) (length (f ∷ fs) + 1)) found in
+      absurd (omega arith)
+
+  -- another value under a key that is there is that value put in
+  pub set_put : (compare : K → Ordering) (q : L) (v : X) (old : Y) (es : List (K × X)) → Agree {X = X} S key value compare q es → T (is_sorted S (map (shown S key value) es)) → lookup_entry S q (map (shown S key value) es) ≡ Some old
+      → map (shown S key value) (set_value (is_at compare) es v) ≡ put S q (value v) (map (shown S key value) es)
+  set_put compare q v old [] agree sorted found = cc
+  set_put compare q v old (e ∷ es) agree sorted found =
+      let parts = and_parts (below_all S (key e.0) (map (shown S key value) es)) (is_sorted S (map (shown S key value) es)) sorted in
+      ap (λ o. map (shown S key value) (cond (is_eq o) ((e.0, v) ∷ es) (e ∷ set_value (is_at compare) es v))) agree.0
+      ∙ elim (S q (key e.0)) as (λ o. S q (key e.0) ≡ o → cond (is_eq o) (Some (value e.1)) (lookup_entry S q (map (shown S key value) es)) ≡ Some old
+      → map (shown S key value) (cond (is_eq o) ((e.0, v) ∷ es) (e ∷ set_value (is_at compare) es v))
+      ≡ by_order o ((q, value v) ∷ shown S key value e ∷ map (shown S key value) es) ((key e.0, value v) ∷ map (shown S key value) es) (shown S key value e ∷ put S q (value v) (map (shown S key value) es))) [
+        | Less ↦ λ less here. absurd (not_below q old (shown S key value e) (map (shown S key value) es) sorted less found)
+        | Equal ↦ λ equal here. refl
+        | Greater ↦ λ greater here. ap (λ l. shown S key value e ∷ l) (set_put compare q v old es agree.1 parts.1 here)
+      ] refl found
+
+pub keys_set : {K X : Type 0} (P : K → Type 0) (test : K → Bool) (v : X) (es : List (K × X)) → AllByRecursion (λ e. P e.0) es → AllByRecursion (λ e. P e.0) (set_value test es v)
+keys_set P test v [] all = tt
+keys_set P test v (e ∷ es) all = elim (test e.0) as (λ b. AllByRecursion (λ x. P x.0) (cond b ((e.0, v) ∷ es) (e ∷ set_value test es v))) [ true ↦ all | false ↦ (all.0, keys_set P test v es all.1) ]
 
 pub keys_remove : {K X : Type 0} (P : K → Type 0) (test : K → Bool) (es : List (K × X)) → AllByRecursion (λ e. P e.0) es → AllByRecursion (λ e. P e.0) (remove_entry test es)
 keys_remove P test [] all = tt

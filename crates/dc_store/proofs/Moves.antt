@@ -22,7 +22,7 @@ use Rattle.dc_store.proofs.Stores.{Shows, lives_as}
 use Rattle.dc_store.proofs.Decides.{to_test, from_test, decided, decided_not, other_test, some_in}
 
 -- a directory with another parent
-new_parent : (to up : ℕ) (o : Option rust_node.Node) → option_map (with_parent to) o ≡ Some (kinds.Dir up) → (up ≡ to) × (old : ℕ) × (o ≡ Some (kinds.Dir old))
+pub new_parent : (to up : ℕ) (o : Option rust_node.Node) → option_map (with_parent to) o ≡ Some (kinds.Dir up) → (up ≡ to) × (old : ℕ) × (o ≡ Some (kinds.Dir old))
 new_parent to up None e = absurd cc
 new_parent to up (Some (kinds.Dir old)) e = (cc, old, refl)
 new_parent to up (Some kinds.File) e = absurd cc

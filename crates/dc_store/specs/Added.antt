@@ -4,7 +4,7 @@ use Rattle.dc_plain.specs.Conditions.{CanBeNamed}
 use Rattle.dc_plain.specs.Trees.{Tree}
 use Rattle.dc_plain.specs.Trees.Inode.{Directory, Regular, Symbolic}
 use Rattle.dc_plain.specs.Effects.{with_new, with_entry_for}
-use Rattle.dc_plain.specs.declared.TheConstants.{NUMBER_LIMIT}
+use Rattle.dc_names.specs.declared.limits.TheConstants.{NUMBER_LIMIT}
 use Rattle.dc_store.specs.declared.store.New as rust_new
 use Rattle.dc_store.specs.declared.store.New.TheVariants as news
 

@@ -1,4 +1,6 @@
-ghost use Rattle.std.specs.Prelude.{◌≡◌, ℕ, List, [], ◌==◌, ◌++◌, length, map, IfOk, OnOk, OnErr};
+//! Entries in one ordered map, under their directories and names.
+
+ghost use Rattle.std.specs.Prelude.{◌≡◌, ℕ, List, [], ◌==◌, ◌++◌, length, map, IsSome, IfOk, OnOk, OnErr};
 ghost use Rattle.std.specs.FinMap.Entries.{put};
 ghost use Rattle.std.specs.FinMap.Entries.{find as lookup};
 ghost use Rattle.std.specs.Option.{option_to_list};
@@ -59,6 +61,19 @@ impl Entries {
     {
         let key = EntryBytes::new(dir, name).to_vec(alloc)?;
         Ok(self.by_key.insert(key, number)?)
+    }
+
+    /// Lets an entry that is there lead elsewhere. It takes no memory.
+    pub fn redirect(&mut self, dir: u64, name: Name<'_>, number: u64)
+        requires { IsSome (lookup spot_cmp (spot_at dir name.bytes.now) self.old) }
+        ensures { self.new ≡ put spot_cmp (spot_at dir name.entry.bytes.now) number self.old }
+    {
+        let key = EntryBytes::new(dir, name);
+        // The caller knows that the entry is there.
+        let Some(target) = self.by_key.get_mut(key.as_slice()) else {
+            unreachable!();
+        };
+        *target = number;
     }
 
     /// Takes an entry out, and answers where it led.

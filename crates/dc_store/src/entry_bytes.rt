@@ -1,3 +1,5 @@
+//! The bytes that an entry is kept under.
+
 ghost use Rattle.std.specs.Prelude.{◌≡◌, ℕ, ◌+◌, ◌≤◌, List, ◌++◌, take, drop, length, is_some, option_map, IfOk};
 ghost use Rattle.dc_store.specs.Keys.{key_of, name_held};
 ghost use Rattle.dc_plain.specs.Spots.{spot_at};

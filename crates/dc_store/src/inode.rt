@@ -1,3 +1,5 @@
+//! An inode of the slab store.
+
 use crate::names::Names;
 use crate::node::Node;
 

@@ -1,3 +1,5 @@
+//! Inodes in a slab, found by their numbers.
+
 ghost use Rattle.std.specs.Prelude.{◌≡◌, ℕ, ◌<◌, ◌^◌, List, [], length, Some, None, IsSome, IsTrue, IfOk, OnOk, OnErr, IfSome};
 ghost use Rattle.std.specs.FinMap.Entries.{put, is_sorted};
 ghost use Rattle.std.specs.Ordering.{nat_cmp};
@@ -122,6 +124,16 @@ impl Inodes {
         match self.get_mut(dir) {
             Some(inode) => inode.names.insert(alloc, name, number),
             None => Ok(None),
+        }
+    }
+
+    /// Lets a name that is there lead elsewhere. It takes no memory.
+    pub fn redirect(&mut self, dir: u64, name: Name<'_>, number: u64)
+        requires { IsSome (led_to self.old dir name.bytes.now) }
+        ensures { self.new ≡ changed dir (with_name name.entry.bytes.now number) self.old }
+    {
+        if let Some(inode) = self.get_mut(dir) {
+            inode.names.redirect(name, number);
         }
     }
 

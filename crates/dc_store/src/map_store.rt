@@ -1,3 +1,5 @@
+//! The store in two ordered maps, which tests compare with the other one.
+
 ghost use Rattle.std.specs.Prelude.{◌≡◌, ◌<◌, None, option_map, IfSome, IfOk, OnOk, OnErr, IsTrue};
 ghost use Rattle.dc_plain.specs.Effects.{with_new, with_entry_for};
 ghost use Rattle.dc_plain.specs.IsWellFormed.{IsWellFormed};
@@ -6,7 +8,7 @@ ghost use Rattle.dc_plain.specs.Conditions.{CanBeNamed};
 ghost use Rattle.dc_store.specs.Maps.{tree_in, node_shown, IsNodeAt, CanKeep, IsSound};
 ghost use Rattle.dc_store.specs.Moved.{CanMove, Moves};
 ghost use Rattle.dc_plain.specs.Spots.{spot_at, spot_shown};
-ghost use Rattle.dc_plain.specs.declared.TheConstants.{NUMBER_LIMIT};
+ghost use Rattle.dc_names.specs.declared.limits.TheConstants.{NUMBER_LIMIT};
 
 use crate::entries::Entries;
 use crate::laws::trees_keep_their_laws;
@@ -185,5 +187,21 @@ impl Store for MapStore {
 
     fn move_entry(&mut self, alloc: Global, old: Spot<'_>, new: Spot<'_>) -> Result<(), NoMemory> {
         self.relocate(alloc, old, new)
+    }
+
+    fn swap_entries(&mut self, a: Spot<'_>, b: Spot<'_>) {
+        trees_keep_their_laws();
+        // Entries that aren't there could not swap; the caller knows that these are.
+        let Some(first) = self.entries.get(a.dir, a.name) else {
+            unreachable!();
+        };
+        let Some(second) = self.entries.get(b.dir, b.name) else {
+            unreachable!();
+        };
+        self.entries.redirect(a.dir, a.name, second);
+        self.entries.redirect(b.dir, b.name, first);
+        // A directory whose dot-dot still led to its old parent would not be found from there.
+        set_parent(&mut self.nodes, first, b.dir);
+        set_parent(&mut self.nodes, second, a.dir);
     }
 }

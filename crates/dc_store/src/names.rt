@@ -1,4 +1,6 @@
-ghost use Rattle.std.specs.Prelude.{◌≡◌, ℕ, List, [], length, map, IsTrue, IfOk, OnOk, OnErr};
+//! The names in one directory.
+
+ghost use Rattle.std.specs.Prelude.{◌≡◌, ℕ, List, [], length, map, IsSome, IsTrue, IfOk, OnOk, OnErr};
 ghost use Rattle.std.specs.FinMap.Entries.{put, is_sorted};
 ghost use Rattle.std.specs.FinMap.Entries.{find as lookup};
 ghost use Rattle.dc_store.specs.Names.{name_cmp, name_shown, without_name};
@@ -52,6 +54,18 @@ impl Names {
     {
         let name = name.bytes().to_vec(alloc)?;
         Ok(self.by_name.insert(name, number)?)
+    }
+
+    /// Lets a name that is there lead elsewhere. It takes no memory.
+    pub fn redirect(&mut self, name: Name<'_>, number: u64)
+        requires { IsSome (lookup name_cmp name.bytes.now self.old) }
+        ensures { self.new ≡ put name_cmp name.entry.bytes.now number self.old }
+    {
+        // The caller knows that the name is there.
+        let Some(target) = self.by_name.get_mut(name.bytes()) else {
+            unreachable!();
+        };
+        *target = number;
     }
 
     /// Takes a name out, and answers where it led.

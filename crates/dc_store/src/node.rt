@@ -1,3 +1,5 @@
+//! What a store keeps under a number: the kind, with a parent or a text.
+
 ghost use Rattle.std.specs.Prelude.{◌≡◌, ℕ, ◌==◌, map, option_map, Some, if◌then◌else◌};
 ghost use Rattle.dc_plain.specs.Trees.{kind_of, text_in};
 ghost use Rattle.dc_store.specs.Maps.{inode_shown, node_at, node_shown, nodes_after, parent_kept, with_parent};

@@ -1,3 +1,5 @@
+//! The store that the cache holds: inodes in a slab, and the names of each directory in a map.
+
 ghost use Rattle.std.specs.Prelude.{◌≡◌, ◌<◌, [], None, option_map, IfSome, IfNone, IfOk, OnOk, OnErr, IsTrue};
 ghost use Rattle.dc_plain.specs.Effects.{with_new, with_entry_for};
 ghost use Rattle.dc_plain.specs.IsWellFormed.{IsWellFormed};
@@ -8,7 +10,7 @@ ghost use Rattle.dc_store.specs.Maps.{node_shown, CanKeep};
 ghost use Rattle.dc_store.specs.Moved.{CanMove, Moves};
 ghost use Rattle.dc_store.specs.Slabs.{IsTied, IsInodeAt};
 ghost use Rattle.dc_plain.specs.Spots.{spot_at, spot_shown};
-ghost use Rattle.dc_plain.specs.declared.TheConstants.{NUMBER_LIMIT};
+ghost use Rattle.dc_names.specs.declared.limits.TheConstants.{NUMBER_LIMIT};
 
 use crate::inode::Inode;
 use crate::inodes::Inodes;
@@ -201,5 +203,21 @@ impl Store for SlabStore {
 
     fn move_entry(&mut self, alloc: Global, old: Spot<'_>, new: Spot<'_>) -> Result<(), NoMemory> {
         self.relocate(alloc, old, new)
+    }
+
+    fn swap_entries(&mut self, a: Spot<'_>, b: Spot<'_>) {
+        trees_keep_their_laws();
+        // Entries that aren't there could not swap; the caller knows that these are.
+        let Some(first) = self.find(a.dir, a.name) else {
+            unreachable!();
+        };
+        let Some(second) = self.find(b.dir, b.name) else {
+            unreachable!();
+        };
+        self.inodes.redirect(a.dir, a.name, second);
+        self.inodes.redirect(b.dir, b.name, first);
+        // A directory whose dot-dot still led to its old parent would not be found from there.
+        self.inodes.set_parent(first, b.dir);
+        self.inodes.set_parent(second, a.dir);
     }
 }

@@ -1,3 +1,5 @@
+//! What a store of inodes and entries does, as calls on a plain tree.
+
 ghost use Rattle.std.specs.Prelude.{◌≡◌, ℕ, None, length, map, option_map, IsTrue, IfSome, IfOk, OnOk, OnErr};
 ghost use Rattle.dc_names.specs.Paths.{fault_of};
 ghost use Rattle.dc_plain.specs.Facts.Label.{Parent};
@@ -7,6 +9,7 @@ ghost use Rattle.dc_store.specs.Added.{CanAdd, tree_added, number_added};
 ghost use Rattle.dc_store.specs.Counts.{count_of};
 ghost use Rattle.dc_store.specs.Dropped.{CanDrop, Drops};
 ghost use Rattle.dc_store.specs.Moved.{CanMove, Moves};
+ghost use Rattle.dc_store.specs.Swapped.{CanSwap, Swaps};
 ghost use Rattle.dc_plain.specs.Spots.{spot_at, spot_shown};
 
 use dc_names::{Kind, Name, NoMemory, PathText};
@@ -110,4 +113,10 @@ pub trait Store {
         ensures ok { OnOk result
             (Moves (tree self.old) (spot_shown old.entry) (spot_shown new.entry) (tree self.new)) }
         ensures err { OnErr result (tree self.new ≡ tree self.old) };
+
+    /// Lets two entries that are there, and lead to two inodes, swap what they lead to: inodes of any
+    /// kinds, of which neither is a directory above the other's name. It takes no memory.
+    fn swap_entries(&mut self, a: Spot<'_>, b: Spot<'_>)
+        requires { CanSwap (tree self.old) (spot_shown a) (spot_shown b) }
+        ensures { Swaps (tree self.old) (spot_shown a.entry) (spot_shown b.entry) (tree self.new) };
 }

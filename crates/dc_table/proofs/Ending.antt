@@ -22,10 +22,11 @@ use Rattle.dc_events.specs.Passes.{newcomer, joined_with}
 use Rattle.dc_events.specs.Laws.{PassesKeepTheRule, NewTablesHaveTheRule, RecordsAreLegal}
 use Rattle.dc_plain.specs.Requests.{Request}
 use Rattle.dc_table.specs.Shares.{Known, Shares, IsSpent, IsWhole, first_known, kept_half, new_half, both, spent}
-use Rattle.dc_table.specs.Rows.{OfNone, At, FitsSlot}
-use Rattle.dc_table.specs.Kept.{HomeFits, Kept, known_of, knowns, views_of, sheet_of, first_sheet}
+use Rattle.dc_table.specs.Rows.{OfNone, At, FitsSlot, is_retired}
+use Rattle.dc_table.specs.Kept.{HomeFits, IsNew, Kept, known_of, knowns, views_of, sheet_of, first_sheet}
 use Rattle.dc_table.specs.Ends.{Ends}
-use Rattle.dc_table.specs.declared.table.Value.{Value}
+use Rattle.dc_table.specs.Boxes.{Boxed}
+use Rattle.dc_table.specs.declared.table.Guarded.{Guarded}
 use Rattle.dc_table.specs.declared.table.Limits.{Limits}
 use Rattle.dc_table.specs.declared.sheet.Sheet.{Sheet}
 use Rattle.dc_table.proofs.Totals.{total_map, total_only}
@@ -85,12 +86,12 @@ in_cons K y ys first rest zero x e = subst K (some-injective y x e) first
 in_cons K y ys first rest (suc i) x e = rest i x e
 
 -- the last state of a table that was closed with this pass
-pub ends : RecordsAreLegal → (k : Limits) (id : ℕ) (v : Sheet) (ws : List ℕ) (xs : List (Maybe Value)) → Final (Seen (Kept k) id v) ws xs → (lock : ℕ) (x : Maybe Value) → get_elem? ws 1 ≡ some lock → get_elem? xs 0 ≡ some x
-    → (lock ≡ 0 → IfSome x (λ y. Ends k.max_inodes (known_of v) y.store y.clock) × IsSome x) × (IsWhole (known_of v).share → (known_of v).view.hold.holds ≡ false → lock ≡ 0)
+pub ends : RecordsAreLegal → (k : Limits) (id : ℕ) (v : Sheet) (ws : List ℕ) (xs : List (Maybe Boxed)) → Final (Seen (Kept k) id v) ws xs → (lock : ℕ) (x : Maybe Boxed) → get_elem? ws 1 ≡ some lock → get_elem? xs 0 ≡ some x
+    → (lock ≡ 0 → IfSome x (λ y. Ends k.max_inodes (known_of v) y.value.store y.value.clock) × IsSome x) × (IsWhole (known_of v).share → (known_of v).view.hold.holds ≡ false → lock ≡ 0)
 ends legal k id v ws xs f lock x at_lock at_x = let s = f.0 in let h = f.1.0.0 in let K = f.1.0.1 in let R = K.rule in let mine = known_of v in let at = known_there s.views id v f.1.1 in let F = R.fits id mine.view (view_there s.views id v f.1.1) in
     let B = F.book in let word : get_or s.words 1 0 ≡ lock = ap (λ (l : List ℕ). get_or l 1 0) f.2 ∙ got ws 1 lock at_lock in (
       (λ free. let home = K.home.0 (word ∙ free) in let e : Some home.0 ≡ x = some-injective (Some home.0) x (sym (f.4 0 (Some home.0) (ap (λ hs. get_elem? hs 0) home.1)) ∙ at_x) in
-          subst (λ (y : Maybe Value). IfSome y (λ z. Ends k.max_inodes mine z.store z.clock) × IsSome y) e (
+          subst (λ (y : Maybe Boxed). IfSome y (λ z. Ends k.max_inodes mine z.value.store z.value.clock) × IsSome y) e (
             record {
               history = h;
               tree_is = home.2.tree;
@@ -105,6 +106,13 @@ ends legal k id v ws xs f lock x at_lock at_x = let s = f.0 in let h = f.1.0.0 i
           )),
       λ w free. sym word ∙ whole_free R K.shares id mine at w free,
     )
+
+-- what a box of the slot gives
+pub boxed_ends : (o : Maybe Boxed) (x : Boxed) (y : Guarded) (m n : ℕ) (k : Known) → IfSome o (λ z. Ends m k z.value.store z.value.clock) → o ≡ Some x → y ≡ x.value → m ≡ n → Ends n k y.store y.clock
+boxed_ends o x y m n k all is same limit = subst (λ (z : Guarded). Ends n k z.store z.clock) (sym same) (subst (λ a. Ends a k x.value.store x.value.clock) limit (subst (λ (z : Maybe Boxed). IfSome z (λ w. Ends m k w.value.store w.value.clock)) is all))
+
+pub new_in_box : (x : Boxed) (y : Guarded) (rows limit : ℕ) → IsNew y rows limit → x.value ≡ y → IsNew x.value rows limit
+new_in_box x y rows limit new same = subst (λ (z : Guarded). IsNew z rows limit) (sym same) new
 
 only_first : (limit rows : ℕ) (So : Known → Type 0) → So (first_known limit rows) → (id : ℕ) (k : Known) → get_elem? (first_known limit rows ∷ []) id ≡ some k → So k
 only_first limit rows So first zero k e = subst So (some-injective _ k e) first
@@ -133,14 +141,14 @@ opening_row : Spells EMPTY_ROW None → (rows row : ℕ) (slots : List Slot) →
 opening_row empty rows row slots free = let z : count (opening_words rows) row ≡ 0 = zero_word rows (base_of row) in record {
   odd = λ key e never. absurd never;
   even = λ none. omega arith;
-  fits = λ even. subst (FitsSlot empty_tree (row_words (opening_words rows) row)) (sym free)
-      (spells_too (opening_words rows) EMPTY_ROW row None empty (λ i some few. zero_word rows (base_of row + i) ∙ sym (zeros ROW_WORDS i)));
-  low = inl (omega arith);
+  fits = λ even. ∣ subst (FitsSlot empty_tree (row_words (opening_words rows) row)) (sym free)
+      (spells_too (opening_words rows) EMPTY_ROW row None empty (λ i some few. zero_word rows (base_of row + i) ∙ sym (zeros ROW_WORDS i))) ∣₁;
+  ended = (λ gone. absurd (true≢false (sym gone ∙ ap is_retired free)), λ full. absurd (omega arith));
 }
 
 -- a table of empty rows with the root directory alone
-pub opening_kept : NewTablesHaveTheRule → Spells EMPTY_ROW None → (k : Limits) (ws : List ℕ) (x : Value) (xs : List (Maybe Value)) → ws ≡ opening_words k.rows → xs ≡ Some x ∷ [] → x.store ≡ empty_tree → x.clock ≡ 0 → x.max_inodes ≡ k.max_inodes
-    → length x.index ≡ k.rows → ((row : ℕ) → slot_of x.index row ≡ Free) → x.shrinker.rows ≡ k.rows → ((row : ℕ) → is_used x.shrinker row ≡ false) → Kept k (opening ws xs (first_sheet k))
+pub opening_kept : NewTablesHaveTheRule → Spells EMPTY_ROW None → (k : Limits) (ws : List ℕ) (x : Boxed) (xs : List (Maybe Boxed)) → ws ≡ opening_words k.rows → xs ≡ Some x ∷ [] → x.value.store ≡ empty_tree → x.value.clock ≡ 0 → x.value.max_inodes ≡ k.max_inodes
+    → length x.value.index ≡ k.rows → ((row : ℕ) → slot_of x.value.index row ≡ Free) → x.value.shrinker.rows ≡ k.rows → ((row : ℕ) → is_used x.value.shrinker row ≡ false) → Kept k (opening ws xs (first_sheet k))
 opening_kept law empty k ws x xs is one store clock limit slots free rows unused = let words : List ℕ = opening_words k.rows in let R = law k.max_inodes k.rows 1 in (
   [],
   record {
@@ -150,13 +158,13 @@ opening_kept law empty k ws x xs is one store clock limit slots free rows unused
       (λ _. (
         x,
         ap (map some) one,
-        subst (λ w. HomeFits k.max_inodes k.rows w [] x) (sym is) record {
+        subst (λ w. HomeFits k.max_inodes k.rows w [] x.value) (sym is) record {
           tree = store;
           clock = clock;
           same_limit = limit;
           rest = record {
             fit = record { indexed = slots; listed = rows; agree = λ row. ap has_key (free row) ∙ sym (unused row); size = R.wide };
-            rest = λ row inside. subst (λ t. At t OfNone (row_words words row) (slot_of x.index row)) (sym store) (opening_row empty k.rows row x.index (free row));
+            rest = λ row inside. subst (λ t. At t OfNone (row_words words row) (slot_of x.value.index row)) (sym store) (opening_row empty k.rows row x.value.index (free row));
           };
         },
       )),

@@ -14,13 +14,14 @@ use Rattle.dc_events.specs.Rule.{Rule, AllEven}
 use Rattle.dc_table.specs.Shares.{Known, Shares}
 use Rattle.dc_table.specs.Rows.{At, OfNone, Rest}
 use Rattle.dc_table.specs.Kept.{HomeFits, Home, KeptAt, Kept, known_of, knowns, views_of, sheet_of}
-use Rattle.dc_table.specs.declared.table.Value.{Value}
+use Rattle.dc_table.specs.Boxes.{Boxed}
+use Rattle.dc_table.specs.declared.table.Guarded.{Guarded}
 use Rattle.dc_table.specs.declared.table.Limits.{Limits}
 use Rattle.dc_table.specs.declared.sheet.Sheet.{Sheet}
 use Rattle.dc_table.proofs.Cells.{row_low}
 
 abbrev pub Seen : Type 0
-Seen = State (Maybe Value) Sheet
+Seen = State (Maybe Boxed) Sheet
 
 pub known_there : (sheets : List Sheet) (id : ℕ) (x : Sheet) → get_elem? sheets id ≡ some x → get_elem? (knowns sheets) id ≡ some (known_of x)
 known_there sheets id x at = at_map known_of sheets id x at
@@ -43,22 +44,22 @@ views_set passes id l = map-set (λ (k : Known). k.view) passes id l
 at_low : (t : Tree) (slots : List Slot) (words : List ℕ) (i x row : ℕ) → i < 2 → At t OfNone (row_words words row) (slot_of slots row) → At t OfNone (row_words (set words i x) row) (slot_of slots row)
 at_low t slots words i x row low a = subst (λ (ws : List ℕ). At t OfNone ws (slot_of slots row)) (sym (row_low words i x row low)) a
 
-pub rest_low : (t : Tree) (rows : ℕ) (words : List ℕ) (v : Value) (i x : ℕ) → i < 2 → Rest t rows words v.index v.shrinker → Rest t rows (set words i x) v.index v.shrinker
+pub rest_low : (t : Tree) (rows : ℕ) (words : List ℕ) (v : Guarded) (i x : ℕ) → i < 2 → Rest t rows words v.index v.shrinker → Rest t rows (set words i x) v.index v.shrinker
 rest_low t rows words v i x low r = record {
   fit = record { indexed = r.fit.indexed; listed = r.fit.listed; agree = r.fit.agree; size = length-set words i x ∙ r.fit.size };
   rest = λ row inside. at_low t v.index words i x row low (r.rest row inside);
 }
 
-pub home_low : (limit rows : ℕ) (words : List ℕ) (hist : List Request) (v : Value) (i x : ℕ) → i < 2 → HomeFits limit rows words hist v → HomeFits limit rows (set words i x) hist v
+pub home_low : (limit rows : ℕ) (words : List ℕ) (hist : List Request) (v : Guarded) (i x : ℕ) → i < 2 → HomeFits limit rows words hist v → HomeFits limit rows (set words i x) hist v
 home_low limit rows words hist v i x low h = record { tree = h.tree; clock = h.clock; same_limit = h.same_limit; rest = rest_low v.store rows words v i x low h.rest }
 
 -- at home all rows are even
-pub home_even : (limit rows : ℕ) (words : List ℕ) (hist : List Request) (v : Value) → HomeFits limit rows words hist v → AllEven rows words
+pub home_even : (limit rows : ℕ) (words : List ℕ) (hist : List Request) (v : Guarded) → HomeFits limit rows words hist v → AllEven rows words
 home_even limit rows words hist v h row inside = (h.rest.rest row inside).even (λ key e never. never)
 
 module _ (k : Limits) where
   -- a step of one pass, with the word, the view and the act that it has
-  pub after_step : (s : Seen) (h : List Request) (i x id : ℕ) (cs : List (ℕ × Maybe Value)) (l : Known) (a : Act (Maybe Value))
+  pub after_step : (s : Seen) (h : List Request) (i x id : ℕ) (cs : List (ℕ × Maybe Boxed)) (l : Known) (a : Act (Maybe Boxed))
       → Rule k.max_inodes k.rows (set s.words i x) (set (views_of (knowns s.views)) id l.view) h → Shares k.max_inodes k.rows (set (knowns s.views) id l)
       → Home k.max_inodes k.rows (set s.words i x) (homes_after s.homes cs a) h → Kept k (stepped s i x id cs (sheet_of l) a)
   after_step s h i x id cs l a rule shares home = (
@@ -71,14 +72,14 @@ module _ (k : Limits) where
   )
 
   -- one that changes no word
-  pub after_load : (s : Seen) (h : List Request) → KeptAt k s h → (i id : ℕ) (cs : List (ℕ × Maybe Value)) (l : Known) → Rule k.max_inodes k.rows s.words (set (views_of (knowns s.views)) id l.view) h
+  pub after_load : (s : Seen) (h : List Request) → KeptAt k s h → (i id : ℕ) (cs : List (ℕ × Maybe Boxed)) (l : Known) → Rule k.max_inodes k.rows s.words (set (views_of (knowns s.views)) id l.view) h
       → Shares k.max_inodes k.rows (set (knowns s.views) id l) → Kept k (stepped s i (get_or s.words i 0) id cs (sheet_of l) keeps)
   after_load s h K i id cs l rule shares = let same = sym (set-get_or s.words i 0) in
       after_step s h i (get_or s.words i 0) id cs l keeps (subst (λ (ws : List ℕ). Rule k.max_inodes k.rows ws (set (views_of (knowns s.views)) id l.view) h) same rule) shares
       (subst (λ (ws : List ℕ). Home k.max_inodes k.rows ws s.homes h) same K.home)
 
   -- one of the holder of the lock, who goes on having it
-  pub after_held : (s : Seen) (h h' : List Request) → KeptAt k s h → (i x id : ℕ) (cs : List (ℕ × Maybe Value)) (l : Known) → get_or s.words 1 0 ≡ 1 → ¬ (1 ≡ i)
+  pub after_held : (s : Seen) (h h' : List Request) → KeptAt k s h → (i x id : ℕ) (cs : List (ℕ × Maybe Boxed)) (l : Known) → get_or s.words 1 0 ≡ 1 → ¬ (1 ≡ i)
       → Rule k.max_inodes k.rows (set s.words i x) (set (views_of (knowns s.views)) id l.view) h' → Shares k.max_inodes k.rows (set (knowns s.views) id l) → Kept k (stepped s i x id cs (sheet_of l) keeps)
   after_held s h h' K i x id cs l locked apart rule shares = let same = get_or-set_other s.words i 1 x 0 apart in
       after_step s h' i x id cs l keeps rule shares ((λ free. absurd (omega arith)), λ _. K.home.1 locked)

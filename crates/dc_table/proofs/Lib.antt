@@ -4,11 +4,4 @@ pub mod Cells
 pub mod Kept
 pub mod Moves
 pub mod Ending
-pub mod Slots
-pub mod Shuts
-pub mod Refills
-pub mod Commits
-pub mod Stages
-pub mod Altering
 pub mod Walks
-pub mod Placed

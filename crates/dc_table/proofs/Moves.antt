@@ -20,7 +20,8 @@ use Rattle.dc_table.specs.Rows.{MayStand}
 use Rattle.dc_table.specs.Kept.{HomeFits, KeptAt, Kept, knowns, views_of, sheet_of}
 use Rattle.dc_table.specs.Plays.{Place, Home, known_at, took, raised, put, committed_as, gave_as, answered_as}
 use Rattle.dc_table.specs.Passes.{CanShut, CanOpen, CanCommit}
-use Rattle.dc_table.specs.declared.table.Value.{Value}
+use Rattle.dc_table.specs.Boxes.{Boxed}
+use Rattle.dc_table.specs.declared.table.Guarded.{Guarded}
 use Rattle.dc_table.specs.declared.table.Limits.{Limits}
 use Rattle.dc_table.proofs.Sharing.{same_shares}
 use Rattle.dc_table.proofs.Kept.{Seen, known_there, view_there, home_low, home_even, after_step, after_load, after_held}
@@ -49,7 +50,7 @@ module _ (k : Limits) (law : HoldersKeepTheRule) where
 
   pub takes_lock : (slots id : ℕ) (me : Place) → me.1 ≡ [] → 0 < (known_at me).share.parts → Allows (Kept k) slots id me 1 (λ x. either (eqb x 0) 1 x) (took (step slots 1 0 1 none) me)
   takes_lock slots id me empty part s kept len at small = let h = kept.0 in let K = kept.1 in let R = K.rule in let T = there s h id me K at part in let x : ℕ = get_or s.words 1 0 in let now = known_at me in let n = names s h id me T in
-      exchanged x 0 1 (λ z. (w : _) × (a : Act (Maybe Value)) × Valid s.homes me.1 a × Kept k (stepped s 1 z id me.1 w a) × took (step slots 1 0 1 none) me x (w, carried_after me.1 a))
+      exchanged x 0 1 (λ z. (w : _) × (a : Act (Maybe Boxed)) × Valid s.homes me.1 a × Kept k (stepped s 1 z id me.1 w a) × took (step slots 1 0 1 none) me x (w, carried_after me.1 a))
       (λ free. let home = K.home.0 free in let v = home.0 in let words : List ℕ = set s.words 1 1 in let wide = R.wide in let l : Known = with_view now (taken now.view words h) in
       let locked : get_or words 1 0 ≡ 1 = get_or-set_same s.words 1 1 0 (omega arith) in (
         sheet_of l,
@@ -67,7 +68,7 @@ module _ (k : Limits) (law : HoldersKeepTheRule) where
               now = refl;
               early = R.early;
               later = (R.fits id now.view T.seat).book.seen;
-              home = subst₂ (λ a b. HomeFits a b words h v) (sym n.0) (sym n.1) (home_low k.max_inodes k.rows s.words h v 1 1 (omega arith) home.2);
+              home = subst₂ (λ a b. HomeFits a b words h v.value) (sym n.0) (sym n.1) (home_low k.max_inodes k.rows s.words h v.value 1 1 (omega arith) home.2);
             },
           )),
           λ not. absurd (not free),
@@ -76,37 +77,37 @@ module _ (k : Limits) (law : HoldersKeepTheRule) where
       (λ busy. (me.0, keeps, tt, missed s h id me T, ((λ e. absurd (busy e)), λ _. refl)))
 
   -- the value that is given back fits the table
-  home_again : (s : Seen) (h : List Request) (id : ℕ) (me : Place) (T : There k s h id me) (x : Value) → (known_at me).view.hold.holds ≡ true → Home (known_at me) x → HomeFits k.max_inodes k.rows s.words h x
+  home_again : (s : Seen) (h : List Request) (id : ℕ) (me : Place) (T : There k s h id me) (x : Guarded) → (known_at me).view.hold.holds ≡ true → Home (known_at me) x → HomeFits k.max_inodes k.rows s.words h x
   home_again s h id me T x has fits = let H = T.kept.rule.held id (known_at me).view T.seat has in let n = names s h id me T in
       subst₂ (λ a b. HomeFits a b s.words h x) n.0 n.1 (subst₂ (λ ws hist. HomeFits (known_at me).share.limit (known_at me).share.rows ws hist x) H.knows_words H.knows_history fits)
 
-  back_home : (s : Seen) (h : List Request) (K : KeptAt k s h) (me : Place) (x : Value) → me.1 ≡ (0, Some x) ∷ [] → get_or s.words 1 0 ≡ 1 → homes_after s.homes me.1 gives ≡ some (Some x) ∷ []
+  back_home : (s : Seen) (h : List Request) (K : KeptAt k s h) (me : Place) (x : Boxed) → me.1 ≡ (0, Some x) ∷ [] → get_or s.words 1 0 ≡ 1 → homes_after s.homes me.1 gives ≡ some (Some x) ∷ []
   back_home s h K me x out locked = ap (λ cs. homes_after s.homes cs gives) out ∙ ap (λ hs. set hs 0 (some (Some x))) (K.home.1 locked)
 
-  pub gives_lock : (slots id : ℕ) (me : Place) (x : Value) → me.1 ≡ (0, Some x) ∷ [] → (known_at me).view.hold.holds ≡ true → 0 < (known_at me).share.parts → Home (known_at me) x
+  pub gives_lock : (slots id : ℕ) (me : Place) (x : Boxed) → me.1 ≡ (0, Some x) ∷ [] → (known_at me).view.hold.holds ≡ true → 0 < (known_at me).share.parts → Home (known_at me) x.value
       → Allows (Kept k) slots id me 1 (λ _. 0) (λ _. gave_as (step slots 1 0 0 none) me 0)
   gives_lock slots id me x out has part fits s kept len at small = let h = kept.0 in let K = kept.1 in let R = K.rule in let T = there s h id me K at part in let now = known_at me in
-      let H = R.held id now.view T.seat has in let wide = R.wide in let home = home_again s h id me T x has fits in let free : get_or (set s.words 1 0) 1 0 ≡ 0 = get_or-set_same s.words 1 0 0 (omega arith) in (
+      let H = R.held id now.view T.seat has in let wide = R.wide in let home = home_again s h id me T x.value has fits in let free : get_or (set s.words 1 0) 1 0 ≡ 0 = get_or-set_same s.words 1 0 0 (omega arith) in (
         sheet_of (with_view now (gave now.view)),
         gives,
         tt,
-        after_step k s h 1 0 id me.1 (with_view now (gave now.view)) gives (law.give k.max_inodes k.rows s.words (views_of (knowns s.views)) h id now.view R T.seat has (home_even k.max_inodes k.rows s.words h x home)) (shares_stay s h id me T (gave now.view))
-            ((λ _. (x, back_home s h K me x out H.locked, home_low k.max_inodes k.rows s.words h x 1 0 (omega arith) home)), λ z. absurd (omega arith)),
+        after_step k s h 1 0 id me.1 (with_view now (gave now.view)) gives (law.give k.max_inodes k.rows s.words (views_of (knowns s.views)) h id now.view R T.seat has (home_even k.max_inodes k.rows s.words h x.value home)) (shares_stay s h id me T (gave now.view))
+            ((λ _. (x, back_home s h K me x out H.locked, home_low k.max_inodes k.rows s.words h x.value 1 0 (omega arith) home)), λ z. absurd (omega arith)),
         ap (λ cs. (sheet_of (with_view now (gave now.view)), carried_after cs gives)) out,
       )
 
-  pub answers_lock : (slots id : ℕ) (me : Place) (x : Value) (call : Request) → me.1 ≡ (0, Some x) ∷ [] → (known_at me).view.hold.holds ≡ true → 0 < (known_at me).share.parts → Home (known_at me) x
+  pub answers_lock : (slots id : ℕ) (me : Place) (x : Boxed) (call : Request) → me.1 ≡ (0, Some x) ∷ [] → (known_at me).view.hold.holds ≡ true → 0 < (known_at me).share.parts → Home (known_at me) x.value
       → alters (known_at me).share.limit (tree_of (known_at me).share.limit (known_at me).view.hold.history) call ≡ false → Allows (Kept k) slots id me 1 (λ _. 0) (λ _. answered_as call (step slots 1 0 0 none) me 0)
   answers_lock slots id me x call out has part fits unaltered s kept len at small = let h = kept.0 in let K = kept.1 in let R = K.rule in let T = there s h id me K at part in let now = known_at me in let n = names s h id me T in
-      let H = R.held id now.view T.seat has in let wide = R.wide in let home = home_again s h id me T x has fits in let free : get_or (set s.words 1 0) 1 0 ≡ 0 = get_or-set_same s.words 1 0 0 (omega arith) in
+      let H = R.held id now.view T.seat has in let wide = R.wide in let home = home_again s h id me T x.value has fits in let free : get_or (set s.words 1 0) 1 0 ≡ 0 = get_or-set_same s.words 1 0 0 (omega arith) in
       let still : alters k.max_inodes (tree_of k.max_inodes h) call ≡ false = subst₂ (λ a hist. alters a (tree_of a hist) call ≡ false) n.0 H.knows_history unaltered in
       let l : Known = with_view now (answered now.share.limit now.view call) in (
         sheet_of l,
         gives,
         tt,
         after_step k s h 1 0 id me.1 l gives (subst (λ a. Rule k.max_inodes k.rows (set s.words 1 0) (set (views_of (knowns s.views)) id (answered a now.view call)) h) (sym n.0)
-            (law.answer k.max_inodes k.rows s.words (views_of (knowns s.views)) h id now.view R T.seat has (home_even k.max_inodes k.rows s.words h x home) call still)) (shares_stay s h id me T (answered now.share.limit now.view call))
-            ((λ _. (x, back_home s h K me x out H.locked, home_low k.max_inodes k.rows s.words h x 1 0 (omega arith) home)), λ z. absurd (omega arith)),
+            (law.answer k.max_inodes k.rows s.words (views_of (knowns s.views)) h id now.view R T.seat has (home_even k.max_inodes k.rows s.words h x.value home) call still)) (shares_stay s h id me T (answered now.share.limit now.view call))
+            ((λ _. (x, back_home s h K me x out H.locked, home_low k.max_inodes k.rows s.words h x.value 1 0 (omega arith) home)), λ z. absurd (omega arith)),
         ap (λ cs. (sheet_of l, carried_after cs gives)) out,
       )
 

@@ -1,5 +1,5 @@
 -- Each step of a pass that walks keeps the table's rule.
-use Rattle.std.proofs.Common.{◌≡◌, ℕ, zero, suc, ◌+◌, ◌%◌, ◌<◌, ◌≤◌, Bool, true, false, List, [], ◌∷◌, length, get_or, set, sym, refl, ap, ◌∙◌, subst, arith}
+use Rattle.std.proofs.Common.{◌≡◌, ℕ, zero, suc, ◌+◌, ◌%◌, ◌<◌, ◌≤◌, Bool, true, false, List, [], ◌∷◌, length, get_or, set, sym, refl, ap, ◌∙◌, subst, arith, le_refl}
 use Rattle.std.proofs.lemmas.List.{set-set}
 use mathlib.Core.Logic.{dite}
 use mathlib.Core.Option.{none, some, some-ne-none}
@@ -60,7 +60,7 @@ module _ (k : Limits) (law : WalkersKeepTheRule) where
         sheet_of (with_view now (faulted v (Busy row))),
         keeps,
         tt,
-        still s h K (base_of row) id me at part (faulted v (Busy row)) (then_rule s.words views h id now.view v (faulted v (Busy row)) seat B (λ R a. law.fault k.max_inodes k.rows s.words (set views id v) h id v R a (Busy row))),
+        still s h K (base_of row) id me at part (faulted v (Busy row)) (then_rule s.words views h id now.view v (faulted v (Busy row)) seat B (λ R a. law.fault k.max_inodes k.rows s.words (set views id v) h id v R a (Busy row) (subst (λ z. row < z) n.1 inside))),
         ((λ even. absurd (odd even)), λ _. refl),
       ))
 
@@ -98,7 +98,7 @@ module _ (k : Limits) (law : WalkersKeepTheRule) where
 
   pub checks_note : (slots id : ℕ) (me : Place) (i row n : ℕ) → 0 < (known_at me).share.parts → CanCheck (known_at me).view i row n → Allows (Kept k) slots id me (base_of row) (λ x. x) (checked_as i (step slots (base_of row) 0 0 none) me)
   checks_note slots id me i row n part can s kept len at small = let h = kept.0 in let K = kept.1 in let now = known_at me in let views = views_of (knowns s.views) in let seat = view_there s.views id me.0 at in
-      let x : Note = note_at now.view i in let r : ℕ = count s.words row in let below = ((K.rule.fits id now.view seat).walk.noted i x can.there).below in
+      let x : Note = note_at now.view i in let r : ℕ = count s.words row in let fits = (K.rule.fits id now.view seat).walk.noted i x can.there in let below = fits.below in
       let low : x.count ≤ r = subst (λ z. x.count ≤ count s.words z) can.of_row below in
       dite (ℕ_discrete x.count r)
       (λ same. (
@@ -112,7 +112,7 @@ module _ (k : Limits) (law : WalkersKeepTheRule) where
         sheet_of (with_view now (faulted now.view (Changed x.row x.count r))),
         keeps,
         tt,
-        still s h K (base_of row) id me at part (faulted now.view (Changed x.row x.count r)) (law.fault k.max_inodes k.rows s.words views h id now.view K.rule seat (Changed x.row x.count r)),
+        still s h K (base_of row) id me at part (faulted now.view (Changed x.row x.count r)) (law.fault k.max_inodes k.rows s.words views h id now.view K.rule seat (Changed x.row x.count r) (fits.inside, omega arith, subst (λ z. r ≤ count s.words z) (sym can.of_row) (le_refl r))),
         ((λ same. absurd (other same)), λ ne. (omega arith, refl)),
       ))
 

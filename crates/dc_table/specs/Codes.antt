@@ -1,5 +1,5 @@
 -- Calls and replies as trees of numbers: what a seat's ghost data asks of its type.
-use Rattle.std.specs.Prelude.{◌≡◌, ℕ, zero, suc, List, [], refl, ◌==◌, if◌then◌else◌}
+use Rattle.std.specs.Prelude.{◌≡◌, ℕ, zero, suc, Bool, true, false, List, [], refl, ◌==◌, if◌then◌else◌}
 use Rattle.std.specs.Coded.{Coded, code_by, coded×, coded_list, coded_ℕ}
 use Rattle.dc_names.specs.declared.kind.Kind.{Kind}
 use Rattle.dc_names.specs.declared.kind.Kind.TheVariants.{Dir, File, Link}
@@ -55,6 +55,13 @@ Asked = ℕ × (ℕ × (Follow × (List ℕ × List ℕ)))
 abbrev asked : ℕ → ℕ → List ℕ → List ℕ → Asked
 asked which base a b = (which, (base, (follows.Yes, (a, b))))
 
+-- a rename is one of four calls, by its flags
+abbrev flags_to : Bool → Bool → ℕ
+flags_to false false = 10
+flags_to true false = 11
+flags_to false true = 12
+flags_to true true = 13
+
 abbrev request_to : Request → Asked
 request_to (Look base path how) = (0, (base, (how, (path, []))))
 request_to (Readlink base path) = asked 1 base path []
@@ -66,7 +73,7 @@ request_to (Hard_link base old new) = asked 6 base old new
 request_to (Symlink base text path) = asked 7 base text path
 request_to (Unlink base path) = asked 8 base path []
 request_to (Rmdir base path) = asked 9 base path []
-request_to (Rename base old new) = asked 10 base old new
+request_to (Rename base old new flags) = asked (flags_to flags.no_replace flags.exchange) base old new
 
 abbrev request_by : ℕ → ℕ → Follow → List ℕ → List ℕ → Request
 request_by which base how a b =
@@ -80,10 +87,19 @@ request_by which base how a b =
     else if which == 7 then Symlink base a b
     else if which == 8 then Unlink base a
     else if which == 9 then Rmdir base a
-    else Rename base a b
+    else if which == 10 then Rename base a b (record { no_replace = false; exchange = false })
+    else if which == 11 then Rename base a b (record { no_replace = true; exchange = false })
+    else if which == 12 then Rename base a b (record { no_replace = false; exchange = true })
+    else Rename base a b (record { no_replace = true; exchange = true })
 
 abbrev request_back : Asked → Request
 request_back x = request_by x.0 x.1.0 x.1.1.0 x.1.1.1.0 x.1.1.1.1
+
+pub renamed_round : (base : ℕ) (old new : List ℕ) (no_replace exchange : Bool) → request_back (asked (flags_to no_replace exchange) base old new) ≡ Rename base old new (record { no_replace = no_replace; exchange = exchange })
+renamed_round base old new false false = refl
+renamed_round base old new true false = refl
+renamed_round base old new false true = refl
+renamed_round base old new true true = refl
 
 pub request_round : (request : Request) → request_back (request_to request) ≡ request
 request_round (Look base path how) = refl
@@ -96,7 +112,7 @@ request_round (Hard_link base old new) = refl
 request_round (Symlink base text path) = refl
 request_round (Unlink base path) = refl
 request_round (Rmdir base path) = refl
-request_round (Rename base old new) = refl
+request_round (Rename base old new flags) = renamed_round base old new flags.no_replace flags.exchange
 
 abbrev pub coded_request : Coded Request
 coded_request = code_by Asked (coded× coded_ℕ (coded× coded_ℕ (coded× coded_follow (coded× coded_bytes coded_bytes)))) request_to request_back request_round

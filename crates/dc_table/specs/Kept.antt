@@ -12,20 +12,21 @@ use Rattle.dc_events.specs.Standing.{tree_of}
 use Rattle.dc_events.specs.Rule.{Rule}
 use Rattle.dc_table.specs.Shares.{Known, Shares, first_known}
 use Rattle.dc_table.specs.Rows.{Rest}
-use Rattle.dc_table.specs.declared.table.Value.{Value}
+use Rattle.dc_table.specs.Boxes.{Boxed}
+use Rattle.dc_table.specs.declared.table.Guarded.{Guarded}
 use Rattle.dc_table.specs.declared.table.Limits.{Limits}
 use Rattle.dc_table.specs.declared.sheet.Sheet.{Sheet}
 
 -- the value has the tree after the history, the clock and the limit, and its index and shrinker fit the rows
-pub record HomeFits (limit rows : ℕ) (words : List ℕ) (hist : List Request) (x : Value) : Type 0 where
+pub record HomeFits (limit rows : ℕ) (words : List ℕ) (hist : List Request) (x : Guarded) : Type 0 where
   pub tree : x.store ≡ tree_of limit hist
   pub clock : x.clock ≡ length hist
   pub same_limit : x.max_inodes ≡ limit
   pub rest : Rest x.store rows words x.index x.shrinker
 
 -- while the lock is free the value is in the slot, else it is out
-abbrev pub Home : ℕ → ℕ → List ℕ → List (Option (Maybe Value)) → List Request → Type 0
-Home limit rows words homes hist = (get_or words 1 0 ≡ 0 → (x : Value) × (homes ≡ some (Some x) ∷ []) × HomeFits limit rows words hist x) × (get_or words 1 0 ≡ 1 → homes ≡ none ∷ [])
+abbrev pub Home : ℕ → ℕ → List ℕ → List (Option (Maybe Boxed)) → List Request → Type 0
+Home limit rows words homes hist = (get_or words 1 0 ≡ 0 → (x : Boxed) × (homes ≡ some (Some x) ∷ []) × HomeFits limit rows words hist x.value) × (get_or words 1 0 ≡ 1 → homes ≡ none ∷ [])
 
 abbrev pub known_of : Sheet → Known
 known_of s = s.known
@@ -36,12 +37,12 @@ knowns sheets = map known_of sheets
 abbrev pub views_of : List Known → List View
 views_of passes = map (λ k. k.view) passes
 
-pub record KeptAt (k : Limits) (s : State (Maybe Value) Sheet) (hist : List Request) : Type 0 where
+pub record KeptAt (k : Limits) (s : State (Maybe Boxed) Sheet) (hist : List Request) : Type 0 where
   pub rule : Rule k.max_inodes k.rows s.words (views_of (knowns s.views)) hist
   pub shares : Shares k.max_inodes k.rows (knowns s.views)
   pub home : Home k.max_inodes k.rows s.words s.homes hist
 
-abbrev pub Kept : Limits → State (Maybe Value) Sheet → Type 0
+abbrev pub Kept : Limits → State (Maybe Boxed) Sheet → Type 0
 Kept k s = (hist : List Request) × KeptAt k s hist
 
 abbrev pub sheet_of : Known → Sheet
@@ -51,7 +52,7 @@ abbrev pub first_sheet : Limits → Sheet
 first_sheet k = sheet_of (first_known k.max_inodes k.rows)
 
 -- a value with the root directory alone and no row in use
-pub record IsNew (x : Value) (rows limit : ℕ) : Type 0 where
+pub record IsNew (x : Guarded) (rows limit : ℕ) : Type 0 where
   pub tree : x.store ≡ empty_tree
   pub slots : length x.index ≡ rows
   pub free : (row : ℕ) → slot_of x.index row ≡ Free

@@ -2,11 +2,12 @@
 pub mod Codes
 pub mod ViewCodes
 pub mod Shares
+pub mod Boxes
 pub mod Rows
 pub mod Kept
 pub mod Plays
 pub mod Passes
+pub mod Holders
 pub mod Ends
 pub mod Changes
 pub mod Walking
-pub mod Filling

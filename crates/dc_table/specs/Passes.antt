@@ -8,12 +8,12 @@ use Rattle.dc_events.specs.Standing.{tree_of}
 use Rattle.dc_events.specs.Rows.{most, count, row_words, IsUntouched}
 use Rattle.dc_table.specs.Shares.{Known, Share}
 use Rattle.dc_table.specs.Rows.{MayStand}
-use Rattle.dc_table.specs.declared.table.Value.{Value}
+use Rattle.dc_table.specs.Boxes.{Boxed}
 use Rattle.dc_table.specs.declared.shared.Shared.{Shared}
 use Rattle.dc_table.specs.declared.sheet.Sheet.{Sheet}
 
 abbrev pub Pass : Type 0
-Pass = Seat (Maybe Value) Sheet
+Pass = Seat (Maybe Boxed) Sheet
 
 abbrev pub known : Pass → Known
 known p = p.me.0.known
@@ -67,3 +67,7 @@ pub record CanCommit (limit rows : ℕ) (v : View) (call : Request) : Type 0 whe
   pub altering : alters limit (tree_of limit v.hold.history) call ≡ true
   pub early : length v.hold.history < most
   pub untouched : (row : ℕ) → row < rows → IsUntouched limit (tree_of limit v.hold.history) v.hold.words row call
+
+-- a call that alters nothing can be answered
+abbrev pub CanAnswer : Share → View → Request → Type 0
+CanAnswer s v call = alters s.limit (tree_of s.limit v.hold.history) call ≡ false

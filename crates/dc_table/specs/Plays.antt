@@ -6,21 +6,22 @@ use Rattle.dc_events.specs.Rows.{most}
 use Rattle.dc_events.specs.Effects.{taken, wrote, committed, gave, answered}
 use Rattle.dc_table.specs.Shares.{Known, with_view}
 use Rattle.dc_table.specs.Kept.{HomeFits, sheet_of}
-use Rattle.dc_table.specs.declared.table.Value.{Value}
+use Rattle.dc_table.specs.Boxes.{Boxed}
+use Rattle.dc_table.specs.declared.table.Guarded.{Guarded}
 use Rattle.dc_table.specs.declared.sheet.Sheet.{Sheet}
 
 abbrev pub Place : Type 0
-Place = Me (Maybe Value) Sheet
+Place = Me (Maybe Boxed) Sheet
 
 abbrev pub known_at : Place → Known
 known_at m = m.0.known
 
 -- the value fits what the holder of the lock knows
-abbrev pub Home : Known → Value → Type 0
+abbrev pub Home : Known → Guarded → Type 0
 Home k x = HomeFits k.share.limit k.share.rows k.view.hold.words k.view.hold.history x
 
 -- what the one who gets the lock learns
-pub record Took (k l : Known) (x : Value) : Type 0 where
+pub record Took (k l : Known) (x : Guarded) : Type 0 where
   pub words : List ℕ
   pub history : List Request
   pub now : l ≡ with_view k (taken k.view words history)
@@ -28,22 +29,22 @@ pub record Took (k l : Known) (x : Value) : Type 0 where
   pub later : k.view.book.seen ≤ length history
   pub home : Home l x
 
-abbrev pub took : Step (Maybe Value) → Place → ℕ → Place → Type 0
-took st m r m' = (r ≡ 0 → (x : Value) × (m'.1 ≡ (0, Some x) ∷ []) × Took (known_at m) (known_at m') x) × (r ≢ 0 → m' ≡ m)
+abbrev pub took : Step (Maybe Boxed) → Place → ℕ → Place → Type 0
+took st m r m' = (r ≡ 0 → (x : Boxed) × (m'.1 ≡ (0, Some x) ∷ []) × Took (known_at m) (known_at m') x.value) × (r ≢ 0 → m' ≡ m)
 
 -- the holder's count of a row grows by one
-abbrev pub raised : Step (Maybe Value) → Place → ℕ → Place → Type 0
+abbrev pub raised : Step (Maybe Boxed) → Place → ℕ → Place → Type 0
 raised st m r m' = let k = known_at m in (r ≡ get_or k.view.hold.words st.word 0) × (m' ≡ (sheet_of (with_view k (wrote k.view st.word (r + 1))), m.1))
 
 -- the holder writes another word of a row
-abbrev pub put : Step (Maybe Value) → Place → ℕ → Place → Type 0
+abbrev pub put : Step (Maybe Boxed) → Place → ℕ → Place → Type 0
 put st m r m' = let k = known_at m in m' ≡ (sheet_of (with_view k (wrote k.view st.word st.first)), m.1)
 
-abbrev pub committed_as : Request → Step (Maybe Value) → Place → ℕ → Place → Type 0
+abbrev pub committed_as : Request → Step (Maybe Boxed) → Place → ℕ → Place → Type 0
 committed_as call st m r m' = let k = known_at m in m' ≡ (sheet_of (with_view k (committed k.share.limit k.view call)), m.1)
 
-abbrev pub gave_as : Step (Maybe Value) → Place → ℕ → Place → Type 0
+abbrev pub gave_as : Step (Maybe Boxed) → Place → ℕ → Place → Type 0
 gave_as st m r m' = let k = known_at m in m' ≡ (sheet_of (with_view k (gave k.view)), [])
 
-abbrev pub answered_as : Request → Step (Maybe Value) → Place → ℕ → Place → Type 0
+abbrev pub answered_as : Request → Step (Maybe Boxed) → Place → ℕ → Place → Type 0
 answered_as call st m r m' = let k = known_at m in m' ≡ (sheet_of (with_view k (answered k.share.limit k.view call)), [])

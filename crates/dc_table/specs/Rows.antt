@@ -1,9 +1,8 @@
 -- Which rows are odd, and what the even ones spell.
-use Rattle.std.specs.Prelude.{◌≡◌, ◌≢◌, ◌⊎◌, ℕ, ◌+◌, ◌%◌, ◌<◌, ◌≤◌, List, length, get_or, slice_get, Option, Some, None}
+use Rattle.std.specs.Prelude.{◌≡◌, ◌↔◌, ℕ, ◌+◌, ◌%◌, ◌<◌, ◌≤◌, Bool, true, false, List, length, get_or, Option, Some, None}
 use Rattle.dc_plain.specs.Facts.{Fact, Key, key_of}
 use Rattle.dc_plain.specs.Trees.{Tree, Holds}
 use Rattle.dc_row.specs.Spelling.{Spells}
-use Rattle.dc_row.specs.declared.TheConstants.{ROW_WORDS}
 use Rattle.dc_index.specs.Slots.{Slot, slot_of, has_key}
 use Rattle.dc_index.specs.Slots.Slot.{Free, Retired, Holds as Held}
 use Rattle.dc_shrink.specs.Listings.{Listing, is_used}
@@ -28,12 +27,18 @@ IsOdd row = (get_or row 0 0 % 2 ≡ 1) × (get_or row 0 0 + 1 < most)
 abbrev pub IsEven : List ℕ → Type 0
 IsEven row = get_or row 0 0 % 2 ≡ 0
 
--- a row is odd where its key is one of these, else even, and then it fits its slot; a row with the last count is retired
+-- the row never gets a key again
+abbrev pub is_retired : Slot → Bool
+is_retired Free = false
+is_retired Retired = true
+is_retired (Held key) = false
+
+-- a row is odd where its key is one of these, else even, and then it fits its slot; it is retired exactly where its count is at its end
 pub record At (t : Tree) (shut : Key → Type 0) (row : List ℕ) (slot : Slot) : Type 0 where
   pub odd : (key : Key) → slot ≡ Held key → shut key → IsOdd row
   pub even : ((key : Key) → slot ≡ Held key → shut key → ⊥) → IsEven row
-  pub fits : IsEven row → FitsSlot t row slot
-  pub low : (get_or row 0 0 < most) ⊎ (slot ≡ Retired)
+  pub fits : IsEven row → ∥ FitsSlot t row slot ∥₁
+  pub ended : (is_retired slot ≡ true) ↔ (most ≤ get_or row 0 0)
 
 -- the rows whose keys are these are odd, and all others are even and fit
 abbrev pub OnlyOdd : Tree → ℕ → List ℕ → List Slot → (Key → Type 0) → Type 0
@@ -41,10 +46,6 @@ OnlyOdd t rows words slots shut = (row : ℕ) → row < rows → At t shut (row_
 
 abbrev pub OfNone : Key → Type 0
 OfNone key = ⊥
-
--- the keys from place i to before place n
-abbrev pub Between : ℕ → ℕ → List Key → Key → Type 0
-Between i n keys key = (j : ℕ) × (i ≤ j) × (j < n) × (slice_get keys j ≡ Some key)
 
 -- a row has a key exactly where it is in use
 abbrev pub Agree : List Slot → Listing → Type 0
@@ -57,21 +58,10 @@ pub record Fit (rows : ℕ) (words : List ℕ) (slots : List Slot) (used : Listi
   pub agree : Agree slots used
   pub size : length words ≡ base_of rows
 
--- the rows of the keys from place i to before place n are odd, and no others
-pub record Stage (t : Tree) (rows : ℕ) (words : List ℕ) (slots : List Slot) (used : Listing) (i n : ℕ) (keys : List Key) : Type 0 where
-  pub fit : Fit rows words slots used
-  pub rest : OnlyOdd t rows words slots (Between i n keys)
-
 -- all rows are even, and fit index and shrinker
 pub record Rest (t : Tree) (rows : ℕ) (words : List ℕ) (slots : List Slot) (used : Listing) : Type 0 where
   pub fit : Fit rows words slots used
   pub rest : OnlyOdd t rows words slots OfNone
-
--- the words spell a fact that is true now, or none
-pub record MayTell (t : Tree) (words : List ℕ) : Type 0 where
-  pub fact : Option Fact
-  pub spelled : Spells words fact
-  pub now : IfFact t fact
 
 -- and none where the row's count would be its last
 pub record MayStand (t : Tree) (table : List ℕ) (row : ℕ) (words : List ℕ) : Type 0 where
@@ -82,17 +72,3 @@ pub record MayStand (t : Tree) (table : List ℕ) (row : ℕ) (words : List ℕ)
 
 abbrev pub cell : List ℕ → ℕ → ℕ → ℕ
 cell words row i = get_or words (base_of row + i) 0
-
--- one row's words after the count were written up to before place i, and nothing else
-pub record Writing (before after : List ℕ) (row : ℕ) (words : List ℕ) (i : ℕ) : Type 0 where
-  pub size : length after ≡ length before
-  pub others : (r : ℕ) → r ≢ row → row_words after r ≡ row_words before r
-  pub count : count after row ≡ count before row
-  pub own : (j : ℕ) → 0 < j → j < i → cell after row j ≡ get_or words j 0
-
--- one row was written whole, and its count is so much more
-pub record Wrote (before after : List ℕ) (row : ℕ) (words : List ℕ) (more : ℕ) : Type 0 where
-  pub size : length after ≡ length before
-  pub others : (r : ℕ) → r ≢ row → row_words after r ≡ row_words before r
-  pub count : count after row ≡ count before row + more
-  pub own : (i : ℕ) → 0 < i → i < ROW_WORDS → cell after row i ≡ get_or words i 0

@@ -13,7 +13,7 @@ use Rattle.dc_events.specs.Effects.{begins, quit, noted, note_at, read, pivoted,
 use Rattle.dc_table.specs.Shares.{with_view}
 use Rattle.dc_table.specs.Kept.{sheet_of}
 use Rattle.dc_table.specs.Plays.{Place, known_at}
-use Rattle.dc_table.specs.declared.table.Value.{Value}
+use Rattle.dc_table.specs.Boxes.{Boxed}
 
 -- a walk that has no pivot yet may note, and may make its pivot
 abbrev pub IsFresh : View → Type 0
@@ -37,21 +37,21 @@ pub record CanCheck (v : View) (i row count : ℕ) : Type 0 where
   pub counted : (note_at v i).count ≡ count
 
 -- an even count is noted, an odd one is a fault
-abbrev pub noted_as : Request → ℕ → Bool → Step (Maybe Value) → Place → ℕ → Place → Type 0
+abbrev pub noted_as : Request → ℕ → Bool → Step (Maybe Boxed) → Place → ℕ → Place → Type 0
 noted_as call row first st m r m' = let k = known_at m in let v = begins first k.view call in
     (r % 2 ≡ 0 → m' ≡ (sheet_of (with_view k (noted v row r)), m.1)) × (r % 2 ≢ 0 → m' ≡ (sheet_of (with_view k (faulted v (Busy row))), m.1))
 
-abbrev pub read_as : Step (Maybe Value) → Place → ℕ → Place → Type 0
+abbrev pub read_as : Step (Maybe Boxed) → Place → ℕ → Place → Type 0
 read_as st m r m' = let k = known_at m in m' ≡ (sheet_of (with_view k (read k.view r)), m.1)
 
-abbrev pub pivoted_as : Request → Bool → Step (Maybe Value) → Place → ℕ → Place → Type 0
+abbrev pub pivoted_as : Request → Bool → Step (Maybe Boxed) → Place → ℕ → Place → Type 0
 pivoted_as call first st m r m' = let k = known_at m in (m' ≡ (sheet_of (with_view k (pivoted (begins first k.view call) r)), m.1)) × (k.view.book.seen ≤ r)
 
 -- the clock is loaded, and no walk goes on
-abbrev pub learnt_as : Step (Maybe Value) → Place → ℕ → Place → Type 0
+abbrev pub learnt_as : Step (Maybe Boxed) → Place → ℕ → Place → Type 0
 learnt_as st m r m' = let k = known_at m in (m' ≡ (sheet_of (with_view k (pivoted (quit k.view) r)), m.1)) × (k.view.book.seen ≤ r)
 
 -- the count that was noted checks the note; another one is higher, and a fault
-abbrev pub checked_as : ℕ → Step (Maybe Value) → Place → ℕ → Place → Type 0
+abbrev pub checked_as : ℕ → Step (Maybe Boxed) → Place → ℕ → Place → Type 0
 checked_as i st m r m' = let k = known_at m in let x = note_at k.view i in
     (x.count ≡ r → m' ≡ (sheet_of (with_view k (checked k.view i)), m.1)) × (x.count ≢ r → (x.count < r) × (m' ≡ (sheet_of (with_view k (faulted k.view (Changed x.row x.count r))), m.1)))

@@ -18,28 +18,33 @@
 //! opens them when they tell of the new tree. A count never comes again: a row whose count ends, at 2^62,
 //! is empty and retired.
 //!
-//! The slot holds the value of the lock while it is free: the tree, which row has which key, which rows
-//! are in use, and the clock once more. It is empty while the lock is held, and then the holder has the
-//! value.
+//! The slot holds what the lock guards while it is free: the tree, which row has which key, which rows are
+//! in use, and the clock once more. It is empty while the lock is held, and then the holder has what lay
+//! in it.
 //!
 //! # Who may read
 //!
 //! Whoever has a pass may load any word at any time. What was read of a row counts only where its count
 //! is even before the first of its words is read and the same after the pivot; all rows of a walk for
 //! which this is so were true together at the pivot.
+//!
+//! # Memory order
+//!
+//! Each step on a word is sequentially consistent, as each step of the kit's `atomic_table` is. The slot is
+//! plain memory: the word of the lock orders who reads and writes it.
+//!
+//! # Who may take which step
+//!
+//! `Holder` has the steps of the one that has the lock, `Reader` those of a walk without it, and both take
+//! them for a `Pass`. Nothing else of the table is public but its beginning, its end, and how passes are
+//! cut and put together.
 #![tactic(auto)]
 
-mod changing;
-mod evicting;
-mod facts;
-mod fault;
+mod holder;
 mod passing;
-mod pinning;
 mod plays;
-mod rewriting;
 mod shared;
 mod sheet;
-mod shutting;
 mod steps;
 mod table;
 #[cfg(test)]
@@ -47,10 +52,28 @@ mod tests;
 mod walking;
 
 pub use dc_events::MakeFault;
-pub use fault::ChangeFault;
+pub use holder::{Holder, Reader};
 pub use shared::Shared;
 pub use sheet::Sheet;
-pub use table::{Limits, Pass, Protocol, Value};
+pub use table::{Guarded, Limits, Pass, Protocol};
 
 /// The most that the count of a row may be, and the most calls that may alter the tree: 2^62.
 pub const MOST_COUNT: u64 = 1 << 62;
+
+/// How many rows a bucket has.
+pub(crate) const BUCKET_ROWS: u64 = 4;
+
+/// The word that counts the changes.
+pub(crate) const CLOCK: usize = 0;
+
+/// The word that is `TAKEN` while a pass has the lock, else `FREE`.
+pub(crate) const LOCK: usize = 1;
+
+/// The lock is free.
+pub(crate) const FREE: u64 = 0;
+
+/// A pass has the lock.
+pub(crate) const TAKEN: u64 = 1;
+
+/// The first word of the rows.
+pub(crate) const FIRST_ROW: usize = 2;

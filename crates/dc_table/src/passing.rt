@@ -1,6 +1,6 @@
 //! How a table begins and ends, and how passes are cut and put together.
 
-ghost use Rattle.std.specs.Prelude.{◌≡◌, ◌*◌, ◌≤◌, ◌↔◌, false, Err, IfOk, IfSome, IsSome};
+ghost use Rattle.std.specs.Prelude.{◌≡◌, ◌*◌, ◌/◌, ◌≤◌, ◌↔◌, false, Err, IfOk, IfSome, IsSome};
 ghost use Rattle.dc_events.specs.Sizes.{are_right};
 ghost use Rattle.dc_events.specs.declared.sizes.MakeFault.TheVariants.{BadSize};
 ghost use Rattle.dc_table.specs.Ends.{Ends};
@@ -10,7 +10,8 @@ ghost use Rattle.dc_table.specs.Shares.{IsWhole, first_known, kept_half, new_hal
 
 use crate::plays::Halves;
 use crate::shared::Shared;
-use crate::table::{Limits, Pass, Value};
+use crate::table::{Guarded, Limits, Pass};
+use crate::{BUCKET_ROWS, FIRST_ROW, FREE, LOCK};
 use atomic_table::{Refused, Table};
 use dc_events::{
     MakeFault, are_right, new_tables_have_the_rule, passes_keep_the_rule, records_are_legal,
@@ -23,16 +24,16 @@ use dc_store::SlabStore;
 use std::alloc::Global;
 use std::sync::atomic::AtomicU64;
 
-impl Value {
+impl Guarded {
     /// The root directory alone, and no row with a key.
-    fn new(alloc: Global, buckets: u64, max_inodes: u64) -> Result<Value, NoMemory>
+    fn new(alloc: Global, buckets: u64, max_inodes: u64) -> Result<Guarded, NoMemory>
         requires { (1 ≤ buckets) × (buckets ≤ 1024) }
-        ensures { IfOk result (λ value. IsNew value (4 * buckets) max_inodes) }
+        ensures { IfOk result (λ guarded. IsNew guarded (BUCKET_ROWS * buckets) max_inodes) }
     {
-        Ok(Value {
+        Ok(Guarded {
             store: SlabStore::new(alloc)?,
             index: Index::new(alloc, buckets)?,
-            shrinker: Shrinker::new(alloc, 4 * buckets)?,
+            shrinker: Shrinker::new(alloc, BUCKET_ROWS * buckets)?,
             clock: 0,
             max_inodes,
         })
@@ -45,7 +46,7 @@ impl Shared {
     /// the limit of live inodes, the root among them, isn't from 1 to 1,048,576.
     pub fn new(alloc: Global, buckets: u64, max_inodes: u64) -> Result<(Shared, Pass), MakeFault>
         ensures made { IfOk result (λ r. Fits r.0 r.1 × IsIdle r.1
-            × (known r.1 ≡ first_known max_inodes (4 * buckets))) }
+            × (known r.1 ≡ first_known max_inodes (BUCKET_ROWS * buckets))) }
         ensures size { (result ≡ Err BadSize) ↔ (are_right buckets max_inodes ≡ false) }
     {
         if !are_right(buckets, max_inodes) {
@@ -53,23 +54,24 @@ impl Shared {
         }
         let limits = Limits {
             max_inodes,
-            rows: 4 * buckets,
+            rows: BUCKET_ROWS * buckets,
         };
         Ok(Shared::of(alloc, buckets, &limits)?)
     }
 
     fn of(alloc: Global, buckets: u64, limits: &Limits) -> Result<(Shared, Pass), NoMemory>
         requires buckets { (1 ≤ buckets) × (buckets ≤ 1024) }
-        requires rows { limits.now.rows ≡ 4 * buckets }
+        requires rows { limits.now.rows ≡ BUCKET_ROWS * buckets }
         ensures { IfOk result (λ r. Fits r.0 r.1 × IsIdle r.1
-            × (known r.1 ≡ first_known limits.now.max_inodes (4 * buckets))) }
+            × (known r.1 ≡ first_known limits.now.max_inodes (BUCKET_ROWS * buckets))) }
     {
         new_tables_have_the_rule();
         empty_row_spells_nothing();
-        let value = Value::new(alloc, buckets, limits.max_inodes)?;
-        let words = vec![in alloc; 0; 2 + limits.rows as usize * ROW_WORDS]?;
+        let value = Guarded::new(alloc, buckets, limits.max_inodes)?;
+        let guarded = Box::new(alloc, value)?;
+        let words = vec![in alloc; 0; FIRST_ROW + limits.rows as usize * ROW_WORDS]?;
         let mut slots = Vec::with_capacity(alloc, 1)?;
-        slots.push_reserved(Some(value));
+        slots.push_reserved(Some(guarded));
         match Table::new(alloc, words.as_slice(), slots, limits) {
             Ok((table, pass)) => Ok((
                 Shared {
@@ -81,6 +83,20 @@ impl Shared {
             )),
             Err(Refused { slots: _ }) => Err(NoMemory),
         }
+    }
+
+    /// How many rows the table has.
+    pub fn rows(&self) -> u64
+        ensures { result ≡ self.now.limits.rows }
+    {
+        self.limits.rows
+    }
+
+    /// How many buckets of four rows the table has.
+    pub fn buckets(&self) -> u64
+        ensures { result ≡ self.now.limits.rows / BUCKET_ROWS }
+    {
+        self.limits.rows / BUCKET_ROWS
     }
 
     /// A pass for another thread, which has seen what this one has. It gets half of the share.
@@ -108,7 +124,7 @@ impl Shared {
     /// Ends the table: the tree, and how many calls altered it, are those of a history in which the
     /// records of the pass stand. `None` where another pass has the lock and so the tree; never where
     /// this one has the whole share.
-    pub fn close(self, pass: Pass) -> Option<Value>
+    pub fn close(self, pass: Pass) -> Option<Guarded>
         requires pass { Fits self pass × IsIdle pass }
         ensures tree { IfSome result (λ x. Ends (share pass).limit (known pass) x.store x.clock) }
         ensures whole { IsWhole (share pass) → IsSome result }
@@ -120,12 +136,15 @@ impl Shared {
             waiting: _,
         } = self;
         let mut closed = table.close_with(pass);
-        let lock = closed.word(1);
-        let value = closed.take(0);
+        let lock = closed.word(LOCK);
+        let guarded = closed.take(0);
         closed.free();
-        if lock != 0 {
+        if lock != FREE {
             return None;
         }
-        value
+        match guarded {
+            Some(guarded) => Some(Box::into_inner(guarded)),
+            None => None,
+        }
     }
 }

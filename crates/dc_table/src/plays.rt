@@ -4,7 +4,7 @@ ghost use Rattle.dc_table.specs.Plays.{took, raised, put, committed_as, gave_as,
 ghost use Rattle.dc_table.specs.Walking.{noted_as, read_as, pivoted_as, learnt_as, checked_as};
 
 use crate::sheet::Sheet;
-use crate::table::Value;
+use crate::table::Guarded;
 use atomic_table::{Join, Play, Split};
 use std::marker::{Brand, PhantomData};
 
@@ -36,21 +36,21 @@ impl Asked for Brand {
 /// The lock is tried.
 pub struct Take;
 
-impl Play<Option<Value>, Sheet> for Take {
+impl Play<Option<Box<Guarded>>, Sheet> for Take {
     ghost then = { took };
 }
 
 /// The count of a row grows by one.
 pub struct Raise;
 
-impl Play<Option<Value>, Sheet> for Raise {
+impl Play<Option<Box<Guarded>>, Sheet> for Raise {
     ghost then = { raised };
 }
 
 /// A word of an odd row is written.
 pub struct Put;
 
-impl Play<Option<Value>, Sheet> for Put {
+impl Play<Option<Box<Guarded>>, Sheet> for Put {
     ghost then = { put };
 }
 
@@ -59,14 +59,14 @@ pub struct Commit<C> {
     of: PhantomData<C>,
 }
 
-impl<C: Asked> Play<Option<Value>, Sheet> for Commit<C> {
+impl<C: Asked> Play<Option<Box<Guarded>>, Sheet> for Commit<C> {
     ghost then = { committed_as C.call };
 }
 
 /// The lock goes back.
 pub struct Give;
 
-impl Play<Option<Value>, Sheet> for Give {
+impl Play<Option<Box<Guarded>>, Sheet> for Give {
     ghost then = { gave_as };
 }
 
@@ -75,7 +75,7 @@ pub struct Answer<C> {
     of: PhantomData<C>,
 }
 
-impl<C: Asked> Play<Option<Value>, Sheet> for Answer<C> {
+impl<C: Asked> Play<Option<Box<Guarded>>, Sheet> for Answer<C> {
     ghost then = { answered_as C.call };
 }
 
@@ -84,14 +84,14 @@ pub struct Note<C> {
     of: PhantomData<C>,
 }
 
-impl<C: Asked> Play<Option<Value>, Sheet> for Note<C> {
+impl<C: Asked> Play<Option<Box<Guarded>>, Sheet> for Note<C> {
     ghost then = { noted_as C.call C.about C.first };
 }
 
 /// A word of the row that was noted last is read.
 pub struct Read;
 
-impl Play<Option<Value>, Sheet> for Read {
+impl Play<Option<Box<Guarded>>, Sheet> for Read {
     ghost then = { read_as };
 }
 
@@ -100,14 +100,14 @@ pub struct Pivot<C> {
     of: PhantomData<C>,
 }
 
-impl<C: Asked> Play<Option<Value>, Sheet> for Pivot<C> {
+impl<C: Asked> Play<Option<Box<Guarded>>, Sheet> for Pivot<C> {
     ghost then = { pivoted_as C.call C.first };
 }
 
 /// The clock is loaded, and a walk is given up.
 pub struct Learn;
 
-impl Play<Option<Value>, Sheet> for Learn {
+impl Play<Option<Box<Guarded>>, Sheet> for Learn {
     ghost then = { learnt_as };
 }
 
@@ -116,7 +116,7 @@ pub struct Check<C> {
     of: PhantomData<C>,
 }
 
-impl<C: Asked> Play<Option<Value>, Sheet> for Check<C> {
+impl<C: Asked> Play<Option<Box<Guarded>>, Sheet> for Check<C> {
     ghost then = { checked_as C.about };
 }
 

@@ -4,7 +4,7 @@ ghost use Rattle.std.specs.Prelude.{◌≡◌};
 ghost use Rattle.dc_events.specs.Rows.{base_of};
 
 use crate::sheet::Sheet;
-use crate::table::{Limits, Protocol, Value};
+use crate::table::{Guarded, Limits, Protocol};
 use atomic_table::Table;
 use std::alloc::Global;
 use std::sync::atomic::AtomicU64;
@@ -12,8 +12,9 @@ use std::sync::atomic::AtomicU64;
 /// The words that all threads share, and the slot of the lock.
 #[derive(Drop)]
 pub struct Shared {
-    pub table: Table<Option<Value>, Sheet, Limits, Protocol, Global>,
-    pub limits: Limits,
+    pub(crate) table: Table<Option<Box<Guarded>>, Sheet, Limits, Protocol, Global>,
+    pub(crate) limits: Limits,
+    /// How many passes sleep until the lock is free.
     pub(crate) waiting: AtomicU64,
     ghost limits_are: { limits ≡ table.shared.key },
     ghost words: { table.shared.table_id.words ≡ base_of limits.rows },

@@ -1,18 +1,21 @@
 //! The steps of the one that gets, has or gives the lock. Each is the event of its name.
 
-ghost use Rattle.std.specs.Prelude.{◌≡◌, ◌+◌, ◌<◌, false, IfSome, IfNone};
+ghost use Rattle.std.specs.Prelude.{◌≡◌, ◌+◌, ◌<◌, false, IfSome, IfNone, IfOk, IfErr};
 ghost use Rattle.dc_events.specs.Effects.{wrote, committed, gave, answered};
 ghost use Rattle.dc_events.specs.Rows.{base_of, count};
 ghost use Rattle.dc_events.specs.Standing.{tree_of};
 ghost use Rattle.dc_plain.specs.Requests.{request_of};
 ghost use Rattle.dc_plain.specs.Runs.{alters};
 ghost use Rattle.dc_row.specs.declared.TheConstants.{ROW_WORDS as row_words};
-ghost use Rattle.dc_table.specs.Passes.{known, view, share, Fits, IsSamePass, IsIdle, IsHolder, CanShut, CanWrite, CanOpen, CanCommit};
+ghost use Rattle.dc_table.specs.Holders.{pass_of, Locked, Missed, Freed};
+ghost use Rattle.dc_table.specs.Passes.{known, view, share, Fits, IsSamePass, IsIdle, IsHolder, CanShut, CanWrite, CanOpen, CanCommit, CanAnswer};
 ghost use Rattle.dc_table.specs.Plays.{Took, Home};
 
+use crate::holder::Holder;
 use crate::plays::{Answer, Asked, Commit, Give, Put, Raise, Take};
 use crate::shared::Shared;
-use crate::table::{Pass, Value};
+use crate::table::{Guarded, Pass};
+use crate::{CLOCK, FIRST_ROW, FREE, LOCK, TAKEN};
 use dc_events::events_keep_the_rule;
 use dc_plain::Call;
 use dc_row::ROW_WORDS;
@@ -20,41 +23,70 @@ use std::marker::Brand;
 use std::sync::Wait;
 use std::sync::atomic::Ordering::SeqCst;
 
-/// The word that counts the changes.
-const CLOCK: usize = 0;
-
-/// The word that is 1 while a pass has the lock.
-const LOCK: usize = 1;
-
 impl Shared {
-    /// Tries to get the lock, and with it what the lock keeps. It never waits.
-    pub fn try_take(&self, pass: &mut Pass) -> Option<Value>
+    /// Tries the lock, and takes what it guards out of its slot.
+    fn try_take(&self, pass: &mut Pass) -> Option<Box<Guarded>>
         requires pass { Fits self.now pass.old × IsIdle pass.old }
         ensures same { IsSamePass pass.old pass.new }
-        ensures taken { IfSome result (λ value.
-            IsHolder pass.new × Took (known pass.old) (known pass.new) value) }
+        ensures taken { IfSome result (λ guarded.
+            IsHolder pass.new × Took (known pass.old) (known pass.new) guarded.value) }
         ensures held { IfNone result (pass.new.me ≡ pass.old.me) }
     {
         events_keep_the_rule();
-        if self.table.shared.compare_exchange::<Take>(pass, LOCK, 0, 1) != 0 {
+        if self
+            .table
+            .shared
+            .compare_exchange::<Take>(pass, LOCK, FREE, TAKEN)
+            != FREE
+        {
             return None;
         }
         self.table.shared.exchange(pass, 0, None)
     }
 
-    /// Waits for the lock, and gets what it keeps.
-    pub fn take<R: Wait>(&self, rt: &R, pass: &mut Pass) -> Value
+    /// Waits for the lock, and takes what it guards out of its slot.
+    fn take<R: Wait>(&self, rt: &R, pass: &mut Pass) -> Box<Guarded>
         requires pass { Fits self.now pass.old × IsIdle pass.old }
         ensures same { IsSamePass pass.old pass.new }
-        ensures taken { IsHolder pass.new × Took (known pass.old) (known pass.new) result }
+        ensures taken { IsHolder pass.new × Took (known pass.old) (known pass.new) result.value }
     {
         for _ in rt.forever() {
-            if let Some(value) = self.try_take(pass) {
-                return value;
+            if let Some(guarded) = self.try_take(pass) {
+                return guarded;
             }
             self.wait(rt);
         }
+        // The loop above ends by its return alone.
         unreachable!()
+    }
+
+    /// Tries to get the lock with what it guards, and never waits. Where another has it the pass comes back.
+    #[must_use]
+    pub fn try_lock<'t>(
+        &'t self,
+        pass: &'t mut Pass,
+    ) -> Result<(Holder<'t>, Box<Guarded>), &'t mut Pass>
+        requires pass { Fits self.now pass.old × IsIdle pass.old }
+        ensures got { IfOk result (λ r.
+            (r.0.pass.ghost_name ≡ pass.entry.ghost_name) × Locked pass.old r.0 r.1.value) }
+        ensures held { IfErr result (λ back.
+            (back.ghost_name ≡ pass.entry.ghost_name) × Missed pass.old back.now) }
+    {
+        match self.try_take(pass) {
+            Some(guarded) => Ok((Holder { shared: self, pass }, guarded)),
+            None => Err(pass),
+        }
+    }
+
+    /// Waits for the lock, and gets it with what it guards.
+    #[must_use]
+    pub fn lock<'t, R: Wait>(&'t self, rt: &R, pass: &'t mut Pass) -> (Holder<'t>, Box<Guarded>)
+        requires pass { Fits self.now pass.old × IsIdle pass.old }
+        ensures same_reference { result.0.pass.ghost_name ≡ pass.entry.ghost_name }
+        ensures locked { Locked pass.old result.0 result.1.value }
+    {
+        let guarded = self.take(rt, pass);
+        (Holder { shared: self, pass }, guarded)
     }
 
     /// Sleeps while the lock is held.
@@ -62,7 +94,7 @@ impl Shared {
         // A holder that gave the lock back before it saw a sleeper would wake nobody. It sees each that
         // came before, and one that comes later finds the lock free and doesn't sleep.
         self.waiting.fetch_add(1, SeqCst);
-        self.table.shared.park(rt, LOCK, 1);
+        self.table.shared.park(rt, LOCK, TAKEN as u32);
         self.waiting.fetch_sub(1, SeqCst);
     }
 
@@ -73,120 +105,141 @@ impl Shared {
         }
     }
 
-    /// Gives the lock back.
-    pub fn give(&self, pass: &mut Pass, value: Value)
-        requires pass { Fits self.now pass.old × IsHolder pass.old }
-        requires home { Home (known pass.old) value }
-        ensures same { IsSamePass pass.old pass.new × IsIdle pass.new }
-        ensures view { view pass.new ≡ gave (view pass.old) }
-    {
-        events_keep_the_rule();
-        self.table.shared.exchange(pass, 0, Some(value));
-        self.table.shared.store::<Give>(pass, LOCK, 0);
-        self.wake();
-    }
-
-    /// Gives the lock back, and answers a call that alters nothing.
-    pub fn answer(&self, pass: &mut Pass, value: Value, call: &Call<'_>)
-        requires pass { Fits self.now pass.old × IsHolder pass.old }
-        requires home { Home (known pass.old) value }
-        requires unaltered { let limit = (share pass.old).limit in
-            alters limit (tree_of limit (view pass.old).hold.history) (request_of call.now) ≡ false }
-        ensures same { IsSamePass pass.old pass.new × IsIdle pass.new }
-        ensures view { view pass.new
-            ≡ answered (share pass.old).limit (view pass.old) (request_of call.now) }
-    {
-        self.answer_as::<Brand>(pass, value, call);
-    }
-
-    fn answer_as<C: Asked>(&self, pass: &mut Pass, value: Value, call: &Call<'_>)
-        requires call { C.call ≡ request_of call.now }
-        requires pass { Fits self.now pass.old × IsHolder pass.old }
-        requires home { Home (known pass.old) value }
-        requires unaltered { let limit = (share pass.old).limit in
-            alters limit (tree_of limit (view pass.old).hold.history) (request_of call.now) ≡ false }
-        ensures same { IsSamePass pass.old pass.new × IsIdle pass.new }
-        ensures view { view pass.new
-            ≡ answered (share pass.old).limit (view pass.old) (request_of call.now) }
-    {
-        events_keep_the_rule();
-        self.table.shared.exchange(pass, 0, Some(value));
-        self.table.shared.store::<Answer<C>>(pass, LOCK, 0);
-        self.wake();
-    }
-
     /// Where a word of a row stands in the table.
     pub(crate) fn word_of(&self, row: u64, word: u64) -> usize
         requires { (row < self.now.limits.rows) × (word < row_words) }
         ensures place { result ≡ base_of row + word }
         ensures within { result < self.now.table.shared.table_id.words }
     {
+        // For the proof: that the table has so few words that this is no number too great.
         let _words = self.table.word_count();
-        2 + row as usize * ROW_WORDS + word as usize
+        FIRST_ROW + row as usize * ROW_WORDS + word as usize
+    }
+}
+
+impl<'t> Holder<'t> {
+    /// Gives the lock back with what it guards, and hands the pass back.
+    pub fn give(self, guarded: Box<Guarded>) -> &'t mut Pass
+        requires home { Home (known (pass_of self)) guarded.value }
+        ensures same_reference { result.ghost_name ≡ self.entry.pass.ghost_name }
+        ensures freed { Freed self.entry result.now }
+        ensures view { view result.now ≡ gave (view (pass_of self.entry)) }
+    {
+        events_keep_the_rule();
+        let Holder { shared, pass } = self;
+        // The slot is filled before the lock is free: turned round, the next holder would find it empty.
+        shared.table.shared.exchange(pass, 0, Some(guarded));
+        shared.table.shared.store::<Give>(pass, LOCK, FREE);
+        shared.wake();
+        pass
+    }
+
+    /// Gives the lock back with what it guards, answers a call that alters nothing, and hands the pass back.
+    pub fn answer(self, guarded: Box<Guarded>, call: &Call<'_>) -> &'t mut Pass
+        requires home { Home (known (pass_of self)) guarded.value }
+        requires unaltered { CanAnswer (share (pass_of self)) (view (pass_of self)) (request_of call.now) }
+        ensures same_reference { result.ghost_name ≡ self.entry.pass.ghost_name }
+        ensures freed { Freed self.entry result.now }
+        ensures view { let p = pass_of self.entry in
+            view result.now ≡ answered (share p).limit (view p) (request_of call.now) }
+    {
+        self.answer_as::<Brand>(guarded, call)
+    }
+
+    fn answer_as<C: Asked>(self, guarded: Box<Guarded>, call: &Call<'_>) -> &'t mut Pass
+        requires call { C.call ≡ request_of call.now }
+        requires home { Home (known (pass_of self)) guarded.value }
+        requires unaltered { CanAnswer (share (pass_of self)) (view (pass_of self)) (request_of call.now) }
+        ensures same_reference { result.ghost_name ≡ self.entry.pass.ghost_name }
+        ensures freed { Freed self.entry result.now }
+        ensures view { let p = pass_of self.entry in
+            view result.now ≡ answered (share p).limit (view p) (request_of call.now) }
+    {
+        events_keep_the_rule();
+        let Holder { shared, pass } = self;
+        // The slot is filled before the lock is free: turned round, the next holder would find it empty.
+        shared.table.shared.exchange(pass, 0, Some(guarded));
+        shared.table.shared.store::<Answer<C>>(pass, LOCK, FREE);
+        shared.wake();
+        pass
     }
 
     /// Shuts an even row, and returns its count, which is odd.
-    pub fn shut_row(&self, pass: &mut Pass, row: u64) -> u64
-        requires pass { Fits self.now pass.old × IsHolder pass.old }
-        requires row { (row < (share pass.old).rows) × CanShut (view pass.old) row }
-        ensures same { IsSamePass pass.old pass.new × IsHolder pass.new }
-        ensures count { result ≡ count (view pass.old).hold.words row + 1 }
-        ensures view { view pass.new ≡ wrote (view pass.old) (base_of row) result }
+    pub fn shut_row(&mut self, row: u64) -> u64
+        requires row { let p = pass_of self.old in (row < (share p).rows) × CanShut (view p) row }
+        ensures same_reference { self.new.pass.ghost_name ≡ self.old.pass.ghost_name }
+        ensures same { IsSamePass (pass_of self.old) (pass_of self.new) }
+        ensures shut { let v = view (pass_of self.old) in (result ≡ count v.hold.words row + 1)
+            × (view (pass_of self.new) ≡ wrote v (base_of row) result) }
     {
         events_keep_the_rule();
-        let count = self.word_of(row, 0);
-        self.table.shared.fetch_add::<Raise>(pass, count, 1) + 1
+        let count = self.shared.word_of(row, 0);
+        self.shared
+            .table
+            .shared
+            .fetch_add::<Raise>(self.pass, count, 1)
+            + 1
     }
 
     /// Writes a word of an odd row, from the one after its count on.
-    pub fn write_word(&self, pass: &mut Pass, row: u64, word: u64, value: u64)
-        requires pass { Fits self.now pass.old × IsHolder pass.old }
-        requires row { (row < (share pass.old).rows) × CanWrite (view pass.old) row }
+    pub fn write_word(&mut self, row: u64, word: u64, value: u64)
+        requires row { let p = pass_of self.old in (row < (share p).rows) × CanWrite (view p) row }
         requires word { (0 < word) × (word < row_words) }
-        ensures same { IsSamePass pass.old pass.new × IsHolder pass.new }
-        ensures view { view pass.new ≡ wrote (view pass.old) (base_of row + word) value }
+        ensures same_reference { self.new.pass.ghost_name ≡ self.old.pass.ghost_name }
+        ensures same { IsSamePass (pass_of self.old) (pass_of self.new) }
+        ensures view { view (pass_of self.new)
+            ≡ wrote (view (pass_of self.old)) (base_of row + word) value }
     {
         events_keep_the_rule();
-        let place = self.word_of(row, word);
-        self.table.shared.store::<Put>(pass, place, value);
+        let place = self.shared.word_of(row, word);
+        self.shared
+            .table
+            .shared
+            .store::<Put>(self.pass, place, value);
     }
 
     /// Opens an odd row, whose words spell what is true now.
-    pub fn open_row(&self, pass: &mut Pass, row: u64)
-        requires pass { Fits self.now pass.old × IsHolder pass.old }
-        requires row { (row < (share pass.old).rows)
-            × CanOpen (share pass.old).limit (view pass.old) row }
-        ensures same { IsSamePass pass.old pass.new × IsHolder pass.new }
-        ensures view { view pass.new
-            ≡ wrote (view pass.old) (base_of row) (count (view pass.old).hold.words row + 1) }
+    pub fn open_row(&mut self, row: u64)
+        requires row { let p = pass_of self.old in (row < (share p).rows)
+            × CanOpen (share p).limit (view p) row }
+        ensures same_reference { self.new.pass.ghost_name ≡ self.old.pass.ghost_name }
+        ensures same { IsSamePass (pass_of self.old) (pass_of self.new) }
+        ensures view { let v = view (pass_of self.old) in
+            view (pass_of self.new) ≡ wrote v (base_of row) (count v.hold.words row + 1) }
     {
         events_keep_the_rule();
-        let count = self.word_of(row, 0);
-        self.table.shared.fetch_add::<Raise>(pass, count, 1);
+        let count = self.shared.word_of(row, 0);
+        self.shared
+            .table
+            .shared
+            .fetch_add::<Raise>(self.pass, count, 1);
     }
 
     /// Commits a call that alters the tree: from here on it has.
-    pub fn commit(&self, pass: &mut Pass, call: &Call<'_>)
-        requires pass { Fits self.now pass.old × IsHolder pass.old }
-        requires can { let share = share pass.old in
-            CanCommit share.limit share.rows (view pass.old) (request_of call.now) }
-        ensures same { IsSamePass pass.old pass.new × IsHolder pass.new }
-        ensures view { view pass.new
-            ≡ committed (share pass.old).limit (view pass.old) (request_of call.now) }
+    pub fn commit(&mut self, call: &Call<'_>)
+        requires can { let p = pass_of self.old in
+            CanCommit (share p).limit (share p).rows (view p) (request_of call.now) }
+        ensures same_reference { self.new.pass.ghost_name ≡ self.old.pass.ghost_name }
+        ensures same { IsSamePass (pass_of self.old) (pass_of self.new) }
+        ensures view { let p = pass_of self.old in
+            view (pass_of self.new) ≡ committed (share p).limit (view p) (request_of call.now) }
     {
-        self.commit_as::<Brand>(pass, call);
+        self.commit_as::<Brand>(call);
     }
 
-    fn commit_as<C: Asked>(&self, pass: &mut Pass, call: &Call<'_>)
+    fn commit_as<C: Asked>(&mut self, call: &Call<'_>)
         requires call { C.call ≡ request_of call.now }
-        requires pass { Fits self.now pass.old × IsHolder pass.old }
-        requires can { let share = share pass.old in
-            CanCommit share.limit share.rows (view pass.old) (request_of call.now) }
-        ensures same { IsSamePass pass.old pass.new × IsHolder pass.new }
-        ensures view { view pass.new
-            ≡ committed (share pass.old).limit (view pass.old) (request_of call.now) }
+        requires can { let p = pass_of self.old in
+            CanCommit (share p).limit (share p).rows (view p) (request_of call.now) }
+        ensures same_reference { self.new.pass.ghost_name ≡ self.old.pass.ghost_name }
+        ensures same { IsSamePass (pass_of self.old) (pass_of self.new) }
+        ensures view { let p = pass_of self.old in
+            view (pass_of self.new) ≡ committed (share p).limit (view p) (request_of call.now) }
     {
         events_keep_the_rule();
-        self.table.shared.fetch_add::<Commit<C>>(pass, CLOCK, 1);
+        self.shared
+            .table
+            .shared
+            .fetch_add::<Commit<C>>(self.pass, CLOCK, 1);
     }
 }

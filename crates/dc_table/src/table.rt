@@ -6,10 +6,10 @@ use dc_index::Index;
 use dc_shrink::Shrinker;
 use dc_store::SlabStore;
 
-/// What the lock keeps: the tree, which row has which key, which rows are in use, how many calls have
+/// What the lock guards: the tree, which row has which key, which rows are in use, how many calls have
 /// altered the tree, and how many inodes may live.
 #[derive(Drop)]
-pub struct Value {
+pub struct Guarded {
     pub store: SlabStore,
     pub index: Index,
     pub shrinker: Shrinker,
@@ -27,7 +27,7 @@ pub struct Limits {
 /// The rule of the table.
 pub struct Protocol;
 
-impl TableRule<Option<Value>, Sheet, Limits> for Protocol {
+impl TableRule<Option<Box<Guarded>>, Sheet, Limits> for Protocol {
     ghost use Rattle.dc_table.specs.Kept.{Kept, first_sheet};
 
     ghost holds = { Kept };
@@ -36,4 +36,4 @@ impl TableRule<Option<Value>, Sheet, Limits> for Protocol {
 }
 
 /// What a thread takes its steps with. It takes no bytes.
-pub type Pass = Seat<Option<Value>, Sheet>;
+pub type Pass = Seat<Option<Box<Guarded>>, Sheet>;

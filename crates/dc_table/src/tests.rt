@@ -1,46 +1,9 @@
-ghost use Rattle.std.specs.Thread.{IsSync};
-ghost use Rattle.dc_ops.specs.Asked.{IsChange};
-ghost use Rattle.dc_table.specs.Passes.{Fits, IsIdle};
+//! A table as it is made and ended, its lock, and its steps by hand.
 
-use crate::{MakeFault, Pass, Shared};
-use dc_plain::{Call, Reply};
+use crate::{MakeFault, Shared};
+use dc_plain::{Call, Follow};
 use dc_store::Store;
-use std::alloc::Global;
-use std::sync::Wait;
 use std::test::Fail;
-use std::thread::{Threads, join};
-
-fn mkdir(path: &[u8]) -> Call<'_>
-    ensures { IsChange result }
-{
-    Call::Mkdir { base: 1, path }
-}
-
-#[test]
-fn changes_are_answered_at_their_points(rt: HostRuntime) -> Result<(), Fail> {
-    let (shared, mut p) = Shared::new(rt.alloc(), 1, 16).expect(&rt, "memory");
-    let unlink = Call::Unlink {
-        base: 1,
-        path: b"/a",
-    };
-    let rmdir = Call::Rmdir {
-        base: 1,
-        path: b"/a",
-    };
-    let made = shared.change(&rt, rt.alloc(), &mut p, &mkdir(b"/a"));
-    assert!(rt; matches!(made, Ok((Reply::Done(2), 0))));
-    let again = shared.change(&rt, rt.alloc(), &mut p, &mkdir(b"/a"));
-    assert!(rt; matches!(again, Ok((Reply::Refused(17), 1))));
-    let unlinked = shared.change(&rt, rt.alloc(), &mut p, &unlink);
-    assert!(rt; matches!(unlinked, Ok((Reply::Refused(1), 1))));
-    let removed = shared.change(&rt, rt.alloc(), &mut p, &rmdir);
-    assert!(rt; matches!(removed, Ok((Reply::Unit, 1))));
-    let q = shared.split(&mut p);
-    shared.join(&mut p, q);
-    let value = shared.close(p).expect(&rt, "the lock is free");
-    assert!(rt; value.clock == 2 && value.store.live() == 1);
-    Ok(())
-}
 
 #[test]
 fn a_table_has_its_sizes(rt: HostRuntime) -> Result<(), Fail> {
@@ -54,83 +17,43 @@ fn a_table_has_its_sizes(rt: HostRuntime) -> Result<(), Fail> {
     Ok(())
 }
 
-/// Creates a hundred files whose names begin with this letter, and returns the pass.
-fn fill<R: Wait>(rt: &R, alloc: Global, shared: &Shared, mut pass: Pass, letter: u8) -> Pass
-    requires { Fits shared.now pass × IsIdle pass }
-    ensures { Fits shared.now result × IsIdle result }
-{
-    for tens in b'0'..=b'9' {
-        for ones in b'0'..=b'9' {
-            let path = [b'/', letter, tens, ones];
-            let call = Call::Create {
-                base: 1,
-                path: &path,
-            };
-            // A refusal shows in the count of what lives in the end.
-            let _ = shared.change(rt, alloc, &mut pass, &call);
+#[test]
+fn the_lock_is_got_once(rt: HostRuntime) -> Result<(), Fail> {
+    let (shared, mut p) = Shared::new(rt.alloc(), 1, 16).expect(&rt, "memory");
+    let mut q = shared.split(&mut p);
+    let (holder, guarded) = match shared.try_lock(&mut p) {
+        Ok(got) => got,
+        Err(_back) => panic!(rt; "the lock is free"),
+    };
+    let is_held = match shared.try_lock(&mut q) {
+        Ok((other, guarded)) => {
+            other.give(guarded);
+            false
         }
-    }
-    pass
-}
-
-/// Two passes fill the table in two threads.
-fn fill_both<R: Threads + Wait + Sync>(
-    rt: &R,
-    alloc: Global,
-    table: &Shared,
-    a: Pass,
-    b: Pass,
-    first: u8,
-    second: u8,
-) -> (Pass, Pass)
-    requires a { Fits table.now a × IsIdle a }
-    requires b { Fits table.now b × IsIdle b }
-    requires sync { IsSync R.row }
-    ensures a { Fits table.now result.0 × IsIdle result.0 }
-    ensures b { Fits table.now result.1 × IsIdle result.1 }
-{
-    join(
-        rt,
-        move || -> Pass
-            requires { Fits table.now a × IsIdle a }
-            ensures { Fits table.entry.now result × IsIdle result }
-        { fill(rt, alloc, table, a, first) },
-        move || -> Pass
-            requires { Fits table.now b × IsIdle b }
-            ensures { Fits table.entry.now result × IsIdle result }
-        { fill(rt, alloc, table, b, second) },
-    )
+        Err(_back) => true,
+    };
+    assert!(rt; is_held);
+    assert!(rt; guarded.store.live() == 1);
+    holder.give(guarded);
+    Ok(())
 }
 
 #[test]
-fn four_threads_fill_one_table(rt: HostRuntime) -> Result<(), Fail> {
-    let (shared, mut p) = Shared::new(rt.alloc(), 16, 1024).expect(&rt, "memory");
-    let a = shared.split(&mut p);
-    let b = shared.split(&mut p);
-    let c = shared.split(&mut p);
-    let d = shared.split(&mut p);
-    let table = &shared;
-    let alloc = rt.alloc();
-    let ((a, b), (c, d)) = join(
-        &rt,
-        move || -> (Pass, Pass)
-            requires a { Fits table.now a × IsIdle a }
-            requires b { Fits table.now b × IsIdle b }
-            ensures a { Fits table.entry.now result.0 × IsIdle result.0 }
-            ensures b { Fits table.entry.now result.1 × IsIdle result.1 }
-        { fill_both(&rt, alloc, table, a, b, b'a', b'b') },
-        move || -> (Pass, Pass)
-            requires c { Fits table.now c × IsIdle c }
-            requires d { Fits table.now d × IsIdle d }
-            ensures c { Fits table.entry.now result.0 × IsIdle result.0 }
-            ensures d { Fits table.entry.now result.1 × IsIdle result.1 }
-        { fill_both(&rt, alloc, table, c, d, b'c', b'd') },
-    );
-    shared.join(&mut p, a);
-    shared.join(&mut p, b);
-    shared.join(&mut p, c);
-    shared.join(&mut p, d);
-    let value = shared.close(p).expect(&rt, "the lock is free");
-    assert!(rt; value.clock == 400 && value.store.live() == 401);
+fn a_walk_by_hand_is_recorded(rt: HostRuntime) -> Result<(), Fail> {
+    let (shared, mut p) = Shared::new(rt.alloc(), 2, 16).expect(&rt, "memory");
+    assert!(rt; shared.rows() == 8 && shared.buckets() == 2);
+    let look = Call::Look {
+        base: 1,
+        path: b"/",
+        follow: Follow::Yes,
+    };
+    let reader = shared.reader();
+    assert!(rt; reader.buckets() == 2);
+    assert!(rt; reader.pivot(&mut p, &look, true) == 0);
+    assert!(rt; shared.learn(&mut p) == 0);
+    let (holder, guarded) = shared.lock(&rt, &mut p);
+    holder.give(guarded);
+    let ended = shared.close(p).expect(&rt, "the lock is free");
+    assert!(rt; ended.clock == 0);
     Ok(())
 }

@@ -1,24 +1,30 @@
 //! The steps of a walk without the lock. None waits. Each is the event of its name.
 
-ghost use Rattle.std.specs.Prelude.{◌≡◌, ◌≢◌, ◌%◌, ◌+◌, ◌<◌, ◌≤◌, false, IfOk, IfErr, OnOk};
+ghost use Rattle.std.specs.Prelude.{◌≡◌, ◌≢◌, ◌%◌, ◌/◌, ◌+◌, ◌<◌, ◌≤◌, false, IfOk, IfErr, OnOk};
 ghost use Rattle.dc_events.specs.Effects.{begins, quit, noted, read, pivoted, checked, faulted};
 ghost use Rattle.dc_events.specs.Views.Fault.{Busy, Changed};
 ghost use Rattle.dc_plain.specs.Requests.{request_of};
+ghost use Rattle.dc_table.specs.Holders.{table_of};
 ghost use Rattle.dc_table.specs.Passes.{view, share, Fits, IsSamePass, IsIdle};
 ghost use Rattle.dc_table.specs.Walking.{IsFresh, CanRead, CanCheck};
 
+use crate::holder::Reader;
 use crate::plays::{Asked, Check, Learn, Note, Pivot, Read};
 use crate::shared::Shared;
 use crate::table::Pass;
+use crate::{BUCKET_ROWS, CLOCK};
 use dc_events::events_keep_the_rule;
 use dc_plain::Call;
 use std::marker::Brand;
 
-impl Shared {
+impl Reader<'_> {
+    // A count is loaded before any other word of its row, and again after the pivot; the order of the
+    // steps is the walk's own.
+
     /// Notes the count of a row, where it is even: `first` begins the walk of the call. An odd count is
     /// an `Err`, and isn't noted.
     pub fn note(&self, pass: &mut Pass, call: &Call<'_>, row: u64, first: bool) -> Result<u64, u64>
-        requires pass { Fits self.now pass.old × IsIdle pass.old }
+        requires pass { Fits (table_of self.now) pass.old × IsIdle pass.old }
         requires row { row < (share pass.old).rows }
         requires fresh { (begins first (view pass.old) (request_of call.now)).walk.pivoted ≡ false }
         ensures same { IsSamePass pass.old pass.new × IsIdle pass.new }
@@ -37,7 +43,7 @@ impl Shared {
 
     fn note_as<C: Asked>(&self, pass: &mut Pass, call: &Call<'_>, row: u64, first: bool) -> u64
         requires asked { (C.call ≡ request_of call.now) × (C.about ≡ row) × (C.first ≡ first) }
-        requires pass { Fits self.now pass.old × IsIdle pass.old }
+        requires pass { Fits (table_of self.now) pass.old × IsIdle pass.old }
         requires row { row < (share pass.old).rows }
         requires fresh { (begins first (view pass.old) (request_of call.now)).walk.pivoted ≡ false }
         ensures same { IsSamePass pass.old pass.new × IsIdle pass.new }
@@ -47,26 +53,26 @@ impl Shared {
             ≡ faulted (begins first (view pass.old) (request_of call.now)) (Busy row) }
     {
         events_keep_the_rule();
-        let count = self.word_of(row, 0);
-        self.table.shared.load::<Note<C>>(pass, count)
+        let count = self.shared.word_of(row, 0);
+        self.shared.table.shared.load::<Note<C>>(pass, count)
     }
 
     /// Reads the next word of the row that was noted last.
     pub fn read_word(&self, pass: &mut Pass, row: u64, word: u64) -> u64
-        requires pass { Fits self.now pass.old × IsIdle pass.old }
+        requires pass { Fits (table_of self.now) pass.old × IsIdle pass.old }
         requires row { row < (share pass.old).rows }
         requires word { CanRead (view pass.old) row word }
         ensures same { IsSamePass pass.old pass.new × IsIdle pass.new }
         ensures view { view pass.new ≡ read (view pass.old) result }
     {
         events_keep_the_rule();
-        let place = self.word_of(row, word);
-        self.table.shared.load::<Read>(pass, place)
+        let place = self.shared.word_of(row, word);
+        self.shared.table.shared.load::<Read>(pass, place)
     }
 
     /// Loads the clock: the point at which the call takes effect, if all that was noted stands.
     pub fn pivot(&self, pass: &mut Pass, call: &Call<'_>, first: bool) -> u64
-        requires pass { Fits self.now pass.old × IsIdle pass.old }
+        requires pass { Fits (table_of self.now) pass.old × IsIdle pass.old }
         requires fresh { IsFresh (begins first (view pass.old) (request_of call.now)) }
         ensures same { IsSamePass pass.old pass.new × IsIdle pass.new }
         ensures view { view pass.new
@@ -78,7 +84,7 @@ impl Shared {
 
     fn pivot_as<C: Asked>(&self, pass: &mut Pass, call: &Call<'_>, first: bool) -> u64
         requires asked { (C.call ≡ request_of call.now) × (C.first ≡ first) }
-        requires pass { Fits self.now pass.old × IsIdle pass.old }
+        requires pass { Fits (table_of self.now) pass.old × IsIdle pass.old }
         requires fresh { IsFresh (begins first (view pass.old) (request_of call.now)) }
         ensures same { IsSamePass pass.old pass.new × IsIdle pass.new }
         ensures view { view pass.new
@@ -86,26 +92,15 @@ impl Shared {
         ensures later { (view pass.old).book.seen ≤ result }
     {
         events_keep_the_rule();
-        let _words = self.table.word_count();
-        self.table.shared.load::<Pivot<C>>(pass, 0)
-    }
-
-    /// Loads the clock, which the pass has then seen. A walk that went on is given up.
-    pub fn learn(&self, pass: &mut Pass) -> u64
-        requires pass { Fits self.now pass.old × IsIdle pass.old }
-        ensures same { IsSamePass pass.old pass.new × IsIdle pass.new }
-        ensures view { view pass.new ≡ pivoted (quit (view pass.old)) result }
-        ensures later { (view pass.old).book.seen ≤ result }
-    {
-        events_keep_the_rule();
-        let _words = self.table.word_count();
-        self.table.shared.load::<Learn>(pass, 0)
+        // For the proof: that the table has a clock.
+        let _words = self.shared.table.word_count();
+        self.shared.table.shared.load::<Pivot<C>>(pass, CLOCK)
     }
 
     /// Whether the row of note `i`, the first being 0, still has the count that was noted. An `Err` has
     /// the counts noted and found. Where the notes that were checked answer the call, it is recorded.
     pub fn check(&self, pass: &mut Pass, i: u64, row: u64, noted: u64) -> Result<(), (u64, u64)>
-        requires pass { Fits self.now pass.old × IsIdle pass.old }
+        requires pass { Fits (table_of self.now) pass.old × IsIdle pass.old }
         requires row { row < (share pass.old).rows }
         requires note { CanCheck (view pass.old) i row noted }
         ensures same { IsSamePass pass.old pass.new × IsIdle pass.new }
@@ -123,7 +118,7 @@ impl Shared {
 
     fn check_as<C: Asked>(&self, pass: &mut Pass, i: u64, row: u64, noted: u64) -> u64
         requires asked { C.about ≡ i }
-        requires pass { Fits self.now pass.old × IsIdle pass.old }
+        requires pass { Fits (table_of self.now) pass.old × IsIdle pass.old }
         requires row { row < (share pass.old).rows }
         requires note { CanCheck (view pass.old) i row noted }
         ensures same { IsSamePass pass.old pass.new × IsIdle pass.new }
@@ -132,7 +127,45 @@ impl Shared {
             × (view pass.new ≡ faulted (view pass.old) (Changed row noted result)) }
     {
         events_keep_the_rule();
-        let count = self.word_of(row, 0);
-        self.table.shared.load::<Check<C>>(pass, count)
+        let count = self.shared.word_of(row, 0);
+        self.shared.table.shared.load::<Check<C>>(pass, count)
+    }
+}
+
+impl Reader<'_> {
+    /// How many rows the table has.
+    pub fn rows(&self) -> u64
+        ensures { result ≡ (table_of self.now).limits.rows }
+    {
+        self.shared.rows()
+    }
+
+    /// How many buckets of four rows the table has.
+    pub fn buckets(&self) -> u64
+        ensures { result ≡ (table_of self.now).limits.rows / BUCKET_ROWS }
+    {
+        self.shared.buckets()
+    }
+}
+
+impl Shared {
+    /// The table for walks without the lock.
+    pub fn reader(&self) -> Reader<'_>
+        ensures { table_of result ≡ self.now }
+    {
+        Reader { shared: self }
+    }
+
+    /// Loads the clock, which the pass has then seen. A walk that went on is given up.
+    pub fn learn(&self, pass: &mut Pass) -> u64
+        requires pass { Fits self.now pass.old × IsIdle pass.old }
+        ensures same { IsSamePass pass.old pass.new × IsIdle pass.new }
+        ensures view { view pass.new ≡ pivoted (quit (view pass.old)) result }
+        ensures later { (view pass.old).book.seen ≤ result }
+    {
+        events_keep_the_rule();
+        // For the proof: that the table has a clock.
+        let _words = self.table.word_count();
+        self.table.shared.load::<Learn>(pass, CLOCK)
     }
 }

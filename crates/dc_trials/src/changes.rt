@@ -1,13 +1,13 @@
 //! Threads that make, link, rename and remove in shared directories, judged by the checker.
 
 ghost use Rattle.dc_ops.specs.Asked.{IsChange};
-ghost use Rattle.dc_table.specs.Passes.{Fits, IsIdle};
+ghost use Rattle.dc_cache.specs.Passes.{Fits};
 ghost use Rattle.std.specs.Thread.{IsSync};
 
+use dc_cache::{Dcache, Pass};
 use dc_check::{Stamp, Verdict, check};
 use dc_names::NoMemory;
-use dc_plain::{Call, OwnCall};
-use dc_table::{Pass, Shared};
+use dc_plain::{Call, Flags, OwnCall, Stamped};
 use std::alloc::Global;
 use std::sync::Wait;
 use std::test::Fail;
@@ -59,6 +59,7 @@ fn call_of<'a>(seed: u64, one: &'a [u8], two: &'a [u8]) -> Call<'a>
             base: 1,
             old: one,
             new: two,
+            flags: Flags::default(),
         },
     }
 }
@@ -67,37 +68,37 @@ fn call_of<'a>(seed: u64, one: &'a [u8], two: &'a [u8]) -> Call<'a>
 fn stamped<R: Wait>(
     rt: &R,
     alloc: Global,
-    shared: &Shared,
+    cache: &Dcache,
     pass: &mut Pass,
     session: u64,
     seed: u64,
 ) -> Result<Stamp, NoMemory>
-    requires { Fits shared.now pass.old × IsIdle pass.old }
-    ensures { Fits shared.now pass.new × IsIdle pass.new }
+    requires { Fits cache.now pass.old }
+    ensures { Fits cache.now pass.new }
 {
     let one = path(seed >> 20);
     let two = path(seed >> 40);
     let call = call_of(seed >> 33, &one[..4], &two[..4]);
     let own = OwnCall::of(alloc, &call)?;
-    answered(rt, alloc, shared, pass, session, &call, own)
+    answered(rt, alloc, cache, pass, session, &call, own)
 }
 
 /// Makes a change, and stamps its answer.
 fn answered<R: Wait>(
     rt: &R,
     alloc: Global,
-    shared: &Shared,
+    cache: &Dcache,
     pass: &mut Pass,
     session: u64,
     call: &Call<'_>,
     own: OwnCall,
 ) -> Result<Stamp, NoMemory>
-    requires pass { Fits shared.now pass.old × IsIdle pass.old }
+    requires pass { Fits cache.now pass.old }
     requires change { IsChange call.now }
-    ensures { Fits shared.now pass.new × IsIdle pass.new }
+    ensures { Fits cache.now pass.new }
 {
-    match shared.change(rt, alloc, pass, call) {
-        Ok((reply, at)) => Ok(Stamp {
+    match cache.change(rt, alloc, pass, call) {
+        Ok(Stamped { reply, at }) => Ok(Stamp {
             session,
             call: own,
             reply,
@@ -108,23 +109,23 @@ fn answered<R: Wait>(
 }
 
 /// Makes `CALLS` changes of a fixed sequence, and stamps their answers.
-fn work<R: Wait>(rt: &R, alloc: Global, shared: &Shared, pass: &mut Pass, session: u64) -> Stamps
-    requires { Fits shared.now pass.old × IsIdle pass.old }
-    ensures { Fits shared.now pass.new × IsIdle pass.new }
+fn work<R: Wait>(rt: &R, alloc: Global, cache: &Dcache, pass: &mut Pass, session: u64) -> Stamps
+    requires { Fits cache.now pass.old }
+    ensures { Fits cache.now pass.new }
 {
     let mut stamps = Vec::new(alloc);
     let mut seed = next(session);
     for _ in 0..CALLS {
         seed = next(seed);
-        stamps.push(stamped(rt, alloc, shared, pass, session, seed)?)?;
+        stamps.push(stamped(rt, alloc, cache, pass, session, seed)?)?;
     }
     Ok(stamps)
 }
 
 /// Makes the directories in which the threads work.
-fn prepare<R: Wait>(rt: &R, alloc: Global, shared: &Shared, pass: &mut Pass) -> Stamps
-    requires { Fits shared.now pass.old × IsIdle pass.old }
-    ensures { Fits shared.now pass.new × IsIdle pass.new }
+fn prepare<R: Wait>(rt: &R, alloc: Global, cache: &Dcache, pass: &mut Pass) -> Stamps
+    requires { Fits cache.now pass.old }
+    ensures { Fits cache.now pass.new }
 {
     let mut stamps = Vec::new(alloc);
     for dir in b'a'..=b'd' {
@@ -134,7 +135,7 @@ fn prepare<R: Wait>(rt: &R, alloc: Global, shared: &Shared, pass: &mut Pass) -> 
             path: &path,
         };
         let own = OwnCall::of(alloc, &call)?;
-        stamps.push(answered(rt, alloc, shared, pass, 0, &call, own)?)?;
+        stamps.push(answered(rt, alloc, cache, pass, 0, &call, own)?)?;
     }
     Ok(stamps)
 }
@@ -153,32 +154,32 @@ fn gathered(mut stamps: Vec<Stamp>, more: [Stamps; 4]) -> Stamps {
 fn both<R: Threads + Wait + Sync>(
     rt: &R,
     alloc: Global,
-    table: &Shared,
+    cache: &Dcache,
     mut a: Pass,
     mut b: Pass,
     session: u64,
     other: u64,
 ) -> ((Pass, Stamps), (Pass, Stamps))
-    requires a { Fits table.now a × IsIdle a }
-    requires b { Fits table.now b × IsIdle b }
+    requires a { Fits cache.now a }
+    requires b { Fits cache.now b }
     requires sync { IsSync R.row }
-    ensures a { Fits table.now result.0.0 × IsIdle result.0.0 }
-    ensures b { Fits table.now result.1.0 × IsIdle result.1.0 }
+    ensures a { Fits cache.now result.0.0 }
+    ensures b { Fits cache.now result.1.0 }
 {
     join(
         rt,
         move || -> (Pass, Stamps)
-            requires { Fits table.now a × IsIdle a }
-            ensures { Fits table.entry.now result.0 × IsIdle result.0 }
+            requires { Fits cache.now a }
+            ensures { Fits cache.entry.now result.0 }
         {
-            let stamps = work(rt, alloc, table, &mut a, session);
+            let stamps = work(rt, alloc, cache, &mut a, session);
             (a, stamps)
         },
         move || -> (Pass, Stamps)
-            requires { Fits table.now b × IsIdle b }
-            ensures { Fits table.entry.now result.0 × IsIdle result.0 }
+            requires { Fits cache.now b }
+            ensures { Fits cache.entry.now result.0 }
         {
-            let stamps = work(rt, alloc, table, &mut b, other);
+            let stamps = work(rt, alloc, cache, &mut b, other);
             (b, stamps)
         },
     )
@@ -186,28 +187,28 @@ fn both<R: Threads + Wait + Sync>(
 
 #[test]
 fn four_threads_change_what_one_plain_tree_explains(rt: HostRuntime) -> Result<(), Fail> {
-    let (shared, mut p) = Shared::new(rt.alloc(), 4, 64).expect(&rt, "memory");
+    let (shared, mut p) = Dcache::new(rt.alloc(), 4, 64).expect(&rt, "memory");
     let alloc = rt.alloc();
     let made = prepare(&rt, alloc, &shared, &mut p).expect(&rt, "memory");
     let a = shared.split(&mut p);
     let b = shared.split(&mut p);
     let c = shared.split(&mut p);
     let d = shared.split(&mut p);
-    let table = &shared;
+    let cache = &shared;
     let (((a, first), (b, second)), ((c, third), (d, fourth))) = join(
         &rt,
         move || -> ((Pass, Stamps), (Pass, Stamps))
-            requires a { Fits table.now a × IsIdle a }
-            requires b { Fits table.now b × IsIdle b }
-            ensures a { Fits table.entry.now result.0.0 × IsIdle result.0.0 }
-            ensures b { Fits table.entry.now result.1.0 × IsIdle result.1.0 }
-        { both(&rt, alloc, table, a, b, 1, 2) },
+            requires a { Fits cache.now a }
+            requires b { Fits cache.now b }
+            ensures a { Fits cache.entry.now result.0.0 }
+            ensures b { Fits cache.entry.now result.1.0 }
+        { both(&rt, alloc, cache, a, b, 1, 2) },
         move || -> ((Pass, Stamps), (Pass, Stamps))
-            requires c { Fits table.now c × IsIdle c }
-            requires d { Fits table.now d × IsIdle d }
-            ensures c { Fits table.entry.now result.0.0 × IsIdle result.0.0 }
-            ensures d { Fits table.entry.now result.1.0 × IsIdle result.1.0 }
-        { both(&rt, alloc, table, c, d, 3, 4) },
+            requires c { Fits cache.now c }
+            requires d { Fits cache.now d }
+            ensures c { Fits cache.entry.now result.0.0 }
+            ensures d { Fits cache.entry.now result.1.0 }
+        { both(&rt, alloc, cache, c, d, 3, 4) },
     );
     shared.join(&mut p, a);
     shared.join(&mut p, b);

@@ -5,4 +5,6 @@
 #[cfg(test)]
 mod changes;
 #[cfg(test)]
+mod exchanges;
+#[cfg(test)]
 mod sessions;

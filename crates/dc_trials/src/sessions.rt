@@ -3,7 +3,8 @@
 ghost use Rattle.std.specs.Thread.{IsSync};
 
 use crate::changes::next;
-use dc_check::{Verdict, check, record_of};
+use dc_check::{PhasedVerdict, Stamp, check_phases, record_of};
+use dc_lang::{read_lines, serving_order};
 use dc_serve::{FreeGate, Options, run};
 use std::alloc::{AllocError, Global};
 use std::sync::Wait;
@@ -95,13 +96,57 @@ fn add_phase(
     Ok(seed)
 }
 
+/// Runs an input, and answers what every command was answered.
+pub fn record<R: Threads + Wait + Sync>(
+    rt: &R,
+    alloc: Global,
+    buckets: u64,
+    input: &[u8],
+) -> Result<Vec<Stamp>, Fail>
+    requires sync { IsSync R.row }
+{
+    let mut output = Vec::new(alloc);
+    let mut rest = input;
+    let sizes = Options {
+        buckets,
+        inodes: INODES,
+    };
+    run(rt, alloc, &mut rest, &mut output, sizes, &FreeGate)?;
+    Ok(record_of(alloc, input, &output)?)
+}
+
+/// What the checker says of the record of an input, by phases too.
+pub fn verdict(alloc: Global, input: &[u8], stamps: &[Stamp]) -> Result<PhasedVerdict, Fail> {
+    let lines = read_lines(alloc, input)?;
+    let served = serving_order(alloc, &lines)?;
+    let phases: Vec<u64> = served.iter().map(|one| one.phase).collect(alloc)?;
+    if phases.len() != stamps.len() {
+        return Err(Fail::from("another number of phases"));
+    }
+    Ok(check_phases(alloc, INODES, stamps, &phases)?)
+}
+
+/// Runs an input, and tells how many answers there are and what the checker says of them, by phases too.
+fn run_and_judge<R: Threads + Wait + Sync>(
+    rt: &R,
+    alloc: Global,
+    buckets: u64,
+    input: &[u8],
+) -> Result<(u64, PhasedVerdict), Fail>
+    requires sync { IsSync R.row }
+{
+    let stamps = record(rt, alloc, buckets, input)?;
+    let verdict = verdict(alloc, input, &stamps)?;
+    Ok((stamps.len() as u64, verdict))
+}
+
 /// Runs all phases with so many buckets, and tells how many answers there are and what the checker says.
 fn judge<R: Threads + Wait + Sync>(
     rt: &R,
     alloc: Global,
     buckets: u64,
     linked: bool,
-) -> Result<(u64, Verdict), Fail>
+) -> Result<(u64, PhasedVerdict), Fail>
     requires sync { IsSync R.row }
 {
     let mut input = Vec::new(alloc);
@@ -109,22 +154,14 @@ fn judge<R: Threads + Wait + Sync>(
     for _ in 0..PHASES {
         seed = add_phase(alloc, &mut input, seed, linked)?;
     }
-    let mut output = Vec::new(alloc);
-    let mut rest = input.as_slice();
-    let sizes = Options {
-        buckets,
-        inodes: INODES,
-    };
-    run(rt, alloc, &mut rest, &mut output, sizes, &FreeGate)?;
-    let stamps = record_of(alloc, &input, &output)?;
-    Ok((stamps.len() as u64, check(alloc, INODES, &stamps)?))
+    run_and_judge(rt, alloc, buckets, &input)
 }
 
 #[test]
 fn eight_sessions_on_one_bucket_are_legal(rt: HostRuntime) -> Result<(), Fail> {
     let (answers, verdict) = judge(&rt, rt.alloc(), 1, false)?;
     assert!(rt; answers == SESSIONS * PHASES * LINES);
-    assert!(rt; verdict == Verdict::Legal, "{verdict:?}");
+    assert!(rt; verdict == PhasedVerdict::Legal, "{verdict:?}");
     Ok(())
 }
 
@@ -132,6 +169,58 @@ fn eight_sessions_on_one_bucket_are_legal(rt: HostRuntime) -> Result<(), Fail> {
 fn eight_sessions_that_turn_links_are_legal(rt: HostRuntime) -> Result<(), Fail> {
     let (answers, verdict) = judge(&rt, rt.alloc(), 8, true)?;
     assert!(rt; answers == SESSIONS * PHASES * LINES);
-    assert!(rt; verdict == Verdict::Legal, "{verdict:?}");
+    assert!(rt; verdict == PhasedVerdict::Legal, "{verdict:?}");
+    Ok(())
+}
+
+/// The inputs of the server's own tests in which a phase has several sessions.
+const THREADED: [(&str, u64); 6] = [
+    ("1 look /\n0 look /\n", 2),
+    ("0 look /\n1 look /\n", 2),
+    (
+        "1 mkdir /b\nsync\n0 mkdir /a\nsync\n1 cd /b\n0 cd /a\nsync\nsync\n15 look .\n1 look .\n\
+         0 cd /none\n0 look .\n",
+        8,
+    ),
+    (
+        "1 look /\n0 look /x\nsync\n0 look /\n1 look /a\n1 look /b",
+        5,
+    ),
+    ("0 mkdir /a\n1 mkdir /a\n2 rmdir /a\n3 look /a\n", 4),
+    (
+        "0 mkdir /a\nsync\n0 rmdir /a\n1 look /a\nsync\n2 look /a\n",
+        4,
+    ),
+];
+
+#[test]
+fn threaded_inputs_are_legal(rt: HostRuntime) -> Result<(), Fail> {
+    for (input, answers) in THREADED {
+        let (found, verdict) = run_and_judge(&rt, rt.alloc(), 1, input.as_bytes())?;
+        assert_eq!(rt; found, answers, "{input}");
+        assert!(rt; verdict == PhasedVerdict::Legal, "{input}: {verdict:?}");
+    }
+    Ok(())
+}
+
+/// All sessions at once, each in a directory of its own.
+#[test]
+fn sixteen_sessions_are_legal(rt: HostRuntime) -> Result<(), Fail> {
+    let alloc = rt.alloc();
+    let mut input = Vec::new(alloc);
+    for session in 0..16u64 {
+        let line = format!(in alloc; "7 mkdir /{session}\n")?;
+        input.extend_from_slice(line.as_bytes())?;
+    }
+    for verb in ["cd /", "mkdir ", "rename /7 "] {
+        input.extend_from_slice(b"sync\n")?;
+        for session in 0..16u64 {
+            let line = format!(in alloc; "{session} {verb}{session}\n")?;
+            input.extend_from_slice(line.as_bytes())?;
+        }
+    }
+    let (answers, verdict) = run_and_judge(&rt, alloc, 4, &input)?;
+    assert_eq!(rt; answers, 64);
+    assert!(rt; verdict == PhasedVerdict::Legal, "{verdict:?}");
     Ok(())
 }

@@ -19,8 +19,11 @@ use Rattle.dc_events.specs.Noted.{facts_in}
 use Rattle.dc_events.specs.Effects.{begins, with_seen, with_record, concluded, settled, turned, pivoted, marked, checked, faulted}
 use Rattle.dc_table.specs.Walking.{CanCheck}
 use Rattle.dc_walk.specs.Uses.{Use, IsUse, Marked, facts_of}
-use Rattle.dc_walk.specs.Fasts.{outcome_by}
-use Rattle.dc_walk.specs.Settling.{Came, IsChecking, IsOpen, Unsettled}
+use Rattle.dc_walk.specs.Looks.{look_shown, outcome_by, outcome_of}
+use Rattle.dc_walk.specs.Settling.{Came, IsChecking, IsOpen}
+use Rattle.dc_walk.specs.Walks.{Settles}
+use Rattle.dc_walk.specs.declared.look.Look as rust_look
+use Rattle.dc_walk.specs.declared.answer.Fast.TheVariants.{Again}
 use Rattle.dc_walk.specs.declared.why.Why.TheVariants as whys
 use Rattle.dc_walk.proofs.Marks.{facts_are, marks_next, next_there, IsNext, ticked}
 use Rattle.dc_walk.proofs.Told.{answer_is}
@@ -141,21 +144,25 @@ pub ready : {call : Request} {answer : Answer} {us : List Use} {before : View} {
 ready {us = us} {c = c} {v = v} d u is less here = let now = is.more less in
     subst (λ (x : Use). CanCheck v x.place x.row x.count) here (can_check v (get_or us c d) now.late (next_there 0 c v.walk.notes us d now.marked less))
 
-pub failed_check : {call : Request} {answer : Answer} {us : List Use} {at c : ℕ} (before v w : View) (row noted found : ℕ) → IsChecking call answer us before at c v → c < length us → w ≡ faulted v (Changed row noted found) → noted < found
-    → before.book.seen ≤ at → Unsettled before w (whys.Changed row noted found)
-failed_check {at = at} before v w row noted found is less e higher later =
-    let book = (is.more less).book_is in
-    let seen : v.book.seen ≡ at = ap (λ (b : Book). b.seen) book in
-    let x = Changed row noted found in
-    subst (λ z. Unsettled before z (whys.Changed row noted found)) (sym e) (record {
-      changed = (Contains-append_right v.faults (x ∷ []) x (0, omega arith, refl), higher);
-      nothing = record { own = ap (λ (b : Book). b.own) book; joined = ap (λ (b : Book). b.joined) book; later = omega arith };
-    })
-
 pub begins_book : (b : Bool) (v : View) (call : Request) → (begins b v call).book ≡ v.book
 begins_book true v call = refl
 begins_book false v call = refl
 
--- a walk that used a row asked for it
-pub asked : {outcome : Teller → Option Outcome} {call : Request} {now : View} {us : List Use} {answer : Answer} (c : ℕ) → Came outcome call now us answer → c < length us → outcome (told_by []) ≡ None
-asked {us = us} c came less = let size = many_facts us in came.walk.needed 0 (omega arith)
+-- a check found a higher count
+pub stopped_check : (look : rust_look.Look) {answer : Answer} {us : List Use} {at c used : ℕ} {before v w : View} {row : ℕ} (noted found : ℕ) {count : ℕ} → Came (outcome_of look) (look_shown look) before us answer → IsChecking (look_shown look) answer us before at c v → c < length us → length us ≡ used → before.book.seen ≤ at
+    → (noted ≡ count) × (count < found) × (w ≡ faulted v (Changed row count found)) → Settles look used before w (Again (whys.Changed row noted found))
+stopped_check look {us = us} {at = at} {c = c} {used = used} {before = before} {v = v} {row = row} noted found came is less many later changed =
+    let book = (is.more less).book_is in
+    let seen : v.book.seen ≡ at = ap (λ (b : Book). b.seen) book in
+    let size = many_facts us in let loads = is.loads in
+    let same = changed.0 in let above = changed.1 in
+    let x = Changed row noted found in
+    subst (λ z. Settles look used before z (Again (whys.Changed row noted found))) (sym (changed.2 ∙ ap (λ (n : ℕ). faulted v (Changed row n found)) (sym same))) (record {
+      settled = record {
+        changed = (Contains-append_right v.faults (x ∷ []) x (0, omega arith, refl), omega arith);
+        nothing = record { own = ap (λ (b : Book). b.own) book; joined = ap (λ (b : Book). b.joined) book; later = omega arith };
+      };
+      asks = came.walk.needed 0 (omega arith);
+      loads = omega arith;
+      first_load = is.first_load;
+    })

@@ -1,29 +1,35 @@
 -- How a walk by rows begins and ends.
 use Rattle.std.proofs.Common.{◌≡◌, ℕ, ◌/◌, ◌≤◌, List, [], Bool, true, false, not, Option, Some, None, is_some, IfSome, if◌then◌else◌, length, map, refl, ap, sym, ◌∙◌, subst, arith}
 use Rattle.std.specs.List.{Contains}
-use Rattle.dc_plain.specs.Facts.{Teller, told_by}
+use Rattle.std.proofs.lemmas.List.{length-map}
+use Rattle.dc_table.specs.Changes.{NothingNew}
+use Rattle.dc_plain.specs.Facts.{Label, Teller, told_by}
 use Rattle.dc_plain.specs.Resolution.{Outcome}
 use Rattle.dc_plain.specs.Requests.{Request, Answer}
 use Rattle.dc_plain.specs.Tellers.{Extends}
+use Rattle.dc_resolve.specs.Needs.{IsNeeded}
 use Rattle.dc_plain.specs.FactLaws.{outcome_answer}
 use Rattle.dc_events.specs.Views.{View, Book}
 use Rattle.dc_events.specs.Views.Fault.{Busy, Changed}
 use Rattle.dc_events.specs.Effects.{begins, begun}
+use Rattle.dc_table.specs.Holders.{table_of}
 use Rattle.dc_table.specs.Passes.{Pass, view, share}
 use Rattle.dc_table.specs.Shares.{Share}
 use Rattle.dc_walk.specs.Uses.{Use, facts_of}
-use Rattle.dc_walk.specs.Asking.{IsWalk, SameWalk}
+use Rattle.dc_walk.specs.Asking.{IsWalk}
 use Rattle.dc_walk.specs.Causes.{HasCause}
-use Rattle.dc_walk.specs.Becomings.{Becomes, IsGood}
-use Rattle.dc_walk.specs.Fasts.{GaveUp, Went}
+use Rattle.dc_walk.specs.Becomings.{Becomes, Between, IsGood, MayAskRows}
+use Rattle.dc_walk.specs.Fasts.{GaveUp}
+use Rattle.dc_walk.specs.Walks.{Went, Stopped}
 use Rattle.dc_walk.specs.Finds.{use_shown, AllSpelled, AllInside, AllHeld}
-use Rattle.dc_walk.specs.Findings.{IsFinding, CanWalk, now_in, outcome_in, request_in, said_in, buckets_of}
-use Rattle.dc_walk.specs.declared.finder.Rows.{Rows}
+use Rattle.dc_walk.specs.Findings.{IsFinding, CanWalk, view_in, now_in, outcome_in, request_in, said_in, buckets_of}
+use Rattle.dc_walk.specs.declared.rows.Rows.{Rows}
 use Rattle.dc_walk.specs.declared.why.Why as rust_why
 use Rattle.dc_walk.specs.declared.why.Why.TheVariants as whys
 use Rattle.dc_walk.specs.declared.used.Used.{Used}
 use Rattle.dc_walk.specs.declared.TheConstants.{BUCKET_ROWS, MOST_USED}
-use Rattle.dc_walk.proofs.Sighted.{outcome_same, request_same}
+use Rattle.dc_walk.proofs.Checks.{begins_book}
+use Rattle.dc_walk.proofs.Sighted.{outcome_same}
 use Rattle.dc_walk.proofs.Told.{told_itself}
 
 none_there : {X : Type 0} (x : X) → Contains [] x → ⊥
@@ -39,8 +45,8 @@ by_begun outcome buckets false v call whys.Long cause = let none : length cause.
 by_begun outcome buckets false v call whys.Link cause = let other = cause.2.rows 0 (omega arith) in absurd (none_there other.note other.noted)
 by_begun outcome buckets false v call whys.Memory cause = absurd cause
 
-module _ (f : Rows) where
-  pub started : (v : View) → CanWalk f.shared.now f.pass.now → now_in f ≡ begun v (request_in f) → f.made ≡ 0 → f.why ≡ None → f.used.now.items ≡ [] → IsGood f
+module _ (locks : Bool) (f : Rows) where
+  pub started : (v : View) → CanWalk (table_of f.reader) f.pass.now → now_in f ≡ begun v (request_in f) → f.made ≡ 0 → f.why ≡ None → f.used.now.items ≡ [] → IsGood locks f
   started v can now made fresh none = record {
     finding = subst (λ o. IsFinding f (if is_some o then BUCKET_ROWS else 0)) (sym fresh) (record {
       can = can;
@@ -58,47 +64,71 @@ module _ (f : Rows) where
       spelled = subst AllSpelled (sym none) tt;
       inside = subst (AllInside (share f.pass.now).rows) (sym none) tt;
       held = subst (AllHeld f.filter) (sym none) tt;
+      few = subst (λ (us : List Used). length us ≤ MOST_USED) (sym none) (omega arith);
     });
-    cause = subst (λ o. IfSome o (HasCause (outcome_in f) (buckets_of f.pass.now) (now_in f))) (sym fresh) tt;
+    cause = λ free. subst (λ o. IfSome o (HasCause (outcome_in f) (buckets_of f.pass.now) (now_in f))) (sym fresh) tt;
     asks = subst (λ o. IfSome o (λ why. outcome_in f (told_by []) ≡ None)) (sym fresh) tt;
   }
 
-  module _ {g : Rows} (v : View) (begins_so : now_in f ≡ begun v (request_in f)) (b : Becomes f g) (good : IsGood f) (p : Pass) (same : p ≡ g.pass.now) (us : List Used) (same_used : us ≡ g.used.now.items) where
-    now_is : now_in g ≡ begins (not g.begun) (view p) (request_in f)
-    now_is = λ i. begins (not g.begun) (view (sym same i)) (request_same b.same i)
+  module _ {g : Rows} (v : View) (begins_so : now_in f ≡ begun v (request_in f)) (b : Becomes locks f g) (good : IsGood locks f) (p : Pass) (same : p ≡ g.pass.now) (us : List Used) (same_used : us ≡ g.used.now.items) where
+    now_is : now_in g ≡ view_in g.begun p f.look
+    now_is = λ i. view_in g.begun (sym same i) (b.same.look i)
 
-    walked_same : SameWalk (begun v (request_in f)) (begins (not g.begun) (view p) (request_in f))
-    walked_same = subst (λ (z : View × View). SameWalk z.0 z.1) (λ i. (begins_so i, now_is i)) b.walk
+    between_so : Between locks (begun v (request_in f)) (view_in g.begun p f.look)
+    between_so = subst (λ (z : View × View). Between locks z.0 z.1) (λ i. (begins_so i, now_is i)) b.walk
+
+    few_so : length us ≤ MOST_USED
+    few_so = subst (λ (us : List Used). length us ≤ MOST_USED) (sym same_used) (b.good good).finding.few
 
     pub went_so : (end : Outcome) (answer : Answer) → g.why ≡ None → ((teller : Teller) → Extends (said_in g) teller → outcome_in f teller ≡ Some end) → answer ≡ outcome_answer end
-        → Went (outcome_in f) (request_in f) v (begins (not g.begun) (view p) (request_in f)) (map use_shown us) answer
+        → Went locks f.look v (view_in g.begun p f.look) (map use_shown us) answer
     went_so end answer fresh found is = record {
       came = record {
         walk = subst (λ (z : (Teller → Option Outcome) × View × List Use). IsWalk z.0 z.1 z.2 0) (λ i. (outcome_same b.same i, now_is i, map use_shown (sym same_used i)))
             (subst (λ o. IsFinding g (if is_some o then BUCKET_ROWS else 0)) fresh (b.good good).finding).walk;
-        about = walked_same.call;
+        about = between_so.call;
         end = end;
         found = ap (λ (items : List Used). outcome_in f (told_by (facts_of (map use_shown items)))) same_used ∙ found (said_in g) (told_itself (said_in g));
         answers = is;
       };
-      same = walked_same;
+      walk = between_so;
+      few = let few = few_so in omega (arith, length-map us use_shown);
     }
 
-    pub gave_so : (why : rust_why.Why) → g.why ≡ Some why → length (map use_shown us) ≤ MOST_USED → GaveUp (outcome_in f) (buckets_of f.pass.now) v (view p) why
-    gave_so why is few =
+    gave_so : locks ≡ false → (why : rust_why.Why) → g.why ≡ Some why → outcome_in f (told_by []) ≡ None → NothingNew v (view p) → GaveUp (outcome_in f) (buckets_of f.pass.now) v (view p) why
+    gave_so free why is asks nothing =
         let good_now = b.good good in
-        let cause : HasCause (outcome_in g) (buckets_of g.pass.now) (now_in g) why = subst (λ o. IfSome o (HasCause (outcome_in g) (buckets_of g.pass.now) (now_in g))) is good_now.cause in
+        let cause : HasCause (outcome_in g) (buckets_of g.pass.now) (now_in g) why = subst (λ o. IfSome o (HasCause (outcome_in g) (buckets_of g.pass.now) (now_in g))) is (good_now.cause free) in
         let buckets : buckets_of g.pass.now ≡ buckets_of f.pass.now = ap (λ (x : Share). x.rows / BUCKET_ROWS) b.same.same_pass.same_share in
         let cause_now = subst (λ (z : (Teller → Option Outcome) × ℕ × View). HasCause z.0 z.1 z.2 why) (λ i. (outcome_same b.same i, buckets i, now_is i)) cause in
         let begun_is = by_begun (outcome_in f) (buckets_of f.pass.now) g.begun (view p) (request_in f) why cause_now in
-        let now : begins (not g.begun) (view p) (request_in f) ≡ view p = ap (λ b. begins (not b) (view p) (request_in f)) begun_is in
+        let now : view_in g.begun p f.look ≡ view p = ap (λ b. begins (not b) (view p) (request_in f)) begun_is in
         let walk = subst (λ (z : View × List Use). IsWalk (outcome_in g) z.0 z.1 BUCKET_ROWS) (λ i. ((now_is ∙ now) i, map use_shown (sym same_used i))) (subst (λ o. IsFinding g (if is_some o then BUCKET_ROWS else 0)) is good_now.finding).walk in
-        let kept = subst (SameWalk (begun v (request_in f))) now walked_same in
-        let loads = walk.loads in let first = kept.first_load in
-        let seen = ap (λ (b : Book). b.seen) kept.book in record {
+        let kept = subst (Between locks (begun v (request_in f))) now between_so in
+        let loads = walk.loads in let first = kept.first_load in let few = few_so in record {
           cause = subst (λ z. HasCause (outcome_in f) (buckets_of f.pass.now) z why) now cause_now;
-          asks = sym (λ i. outcome_same b.same i (told_by [])) ∙ subst (λ o. IfSome o (λ why. outcome_in g (told_by []) ≡ None)) is good_now.asks;
-          nothing = record { own = ap (λ (b : Book). b.own) kept.book; joined = ap (λ (b : Book). b.joined) kept.book; later = omega arith };
+          asks = asks;
+          nothing = nothing;
           first_load = first;
-          loads = omega arith;
+          loads = omega (arith, length-map us use_shown);
         }
+
+    pub stopped_so : (why : rust_why.Why) → g.why ≡ Some why → Stopped locks f.look (buckets_of f.pass.now) v (view p) why
+    stopped_so why is =
+        let book : (view_in g.begun p f.look).book ≡ (view p).book = begins_book (not g.begun) (view p) (request_in f) in
+        let seen = ap (λ (b : Book). b.seen) book in let new = between_so.nothing in let later = new.later in
+        let nothing : NothingNew v (view p) = record { own = sym (ap (λ (b : Book). b.own) book) ∙ new.own; joined = sym (ap (λ (b : Book). b.joined) book) ∙ new.joined; later = omega arith } in
+        let good_now = b.good good in
+        let asks : outcome_in f (told_by []) ≡ None = sym (λ i. outcome_same b.same i (told_by [])) ∙ subst (λ o. IfSome o (λ why. outcome_in g (told_by []) ≡ None)) is good_now.asks in record {
+          nothing = nothing;
+          asks = asks;
+          gave_up = λ free. gave_so free why is asks nothing;
+        }
+
+-- what a walk needs may be asked
+pub may_so : (locks : Bool) (f g : Rows) → IsGood locks f → Becomes locks f g → (n : ℕ) (label : Label) → IsNeeded (outcome_in f) (said_in g) n label → MayAskRows locks g n label
+may_so locks f g good b n label need = record { good = b.good good; needed = λ teller more untold. (λ i. outcome_same b.same i teller) ∙ need teller more untold }
+
+-- what holds of a source and its table holds of them still
+pub serves_so : {A B : Type 0} {a a' : A} {b b' : B} → a' ≡ a → b' ≡ b → (P : A → B → Type 0) → P a b → P a' b'
+serves_so {A = A} {B = B} e d P = subst (λ (z : A × B). P z.0 z.1) (λ i. (sym e i, sym d i))

@@ -9,8 +9,6 @@ pub mod Standing
 pub mod Questions
 pub mod Ended
 pub mod Checks
-pub mod Fasted
-pub mod Pinnings
 pub mod ByHand
 pub mod Unasked
 pub mod Runs

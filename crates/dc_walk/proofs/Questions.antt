@@ -1,5 +1,5 @@
 -- What a finder over rows becomes by a question.
-use Rattle.std.proofs.Common.{◌≡◌, ℕ, zero, suc, ◌+◌, ◌/◌, ◌<◌, inl, inr, List, [], ◌∷◌, ◌&&◌, Bool, true, false, Option, Some, None, IfSome, is_some, if◌then◌else◌, length, get_or, map, refl, ap, sym, ◌∙◌, subst, arith}
+use Rattle.std.proofs.Common.{◌≡◌, ℕ, zero, suc, ◌+◌, ◌/◌, ◌<◌, ◌≤◌, inl, inr, List, [], ◌∷◌, ◌&&◌, Bool, true, false, Option, Some, None, IfSome, is_some, if◌then◌else◌, length, get_or, map, refl, ap, sym, ◌∙◌, subst, arith}
 use Rattle.std.proofs.lemmas.List.{map-append, length-map}
 use Rattle.std.specs.List.{Contains}
 use Rattle.dc_plain.specs.Facts.{Fact, Key, Teller, told_by}
@@ -8,21 +8,22 @@ use Rattle.dc_plain.specs.Tellers.{Extends}
 use Rattle.dc_row.specs.Spelling.{Spells}
 use Rattle.dc_resolve.specs.Needs.{IsNeeded, IsUntold}
 use Rattle.dc_table.specs.Shares.{Share}
-use Rattle.dc_events.specs.Views.{View, Note}
+use Rattle.dc_events.specs.Views.{View, Note, Book}
 use Rattle.dc_events.specs.Rows.{note_words}
 use Rattle.dc_walk.specs.Uses.{Use, Marked, NeedsEach, facts_of}
-use Rattle.dc_walk.specs.Asking.{GoesOn, IsOther, Asks, first_row}
-use Rattle.dc_walk.specs.Causes.{HasCause, Looked, TellsMissing}
-use Rattle.dc_walk.specs.Becomings.{Becomes, IsGood}
+use Rattle.dc_walk.specs.Asking.{GoesOn, SameWalk, Asks, first_row}
+use Rattle.dc_walk.specs.Causes.{HasCause, Looked, TellsWhy}
+use Rattle.dc_walk.specs.Becomings.{Becomes, Between, IsGood}
 use Rattle.dc_walk.specs.Findings.{SameRows, IsFinding, now_in, uses_in, outcome_in, said_in, buckets_of}
-use Rattle.dc_walk.specs.Sights.{Answers, Fails}
-use Rattle.dc_walk.specs.declared.finder.Rows.{Rows}
+use Rattle.dc_walk.specs.Sights.{Answers}
+use Rattle.dc_walk.specs.declared.rows.Rows.{Rows}
 use Rattle.dc_walk.specs.declared.TheConstants.{BUCKET_ROWS, MOST_USED}
 use Rattle.dc_walk.specs.declared.why.Why as rust_why
 use Rattle.dc_walk.specs.declared.why.Why.TheVariants as whys
-use Rattle.dc_walk.specs.Finds.{use_shown}
+use Rattle.dc_walk.specs.Finds.{use_shown, told_in}
 use Rattle.dc_walk.proofs.Walked.{rested}
-use Rattle.dc_walk.proofs.Sighted.{outcome_same, same_still}
+use Rattle.dc_walk.proofs.Sighted.{outcome_same}
+use Rattle.dc_walk.specs.declared.source.Lane.{Lane}
 use Rattle.dc_walk.proofs.Told.{told_more, told_itself}
 
 -- before a question there is no outcome
@@ -69,63 +70,68 @@ all_noted notes us m fact c =
 pub asks_so : {outcome : Teller → Option Outcome} {v : View} (us : List Use) (key : Key) → Marked 0 0 v.walk.notes us → IsUntold (told_by (facts_of us)) key.number key.label → IsNeeded outcome (told_by (facts_of us)) key.number key.label → Asks outcome v key
 asks_so {v = v} us key marked untold need = record { facts = facts_of us; noted = all_noted v.walk.notes us marked; untold = untold; needed = need }
 
-module _ {f g : Rows} (s : SameRows f g) where
-  pub answered_becomes : {words : List ℕ} (key : Key) → GoesOn (now_in f) (now_in g) → Answers f key g words → g.why ≡ None → Becomes f g
-  answered_becomes key on a why = record {
-    same = s;
-    told = subst (λ facts. Extends (said_in f) (told_by facts)) (sym (ap facts_of a.uses ∙ map-append (λ u. u.fact) (uses_in f) (a.use_of ∷ []))) (told_more (facts_of (uses_in f)) a.use_of.fact);
-    walk = on.same;
-    good = λ is. record {
-      finding = subst (λ o. IsFinding g (if is_some o then BUCKET_ROWS else 0)) (sym why) a.finding;
-      cause = subst (λ o. IfSome o (HasCause (outcome_in g) (buckets_of g.pass.now) (now_in g))) (sym why) tt;
-      asks = subst (λ o. IfSome o (λ why. outcome_in g (told_by []) ≡ None)) (sym why) tt;
-    };
-  }
+asks_first : {f g : Rows} → SameRows f g → NeedsEach (outcome_in f) (facts_of (uses_in f)) → outcome_in f (said_in f) ≡ None → outcome_in g (told_by []) ≡ None
+asks_first {f = f} s needs now = (λ i. outcome_same s i (told_by [])) ∙ first_none (outcome_in f) (uses_in f) needs now
 
-  asks_first : IsGood f → (key : Key) → IsNeeded (outcome_in f) (said_in f) key.number key.label → IsUntold (said_in f) key.number key.label → outcome_in g (told_by []) ≡ None
-  asks_first good key need none =
-      (λ i. outcome_same s i (told_by [])) ∙ first_none (outcome_in f) (uses_in f) good.finding.walk.needed (needed_now (outcome_in f) (said_in f) key need none)
+same_told : (f g : Rows) → g.used.now ≡ f.used.now → Extends (said_in f) (said_in g)
+same_told f g used = subst (λ u. Extends (said_in f) (told_in u.items)) (sym used) (told_itself (said_in f))
 
-  pub missed_becomes : (key : Key) (first : ℕ) (why : rust_why.Why) → TellsMissing key why → GoesOn (now_in f) (now_in g) → Fails f key g 3 → Looked (now_in g) first key None BUCKET_ROWS
-      → first ≡ first_row (buckets_of f.pass.now) key → IsNeeded (outcome_in f) (said_in f) key.number key.label → IsUntold (said_in f) key.number key.label → Becomes f (record g { why = Some why })
-  missed_becomes key first why tells on fails looked is need none =
-      let here : first ≡ first_row (buckets_of g.pass.now) key = is ∙ ap (λ (x : Share). first_row (x.rows / BUCKET_ROWS) key) (sym s.same_pass.same_share) in record {
-        same = record { shared = s.shared; pass = s.pass; used = s.used; base = s.base; path = s.path; follow = s.follow; same_pass = s.same_pass };
-        told = subst (λ used. Extends (said_in f) (told_by (facts_of (map use_shown used.items)))) (sym fails.used) (told_itself (said_in f));
-        walk = on.same;
-        good = λ good. record {
-          finding = record { can = fails.finding.can; walk = fails.finding.walk; made = fails.finding.made; call = fails.finding.call; spelled = fails.finding.spelled; inside = fails.finding.inside; held = fails.finding.held };
-          cause = tells (outcome_in g) (buckets_of g.pass.now) (now_in g) (record {
-            asks = asks_so (uses_in f) key (subst (Marked 0 0 (now_in g).walk.notes) (ap (λ used. map use_shown used.items) fails.used) fails.finding.walk.marked) none
-                (λ teller more untold. (λ i. outcome_same s i teller) ∙ need teller more untold);
-            rows = λ k l. subst (λ (m : ℕ). IsOther (now_in g) (m + k) key) here (looked.others k l);
-          });
-          asks = asks_first good key need none;
-        };
-      }
+-- no step of a walk between these views had the lock
+pub same_between : {locks : Bool} {v w : View} → SameWalk v w → Between locks v w
+same_between s = let seen = ap (λ (b : Book). b.seen) s.book in record {
+  call = s.call;
+  first_load = s.first_load;
+  nothing = record { own = ap (λ (b : Book). b.own) s.book; joined = ap (λ (b : Book). b.joined) s.book; later = omega arith };
+  book = λ free. s.book;
+}
 
-  pub busy_becomes : (key : Key) (first row : ℕ) → GoesOn (now_in f) (now_in g) → Fails f key g 3 → Looked (now_in g) first key (Some row) BUCKET_ROWS
-      → IsNeeded (outcome_in f) (said_in f) key.number key.label → IsUntold (said_in f) key.number key.label → Becomes f (record g { why = Some (whys.Busy row) })
-  busy_becomes key first row on fails looked need none = record {
-    same = record { shared = s.shared; pass = s.pass; used = s.used; base = s.base; path = s.path; follow = s.follow; same_pass = s.same_pass };
-    told = subst (λ used. Extends (said_in f) (told_by (facts_of (map use_shown used.items)))) (sym fails.used) (told_itself (said_in f));
-    walk = on.same;
+-- a question without an answer is the last
+module _ (locks : Bool) {f g : Rows} (s : SameRows f g) (used : g.used.now ≡ f.used.now) (b : Between locks (now_in f) (now_in g)) (k : ℕ) (is : IsFinding g k) (few : k ≤ BUCKET_ROWS) (now : outcome_in f (said_in f) ≡ None) where
+  pub stops : (why : rust_why.Why) (spare : Option ℕ) → (locks ≡ false → HasCause (outcome_in g) (buckets_of g.pass.now) (now_in g) why) → Becomes locks f (record g { spare = spare; why = Some why })
+  stops why spare cause = record {
+    same = record { reader = s.reader; pass = s.pass; used = s.used; look = s.look; same_pass = s.same_pass };
+    told = same_told f g used;
+    walk = b;
     good = λ good. record {
-      finding = record { can = fails.finding.can; walk = fails.finding.walk; made = fails.finding.made; call = fails.finding.call; spelled = fails.finding.spelled; inside = fails.finding.inside; held = fails.finding.held };
-      cause = looked.odd_row;
-      asks = asks_first good key need none;
+      finding = record { can = is.can; walk = rested BUCKET_ROWS few is.walk; made = is.made; call = is.call; spelled = is.spelled; inside = is.inside; held = is.held; few = is.few };
+      cause = cause;
+      asks = asks_first s good.finding.walk.needed now;
     };
   }
 
-pub full_becomes : (f : Rows) (key : Key) → f.why ≡ None → length f.used.now.items ≡ MOST_USED → IsNeeded (outcome_in f) (said_in f) key.number key.label → IsUntold (said_in f) key.number key.label → Becomes f (record f { why = Some whys.Long })
-full_becomes f key fresh full need none = record {
-  same = let same = same_still f in record { shared = refl; pass = refl; used = refl; base = refl; path = refl; follow = refl; same_pass = same.same_pass };
-  told = told_itself (said_in f);
-  walk = record { call = refl; book = refl; first_load = refl };
-  good = λ good. let finding = subst (λ o. IsFinding f (if is_some o then BUCKET_ROWS else 0)) fresh good.finding in record {
-    finding = record { walk = rested BUCKET_ROWS (omega arith) finding.walk; made = finding.made; call = finding.call; can = finding.can; spelled = finding.spelled; inside = finding.inside; held = finding.held };
-    cause = record { uses = uses_in f; marked = finding.walk.marked; many = length-map f.used.now.items use_shown ∙ full; distinct = finding.walk.distinct };
-    asks = first_none (outcome_in f) (uses_in f) finding.walk.needed (needed_now (outcome_in f) (said_in f) key need none);
+-- why no row of the key's bucket answered
+pub looked_cause : {f g : Rows} (s : SameRows f g) (lane : Lane) (key : Key) (odd : Option ℕ) (why : rust_why.Why) → (f.used.now ≡ g.used.now) → (lane.first ≡ first_row (buckets_of f.pass.now) key) × (lane.many ≡ BUCKET_ROWS)
+    → Looked (now_in g) lane.first key odd lane.many → TellsWhy odd key why → IsFinding g lane.many → IsNeeded (outcome_in f) (said_in f) key.number key.label → IsUntold (said_in f) key.number key.label
+    → HasCause (outcome_in g) (buckets_of g.pass.now) (now_in g) why
+looked_cause {f = f} {g = g} s lane key odd why used bucket looked tells is need none =
+    let here : lane.first ≡ first_row (buckets_of g.pass.now) key = bucket.0 ∙ ap (λ (x : Share). first_row (x.rows / BUCKET_ROWS) key) (sym s.same_pass.same_share) in
+    tells (outcome_in g) (buckets_of g.pass.now) (now_in g)
+    (subst (λ (z : ℕ × ℕ). Looked (now_in g) z.0 key odd z.1) (λ i. (here i, bucket.1 i)) looked)
+    (asks_so (uses_in f) key (subst (Marked 0 0 (now_in g).walk.notes) (ap (λ used. map use_shown used.items) (sym used)) is.walk.marked) none
+    (λ teller more untold. (λ i. outcome_same s i teller) ∙ need teller more untold))
+
+-- what is asked is asked still
+module _ {f g : Rows} (s : SameRows f g) (used : g.used.now ≡ f.used.now) (key : Key) where
+  pub needed_still : IsNeeded (outcome_in f) (said_in f) key.number key.label → IsNeeded (outcome_in g) (said_in g) key.number key.label
+  needed_still = subst (λ (z : (Teller → Option Outcome) × Teller). IsNeeded z.0 z.1 key.number key.label) (λ i. (sym (outcome_same s) i, told_in (sym used i).items))
+
+  pub untold_still : IsUntold (said_in f) key.number key.label → IsUntold (said_in g) key.number key.label
+  untold_still = subst (λ u. IsUntold (told_in u.items) key.number key.label) (sym used)
+
+-- before a question no row is looked at for it
+pub unlooked : {locks : Bool} (f : Rows) → f.why ≡ None → IsGood locks f → IsFinding f 0
+unlooked f fresh good = subst (λ o. IsFinding f (if is_some o then BUCKET_ROWS else 0)) fresh good.finding
+
+-- a row that was used as the last answers
+pub answered_becomes : (locks : Bool) {f g : Rows} (s : SameRows f g) {words : List ℕ} (key : Key) → GoesOn (now_in f) (now_in g) → Answers f key g words → g.why ≡ None → Becomes locks f g
+answered_becomes locks {f = f} {g = g} s key on a why = record {
+  same = s;
+  told = subst (λ facts. Extends (said_in f) (told_by facts)) (sym (ap facts_of a.uses ∙ map-append (λ u. u.fact) (uses_in f) (a.use_of ∷ []))) (told_more (facts_of (uses_in f)) a.use_of.fact);
+  walk = same_between on.same;
+  good = λ is. record {
+    finding = subst (λ o. IsFinding g (if is_some o then BUCKET_ROWS else 0)) (sym why) a.finding;
+    cause = λ free. subst (λ o. IfSome o (HasCause (outcome_in g) (buckets_of g.pass.now) (now_in g))) (sym why) tt;
+    asks = subst (λ o. IfSome o (λ why. outcome_in g (told_by []) ≡ None)) (sym why) tt;
   };
 }
 

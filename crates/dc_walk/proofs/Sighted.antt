@@ -1,20 +1,18 @@
 -- What a finder over rows knows after a look at a row.
-use Rattle.std.proofs.Common.{◌≡◌, ℕ, ◌+◌, ◌<◌, ◌/◌, List, [], ◌∷◌, ◌++◌, Option, Some, None, length, map, refl, ap, sym, ◌∙◌, subst, arith, length-append}
+use Rattle.std.proofs.Common.{◌≡◌, ℕ, ◌+◌, ◌<◌, ◌≤◌, ◌/◌, List, [], ◌∷◌, ◌++◌, Option, Some, None, length, map, refl, ap, sym, ◌∙◌, subst, arith, length-append}
 use Rattle.std.proofs.lemmas.List.{append-nil, append_assoc}
 use Rattle.std.specs.List.{Contains}
 use Rattle.std.proofs.lemmas.List.Elements.{Contains-append_left}
-use Rattle.dc_names.specs.Paths.{path_in}
 use Rattle.dc_plain.specs.Facts.{Fact, Key, Teller, key_of}
-use Rattle.dc_plain.specs.Places.{walk}
 use Rattle.dc_plain.specs.Resolution.{Outcome}
-use Rattle.dc_plain.specs.Requests.Request.{Look}
 use Rattle.dc_row.specs.Spelling.{Spells, TellsOf}
 use Rattle.dc_resolve.specs.Needs.{IsUntold}
 use Rattle.dc_events.specs.Views.{View, Fault}
 use Rattle.dc_events.specs.Views.Fault.{Busy}
 use Rattle.dc_events.specs.Effects.{faulted}
 use Rattle.dc_row.specs.declared.TheConstants.{ROW_WORDS}
-use Rattle.dc_walk.specs.declared.TheConstants.{BUCKET_ROWS}
+use Rattle.dc_walk.specs.declared.TheConstants.{BUCKET_ROWS, MOST_USED}
+use Rattle.dc_walk.specs.Looks.{look_shown, outcome_of}
 use Rattle.dc_walk.specs.Probes.{probed, fresh_note}
 use Rattle.dc_walk.specs.Uses.{Use}
 use Rattle.dc_walk.specs.Asking.{IsWalk, IsOther, GoesOn, SameWalk}
@@ -22,20 +20,21 @@ use Rattle.dc_walk.specs.Finds.{use_shown, told_in, AllSpelled, AllInside, AllHe
 use Rattle.dc_walk.specs.Findings.{SameRows, IsFinding, CanWalk, now_in, uses_in, outcome_in, request_in, said_in}
 use Rattle.dc_walk.specs.Sights.{Fails, Answers}
 use Rattle.dc_walk.specs.declared.filter.KeyFilter.{KeyFilter}
-use Rattle.dc_walk.specs.declared.finder.Rows.{Rows}
+use Rattle.dc_walk.specs.declared.rows.Rows.{Rows}
 use Rattle.dc_walk.specs.declared.used.Used.{Used}
 use Rattle.dc_walk.proofs.Told.{new_same}
 use Rattle.dc_walk.proofs.Walked.{passed, stumbled, answered, last_noted, last_fault, other_still}
 use Rattle.dc_walk.proofs.Seats.{same_pass, fits_still}
 use Rattle.dc_table.specs.Shares.{Share}
+use Rattle.dc_table.specs.Holders.{table_of}
 use Rattle.dc_table.specs.Passes.{Pass, share, IsSamePass, IsIdle}
 use Rattle.dc_table.specs.declared.shared.Shared.{Shared}
 
 pub outcome_same : {f g : Rows} → SameRows f g → outcome_in g ≡ outcome_in f
-outcome_same s = λ i teller. walk teller (s.base i) (path_in (s.path i).bytes.now) (s.follow i)
+outcome_same s = λ i. outcome_of (s.look i)
 
 pub request_same : {f g : Rows} → SameRows f g → request_in g ≡ request_in f
-request_same s = λ i. Look (s.base i) (s.path i).bytes.now (s.follow i)
+request_same s = λ i. look_shown (s.look i)
 
 same_walk : (v : View) → SameWalk v v
 same_walk v = record { call = refl; book = refl; first_load = refl }
@@ -50,8 +49,8 @@ on_odd {v = v} row e = subst (GoesOn v) (sym e) (record {
 })
 
 module _ {f g : Rows} where
-  pub finds_on : (v : View) (us : List Use) (k : ℕ) → SameRows f g → CanWalk g.shared.now g.pass.now → AllSpelled g.used.now.items → AllInside (share g.pass.now).rows g.used.now.items → AllHeld g.filter g.used.now.items → now_in g ≡ v → IsWalk (outcome_in f) v us k → uses_in g ≡ us → g.made ≡ length v.walk.notes → v.walk.call ≡ request_in f → IsFinding g k
-  finds_on v us k s can spelled inside held now w uses made call = record {
+  pub finds_on : (v : View) (us : List Use) (k : ℕ) → SameRows f g → CanWalk (table_of g.reader) g.pass.now → AllSpelled g.used.now.items → AllInside (share g.pass.now).rows g.used.now.items → AllHeld g.filter g.used.now.items → length g.used.now.items ≤ MOST_USED → now_in g ≡ v → IsWalk (outcome_in f) v us k → uses_in g ≡ us → g.made ≡ length v.walk.notes → v.walk.call ≡ request_in f → IsFinding g k
+  finds_on v us k s can spelled inside held few now w uses made call = record {
     can = can;
     walk = subst (λ (z : (Teller → Option Outcome) × View × List Use). IsWalk z.0 z.1 z.2 k) (λ i. (sym (outcome_same s) i, sym now i, sym uses i)) w;
     made = made ∙ ap (λ (z : View). length z.walk.notes) (sym now);
@@ -59,19 +58,24 @@ module _ {f g : Rows} where
     spelled = spelled;
     inside = inside;
     held = held;
+    few = few;
   }
 
-  module _ (row : ℕ) (key : Key) (k : ℕ) (s : SameRows f g) (can : CanWalk g.shared.now g.pass.now) (is : IsFinding f k) where
-    inside_still : g.used.now ≡ f.used.now → AllInside (share g.pass.now).rows g.used.now.items
+  module _ {k : ℕ} (s : SameRows f g) (is : IsFinding f k) where
+    pub inside_still : g.used.now ≡ f.used.now → AllInside (share g.pass.now).rows g.used.now.items
     inside_still used = subst (λ (z : Share × List Used). AllInside z.0.rows z.1) (λ i. (sym s.same_pass.same_share i, (sym used i).items)) is.inside
 
-    held_still : g.used.now ≡ f.used.now → g.filter ≡ f.filter → AllHeld g.filter g.used.now.items
+    pub held_still : g.used.now ≡ f.used.now → g.filter ≡ f.filter → AllHeld g.filter g.used.now.items
     held_still used filter = subst (λ (z : KeyFilter × List Used). AllHeld z.0 z.1) (λ i. (sym filter i, (sym used i).items)) is.held
 
-    pub failed_odd : g.used.now ≡ f.used.now → g.filter ≡ f.filter → g.made ≡ f.made → now_in g ≡ faulted (now_in f) (Busy row) → Fails f key g k × Contains (now_in g).faults (Busy row)
+    pub few_still : g.used.now ≡ f.used.now → length g.used.now.items ≤ MOST_USED
+    few_still used = subst (λ u. length u.items ≤ MOST_USED) (sym used) is.few
+
+  module _ (row : ℕ) (key : Key) (k : ℕ) (s : SameRows f g) (can : CanWalk (table_of g.reader) g.pass.now) (is : IsFinding f k) where
+    pub failed_odd : g.used.now ≡ f.used.now → g.filter ≡ f.filter → g.made ≡ f.made → now_in g ≡ faulted (now_in f) (Busy row) → Fails f key g (k + 1) × Contains (now_in g).faults (Busy row)
     failed_odd used filter made now =
         let uses : uses_in g ≡ uses_in f = ap (λ u. map use_shown u.items) used in (
-          record { finding = finds_on (faulted (now_in f) (Busy row)) (uses_in f) (k + 1) s can (subst (λ u. AllSpelled u.items) (sym used) is.spelled) (inside_still used) (held_still used filter) now (stumbled row is.walk) uses (made ∙ is.made) is.call; used = used },
+          record { finding = finds_on (faulted (now_in f) (Busy row)) (uses_in f) (k + 1) s can (subst (λ u. AllSpelled u.items) (sym used) is.spelled) (inside_still s is used) (held_still s is used filter) (few_still s is used) now (stumbled row is.walk) uses (made ∙ is.made) is.call; used = used },
           subst (λ (z : View). Contains z.faults (Busy row)) (sym now) (last_fault (now_in f).faults (Busy row)),
         )
 
@@ -81,22 +85,22 @@ module _ {f g : Rows} where
           let size : length ((now_in f).walk.notes ++ fresh_note row count words ∷ []) ≡ length (now_in f).walk.notes + 1 = length-append (now_in f).walk.notes (fresh_note row count words ∷ []) in
           let many = is.made in omega arith
 
-      pub failed_other : g.used.now ≡ f.used.now → g.filter ≡ f.filter → length words + 1 ≡ ROW_WORDS → (TellsOf (count ∷ words) key → ⊥) → Fails f key g k × IsOther (now_in g) row key
+      pub failed_other : g.used.now ≡ f.used.now → g.filter ≡ f.filter → length words + 1 ≡ ROW_WORDS → (TellsOf (count ∷ words) key → ⊥) → Fails f key g (k + 1) × IsOther (now_in g) row key
       failed_other used filter whole other =
           let uses : uses_in g ≡ uses_in f = ap (λ u. map use_shown u.items) used in
           let x = fresh_note row count words in (
-            record { finding = finds_on (probed (now_in f) row count words) (uses_in f) (k + 1) s can (subst (λ u. AllSpelled u.items) (sym used) is.spelled) (inside_still used) (held_still used filter) now (passed row count words whole is.walk) uses made_so is.call; used = used },
+            record { finding = finds_on (probed (now_in f) row count words) (uses_in f) (k + 1) s can (subst (λ u. AllSpelled u.items) (sym used) is.spelled) (inside_still s is used) (held_still s is used filter) (few_still s is used) now (passed row count words whole is.walk) uses made_so is.call; used = used },
             subst (λ (z : View). IsOther z row key) (sym now) (record { note = x; noted = last_noted (now_in f).walk.notes x; is_of = refl; whole = whole; other = other }),
           )
 
-      pub answers_so : {told : List ℕ} (fact : Fact) (u : Use) → uses_in g ≡ uses_in f ++ u ∷ [] → AllSpelled g.used.now.items → AllInside (share f.pass.now).rows g.used.now.items → AllHeld g.filter g.used.now.items → u.row ≡ row → u.count ≡ count → u.place ≡ f.made → u.fact ≡ fact → Spells (count ∷ words) (Some fact)
+      pub answers_so : {told : List ℕ} (fact : Fact) (u : Use) → uses_in g ≡ uses_in f ++ u ∷ [] → AllSpelled g.used.now.items → AllInside (share f.pass.now).rows g.used.now.items → AllHeld g.filter g.used.now.items → length g.used.now.items ≤ MOST_USED → u.row ≡ row → u.count ≡ count → u.place ≡ f.made → u.fact ≡ fact → Spells (count ∷ words) (Some fact)
           → key_of fact ≡ key → k < BUCKET_ROWS → outcome_in f (said_in f) ≡ None → IsUntold (said_in f) key.number key.label
           → IsStanding g.used.now.items key told → Answers f key g told
-      answers_so fact u uses spelled inside held row_is count_is place fact_is spells about early none new standing =
+      answers_so fact u uses spelled inside held few row_is count_is place fact_is spells about early none new standing =
           let many = is.made in
           let said : Spells (u.count ∷ words) (Some u.fact) = subst (λ (z : ℕ × Fact). Spells (z.0 ∷ words) (Some z.1)) (λ i. (sym count_is i, sym fact_is i)) spells in
           record {
-            finding = finds_on (probed (now_in f) row count words) (uses_in f ++ u ∷ []) 0 s can spelled (subst (λ (x : Share). AllInside x.rows g.used.now.items) (sym s.same_pass.same_share) inside) held now
+            finding = finds_on (probed (now_in f) row count words) (uses_in f ++ u ∷ []) 0 s can spelled (subst (λ (x : Share). AllInside x.rows g.used.now.items) (sym s.same_pass.same_share) inside) held few now
                 (subst (λ (z : ℕ × ℕ). IsWalk (outcome_in f) (probed (now_in f) z.0 z.1 words) (uses_in f ++ u ∷ []) 0) (λ i. (row_is i, count_is i)) (answered u words is.walk early (place ∙ many) said none (new_same key (said_in f) u.fact (ap key_of fact_is ∙ about) new)))
                 uses made_so is.call;
             use_of = u;
@@ -123,7 +127,7 @@ pub fault_on : {v w : View} {fault : Fault} → GoesOn v w → Contains v.faults
 fault_on {v = v} {fault = fault} on c = subst (λ (xs : List Fault). Contains xs fault) (sym on.faults) (Contains-append_left v.faults on.more fault c)
 
 pub same_still : (f : Rows) → SameRows f f
-same_still f = record { shared = refl; pass = refl; used = refl; base = refl; path = refl; follow = refl; same_pass = same_pass f.pass.now }
+same_still f = record { reader = refl; pass = refl; used = refl; look = refl; same_pass = same_pass f.pass.now }
 
 pub can_still : {t u : Shared} {p q : Pass} → u ≡ t → IsSamePass p q → IsIdle q → CanWalk t p → CanWalk u q
 can_still {p = p} {q = q} e same idle c = subst (λ x. CanWalk x q) (sym e) (record {

@@ -1,60 +1,93 @@
--- What questions make of a finder over rows.
-use Rattle.std.specs.Prelude.{◌≡◌, ℕ, [], None, IfSome, is_some, if◌then◌else◌}
-use Rattle.std.proofs.Common.{refl, ◌∙◌}
-use Rattle.dc_plain.specs.Facts.{Label, told_by}
+-- What questions make of a walk over rows, whose source may take the lock or not.
+use Rattle.std.specs.Prelude.{◌≡◌, ℕ, [], Bool, false, None, IfSome, is_some, if◌then◌else◌}
+use Rattle.std.proofs.Common.{arith, refl, ◌∙◌}
+use Rattle.dc_plain.specs.Facts.{Key, Label, told_by}
 use Rattle.dc_plain.specs.Tellers.{Extends}
-use Rattle.dc_resolve.specs.Needs.{IsNeeded}
-use Rattle.dc_walk.specs.Asking.{SameWalk}
+use Rattle.dc_resolve.specs.Needs.{IsNeeded, IsUntold}
+use Rattle.dc_events.specs.Views.{View}
+use Rattle.dc_table.specs.Changes.{NothingNew}
 use Rattle.dc_walk.specs.Causes.{HasCause}
 use Rattle.dc_walk.specs.Findings.{SameRows, IsFinding, now_in, outcome_in, said_in, buckets_of}
 use Rattle.dc_walk.specs.declared.TheConstants.{BUCKET_ROWS}
-use Rattle.dc_walk.specs.declared.finder.Rows.{Rows}
+use Rattle.dc_walk.specs.declared.rows.Rows.{Rows}
 
 -- how many rows it looked at for a question that it didn't answer
 abbrev pub looked_at : Rows → ℕ
 looked_at f = if is_some f.why then BUCKET_ROWS else 0
 
-pub record IsGood (f : Rows) : Type 0 where
+-- it is the same walk still, and nothing is recorded; nor is anything seen where no lock is taken
+pub record Between (locks : Bool) (v w : View) : Type 0 where
+  pub call : w.walk.call ≡ v.walk.call
+  pub first_load : w.first_load ≡ v.first_load
+  pub nothing : NothingNew v w
+  pub book : locks ≡ false → w.book ≡ v.book
+
+-- a walk without the lock gave up for a cause that its pass has seen
+pub record IsGood (locks : Bool) (f : Rows) : Type 0 where
   pub finding : IsFinding f (looked_at f)
-  pub cause : IfSome f.why (HasCause (outcome_in f) (buckets_of f.pass.now) (now_in f))
+  pub cause : locks ≡ false → IfSome f.why (HasCause (outcome_in f) (buckets_of f.pass.now) (now_in f))
   pub asks : IfSome f.why (λ why. outcome_in f (told_by []) ≡ None)
 
-pub record Becomes (f g : Rows) : Type 0 where
+pub record Becomes (locks : Bool) (f g : Rows) : Type 0 where
   pub same : SameRows f g
   pub told : Extends (said_in f) (said_in g)
-  pub walk : SameWalk (now_in f) (now_in g)
-  pub good : IsGood f → IsGood g
+  pub walk : Between locks (now_in f) (now_in g)
+  pub good : IsGood locks f → IsGood locks g
 
-pub record MayAskRows (f : Rows) (n : ℕ) (label : Label) : Type 0 where
-  pub good : IsGood f
+-- rows were had, and none of them is looked at yet
+pub record Had (locks : Bool) (f g : Rows) : Type 0 where
+  pub becomes : Becomes locks f g
+  pub used : g.used.now ≡ f.used.now
+  pub why : g.why ≡ f.why
+
+pub record MayAskRows (locks : Bool) (f : Rows) (n : ℕ) (label : Label) : Type 0 where
+  pub good : IsGood locks f
   pub needed : IsNeeded (outcome_in f) (said_in f) n label
 
-pub stays_so : (f : Rows) → Becomes f f
-stays_so f = record {
-  same = record { shared = refl; pass = refl; used = refl; base = refl; path = refl; follow = refl; same_pass = record { table = refl; id = refl; same_share = refl } };
+-- and nothing is told of the key
+pub record MayAskNew (locks : Bool) (f : Rows) (key : Key) : Type 0 where
+  pub good : IsGood locks f
+  pub needed : IsNeeded (outcome_in f) (said_in f) key.number key.label
+  pub untold : IsUntold (said_in f) key.number key.label
+
+pub nothing_still : (v : View) → NothingNew v v
+nothing_still v = record { own = refl; joined = refl; later = omega arith }
+
+pub nothing_again : {u v w : View} → NothingNew u v → NothingNew v w → NothingNew u w
+nothing_again a b = let x = a.later in let y = b.later in record { own = b.own ∙ a.own; joined = b.joined ∙ a.joined; later = omega arith }
+
+pub between_again : {locks : Bool} {u v w : View} → Between locks u v → Between locks v w → Between locks u w
+between_again a b = record {
+  call = b.call ∙ a.call;
+  first_load = b.first_load ∙ a.first_load;
+  nothing = nothing_again a.nothing b.nothing;
+  book = λ free. b.book free ∙ a.book free;
+}
+
+pub stays_so : (locks : Bool) (f : Rows) → Becomes locks f f
+stays_so locks f = record {
+  same = record { reader = refl; pass = refl; used = refl; look = refl; same_pass = record { table = refl; id = refl; same_share = refl } };
   told = record { entry = λ d label found told. told; text = λ n bytes told. told };
-  walk = record { call = refl; book = refl; first_load = refl };
+  walk = record { call = refl; first_load = refl; nothing = nothing_still (now_in f); book = λ free. refl };
   good = λ is. is;
 }
 
 pub same_again : {f g h : Rows} → SameRows f g → SameRows g h → SameRows f h
 same_again p q = record {
-  shared = q.shared ∙ p.shared;
+  reader = q.reader ∙ p.reader;
   pass = q.pass ∙ p.pass;
   used = q.used ∙ p.used;
-  base = q.base ∙ p.base;
-  path = q.path ∙ p.path;
-  follow = q.follow ∙ p.follow;
+  look = q.look ∙ p.look;
   same_pass = record { table = q.same_pass.table ∙ p.same_pass.table; id = q.same_pass.id ∙ p.same_pass.id; same_share = q.same_pass.same_share ∙ p.same_pass.same_share };
 }
 
-pub goes_so : (f g h : Rows) → Becomes f g → Becomes g h → Becomes f h
-goes_so f g h a b = record {
+pub goes_so : (locks : Bool) (f g h : Rows) → Becomes locks f g → Becomes locks g h → Becomes locks f h
+goes_so locks f g h a b = record {
   same = same_again a.same b.same;
   told = record { entry = λ d label found told. b.told.entry d label found (a.told.entry d label found told); text = λ n bytes told. b.told.text n bytes (a.told.text n bytes told) };
-  walk = record { call = b.walk.call ∙ a.walk.call; book = b.walk.book ∙ a.walk.book; first_load = b.walk.first_load ∙ a.walk.first_load };
+  walk = between_again a.walk b.walk;
   good = λ is. b.good (a.good is);
 }
 
-pub keeps_so : (f g : Rows) → Becomes f g → Extends (said_in f) (said_in g)
-keeps_so f g b = b.told
+pub keeps_so : (locks : Bool) (f g : Rows) → Becomes locks f g → Extends (said_in f) (said_in g)
+keeps_so locks f g b = b.told

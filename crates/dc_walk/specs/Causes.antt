@@ -7,8 +7,8 @@ use Rattle.dc_plain.specs.Resolution.{Outcome}
 use Rattle.dc_events.specs.Views.{View}
 use Rattle.dc_events.specs.Views.Fault.{Busy, Changed}
 use Rattle.dc_walk.specs.Uses.{Use, Marked, DiffersEach, facts_of}
-use Rattle.dc_walk.specs.Asking.{IsOther, IsMissing}
-use Rattle.dc_walk.specs.declared.TheConstants.{MOST_USED}
+use Rattle.dc_walk.specs.Asking.{IsOther, Asks, IsMissing, first_row}
+use Rattle.dc_walk.specs.declared.TheConstants.{BUCKET_ROWS, MOST_USED}
 use Rattle.dc_walk.specs.declared.why.Why as rust_why
 use Rattle.dc_walk.specs.declared.why.Why.TheVariants as whys
 
@@ -32,6 +32,6 @@ HasCause outcome buckets v whys.Long = IsFull v
 HasCause outcome buckets v whys.Link = (key : Key) × (key.label ≡ Text) × IsMissing outcome buckets v key
 HasCause outcome buckets v whys.Memory = ⊥
 
--- where no row tells of a key that is asked for, this is the cause
-abbrev pub TellsMissing : Key → rust_why.Why → Type 0
-TellsMissing key why = (outcome : Teller → Option Outcome) (buckets : ℕ) (v : View) → IsMissing outcome buckets v key → HasCause outcome buckets v why
+-- where the rows of the bucket of a key that is asked for were looked at, this is the cause
+abbrev pub TellsWhy : Option ℕ → Key → rust_why.Why → Type 0
+TellsWhy odd key why = (outcome : Teller → Option Outcome) (buckets : ℕ) (v : View) → Looked v (first_row buckets key) key odd BUCKET_ROWS → Asks outcome v key → HasCause outcome buckets v why

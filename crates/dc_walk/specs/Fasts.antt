@@ -1,34 +1,23 @@
--- What a look-up without the lock promises.
+-- What a look-up by rows promises.
 use Rattle.std.specs.Prelude.{◌≡◌, ℕ, ◌+◌, ◌≤◌, ◌⊎◌, List, [], true, Option, None}
-use Rattle.dc_names.specs.Paths.{path_in}
 use Rattle.dc_plain.specs.declared.call.Follow.{Follow}
+use Rattle.dc_plain.specs.declared.call.Stamped.{Stamped}
 use Rattle.dc_plain.specs.Facts.{Teller, told_by}
-use Rattle.dc_plain.specs.Places.{walk}
 use Rattle.dc_plain.specs.Resolution.{Outcome}
 use Rattle.dc_plain.specs.Requests.Request.{Look}
 use Rattle.dc_plain.specs.Requests.{Request, Answer, answer_of as reply_shown}
 use Rattle.dc_events.specs.Views.{View}
-use Rattle.dc_events.specs.Effects.{begun}
+use Rattle.dc_table.specs.Changes as changes
 use Rattle.dc_table.specs.Changes.{NothingNew}
-use Rattle.dc_walk.specs.Uses.{Use}
-use Rattle.dc_walk.specs.Asking.{SameWalk}
-use Rattle.dc_walk.specs.Settling.{Came, noted_in}
+use Rattle.dc_walk.specs.Settling.{noted_in}
 use Rattle.dc_walk.specs.Long.{has_long_name}
+use Rattle.dc_walk.specs.Looks.{outcome_by}
 use Rattle.dc_walk.specs.Causes.{HasCause}
 use Rattle.dc_walk.specs.declared.TheConstants.{MOST_LOADS}
 use Rattle.dc_walk.specs.declared.why.Why as rust_why
 use Rattle.dc_walk.specs.declared.why.Why.TheVariants as whys
-use Rattle.dc_walk.specs.declared.settling.Quick as rust_fast
-use Rattle.dc_walk.specs.declared.settling.Quick.TheVariants as fasts
-
--- where the path leads by one who tells
-abbrev pub outcome_by : ℕ → List ℕ → Follow → Teller → Option Outcome
-outcome_by base text how teller = walk teller base (path_in text) how
-
--- a walk of this call came to an answer
-pub record Went (outcome : Teller → Option Outcome) (call : Request) (before now : View) (uses : List Use) (answer : Answer) : Type 0 where
-  pub came : Came outcome call now uses answer
-  pub same : SameWalk (begun before call) now
+use Rattle.dc_walk.specs.declared.answer.Fast as rust_fast
+use Rattle.dc_walk.specs.declared.answer.Fast.TheVariants as fasts
 
 -- it gave up, for a cause of a walk that was begun in this call
 pub record GaveUp (outcome : Teller → Option Outcome) (buckets : ℕ) (before now : View) (why : rust_why.Why) : Type 0 where
@@ -44,22 +33,33 @@ pub record IsTooLong (text : List ℕ) (before now : View) (why : rust_why.Why) 
   pub name : has_long_name text ≡ true
   pub same : now ≡ before
 
--- exactly this record was made
+-- exactly this record was made, at a pivot of a walk that was begun in this call
 pub record Recorded (call : Request) (answer : Answer) (at : ℕ) (before now : View) : Type 0 where
   pub book : now.book ≡ noted_in before.book call answer at
   pub later : before.book.seen ≤ at
+  pub first_load : now.first_load ≡ before.loads
   pub loads : now.loads ≤ before.loads + MOST_LOADS
 
-abbrev pub Keeps : (base : ℕ) (text : List ℕ) (how : Follow) (buckets : ℕ) (before now : View) → rust_fast.Quick → Type 0
+abbrev pub Keeps : (base : ℕ) (text : List ℕ) (how : Follow) (buckets : ℕ) (before now : View) → rust_fast.Fast → Type 0
 Keeps base text how buckets before now (fasts.Done stamped) = Recorded (Look base text how) (reply_shown stamped.reply) stamped.at before now
 Keeps base text how buckets before now (fasts.Again why) = GaveUp (outcome_by base text how) buckets before now why ⊎ IsTooLong text before now why
 
 -- a name that has no room is the cause, whatever else would be
-abbrev pub IsLongAgain : rust_fast.Quick → Type 0
+abbrev pub IsLongAgain : rust_fast.Fast → Type 0
 IsLongAgain (fasts.Done stamped) = ⊥
 IsLongAgain (fasts.Again why) = why ≡ whys.Long
 
 -- only a walk that asks something gives up
-abbrev pub IfAgain : rust_fast.Quick → Type 0 → Type 0
+abbrev pub IfAgain : rust_fast.Fast → Type 0 → Type 0
 IfAgain (fasts.Done stamped) So = Unit {0}
 IfAgain (fasts.Again why) So = So
+
+-- an answer was recorded at its point, which is a pivot of a walk that was begun in this call, and nothing else was
+pub record RecordedWithin (call : Request) (before now : View) (stamped : Stamped) : Type 0 where
+  pub recorded : changes.Recorded before now call (reply_shown stamped.reply) stamped.at
+  pub first_load : now.first_load ≡ before.loads
+
+-- an answer is recorded within this call; without one nothing is
+abbrev pub Tried : Request → (before now : View) → rust_fast.Fast → Type 0
+Tried call before now (fasts.Done stamped) = RecordedWithin call before now stamped
+Tried call before now (fasts.Again why) = NothingNew before now

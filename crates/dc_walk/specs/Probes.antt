@@ -1,5 +1,5 @@
 -- What a probe of a row makes of a view.
-use Rattle.std.specs.Prelude.{ℕ, ◌+◌, List, [], ◌∷◌, ◌++◌, true, false, length, get_or, drop}
+use Rattle.std.specs.Prelude.{◌≡◌, ℕ, ◌+◌, List, [], ◌∷◌, ◌++◌, true, false, length, get_or, drop}
 use Rattle.dc_plain.specs.Requests.{Request}
 use Rattle.dc_events.specs.Views.{Note, Walk, View}
 
@@ -13,6 +13,15 @@ probed v row count words = record v {
   walk = record v.walk { notes = v.walk.notes ++ fresh_note row count words ∷ [] };
   loads = v.loads + (1 + length words);
 }
+
+-- a walk goes on, and has no pivot yet
+pub record IsEarly (v : View) : Type 0 where
+  pub busy : v.walk.busy ≡ true
+  pub fresh : v.walk.pivoted ≡ false
+
+-- a row was noted and read whole, its count first
+abbrev pub seen_whole : View → ℕ → List ℕ → View
+seen_whole v row words = probed v row (get_or words 0 0) (drop 1 words)
 
 -- a note of a row with all its words, the count first
 abbrev pub note_of : ℕ → List ℕ → Note

@@ -13,8 +13,8 @@ use Rattle.dc_walk.specs.Uses.{Use, Marked, facts_of}
 use Rattle.dc_walk.specs.Asking.{IsWalk}
 use Rattle.dc_walk.specs.declared.why.Why as rust_why
 use Rattle.dc_walk.specs.declared.why.Why.TheVariants as whys
-use Rattle.dc_walk.specs.declared.settling.Quick as rust_quick
-use Rattle.dc_walk.specs.declared.settling.Quick.TheVariants as quicks
+use Rattle.dc_walk.specs.declared.answer.Fast as rust_fast
+use Rattle.dc_walk.specs.declared.answer.Fast.TheVariants as fasts
 
 -- the book with the record of a look-up that was answered at this clock, which is seen then
 abbrev pub noted_in : Book → Request → Answer → ℕ → Book
@@ -55,6 +55,6 @@ pub record Unsettled (before now : View) (why : rust_why.Why) : Type 0 where
   pub nothing : NothingNew before now
 
 -- the answer was recorded at the pivot, and nothing else was; or a check failed
-abbrev pub Settled : Request → (before now : View) → rust_quick.Quick → Type 0
-Settled call before now (quicks.Done stamped) = (now.book ≡ noted_in before.book call (reply_shown stamped.reply) stamped.at) × (before.book.seen ≤ stamped.at)
-Settled call before now (quicks.Again why) = Unsettled before now why
+abbrev pub Settled : Request → (before now : View) → rust_fast.Fast → Type 0
+Settled call before now (fasts.Done stamped) = (now.book ≡ noted_in before.book call (reply_shown stamped.reply) stamped.at) × (before.book.seen ≤ stamped.at)
+Settled call before now (fasts.Again why) = Unsettled before now why

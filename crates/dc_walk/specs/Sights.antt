@@ -1,5 +1,5 @@
 -- What a look at one row finds.
-use Rattle.std.specs.Prelude.{◌≡◌, ℕ, ◌+◌, List, [], ◌∷◌, ◌++◌}
+use Rattle.std.specs.Prelude.{◌≡◌, ℕ, List, [], ◌∷◌, ◌++◌}
 use Rattle.std.specs.List.{Contains}
 use Rattle.dc_plain.specs.Facts.{Key}
 use Rattle.dc_events.specs.Views.Fault.{Busy}
@@ -7,14 +7,14 @@ use Rattle.dc_walk.specs.Uses.{Use}
 use Rattle.dc_walk.specs.Asking.{IsOther}
 use Rattle.dc_walk.specs.Finds.{IsStanding}
 use Rattle.dc_walk.specs.Findings.{IsFinding, now_in, uses_in}
-use Rattle.dc_walk.specs.declared.finder.Rows.{Rows}
-use Rattle.dc_walk.specs.declared.looking.Seen as rust_seen
-use Rattle.dc_walk.specs.declared.looking.Seen.TheVariants as sights
+use Rattle.dc_walk.specs.declared.rows.Rows.{Rows}
+use Rattle.dc_walk.specs.declared.row.Seen as rust_seen
+use Rattle.dc_walk.specs.declared.row.Seen.TheVariants as sights
 
 module _ (f : Rows) (key : Key) (g : Rows) where
-  -- nothing new is used, and one row more was looked at
+  -- nothing new is used, and so many rows were looked at
   pub record Fails (k : ℕ) : Type 0 where
-    pub finding : IsFinding g (k + 1)
+    pub finding : IsFinding g k
     pub used : g.used.now ≡ f.used.now
 
   -- a row that tells of the key by these words is used, as the last

@@ -1,4 +1,4 @@
-//! The rows of a key's bucket.
+//! The rows that may tell of a key, one after another.
 
 ghost use Rattle.std.specs.Prelude.{◌≡◌, ◌≤◌, ◌<◌, ◌+◌, ◌^◌, None, IfOk, IfErr, OnErr};
 ghost use Rattle.arrayvec.specs.ArrayVec.{array_vec_len};
@@ -12,23 +12,24 @@ ghost use Rattle.dc_walk.specs.Findings.{SameRows, IsFinding, now_in, outcome_in
 ghost use Rattle.dc_walk.specs.Sights.{Answers, Fails};
 ghost use Rattle.dc_walk.specs.declared.TheConstants.{BUCKET_ROWS, MOST_USED};
 
-use crate::BUCKET_ROWS;
-use crate::finder::Rows;
-use crate::looking::{Seen, look_at};
+use crate::row::{Seen, look_at};
+use crate::rows::Rows;
+use crate::source::Lane;
 use dc_plain::Key;
 use dc_row::ROW_WORDS;
 
-/// Looks at the rows of a bucket up to the first that tells of a key, which is the last of the used
-/// ones then, and answers its words. Else it answers the first of them that is odd.
+/// Looks at some rows up to the first that tells of a key, which is the last of the used ones then,
+/// and answers its words. Else it answers the first of them that is odd.
 #[inline(always)]
 pub(crate) fn ask_rows(
     rows: &mut Rows<'_>,
-    first: u64,
+    lane: Lane,
     key: Key<'_>,
     hash: u64,
 ) -> Result<[u64; ROW_WORDS], Option<u64>>
     requires finding { IsFinding rows.old 0 }
-    requires within { first + BUCKET_ROWS ≤ (share rows.old.pass.now).rows }
+    requires within { lane.first + lane.many ≤ (share rows.old.pass.now).rows }
+    requires many { lane.many ≤ BUCKET_ROWS }
     requires few { (share rows.old.pass.now).rows < 2 ^ 64 }
     requires hash { hash ≡ key_hash (key_shown key) }
     requires room { array_vec_len rows.old.used.now < MOST_USED }
@@ -38,15 +39,15 @@ pub(crate) fn ask_rows(
     ensures why { rows.new.why ≡ rows.old.why }
     ensures on { GoesOn (now_in rows.old) (now_in rows.new) }
     ensures tells { IfOk result (Answers rows.old (key_shown key.entry) rows.new) }
-    ensures fails { OnErr result (Fails rows.old (key_shown key.entry) rows.new 3) }
+    ensures fails { OnErr result (Fails rows.old (key_shown key.entry) rows.new lane.many) }
     ensures looked { IfErr result (λ odd.
-        Looked (now_in rows.new) first (key_shown key.entry) odd BUCKET_ROWS) }
+        Looked (now_in rows.new) lane.first (key_shown key.entry) odd lane.many) }
 {
     let mut odd = None;
-    for k in 0..BUCKET_ROWS {
-        match look_at(rows, first + k, key, hash, k) {
+    for k in 0..lane.many {
+        match look_at(rows, lane.first + k, key, hash, k) {
             Seen::Tells(words) => return Ok(words),
-            Seen::Odd => odd = odd.or(Some(first + k)),
+            Seen::Odd => odd = odd.or(Some(lane.first + k)),
             Seen::Other => {}
         }
     }

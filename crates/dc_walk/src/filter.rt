@@ -4,7 +4,8 @@ ghost use Rattle.std.specs.Prelude.{◌↔◌, ◌≡◌, ◌%◌, ℕ, IsTrue};
 ghost use Rattle.dc_walk.specs.Filters.{MayHold};
 ghost use Rattle.dc_walk.specs.declared.filter.TheConstants.{FILTER_PLACES};
 
-/// How many places a filter has: so many that few of the keys of a path are one another's.
+/// How many places a filter has. A path of eight names adds eight keys, so with 128 places the last of
+/// them meets another key's some 5 times in 100, and 128 bytes are two cache lines to clear.
 pub(crate) const FILTER_PLACES: usize = 128;
 
 /// Keys by the places of their hashes: a key that was added it may hold, and of another it says so too

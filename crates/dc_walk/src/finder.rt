@@ -1,26 +1,66 @@
 //! Who answers the questions of a walk.
 
-use crate::MOST_USED;
-use crate::filter::KeyFilter;
-use crate::used::Used;
-use crate::why::Why;
-use arrayvec::ArrayVec;
-use dc_names::PathText;
-use dc_plain::Follow;
-use dc_table::{Pass, Shared};
+ghost use Rattle.std.specs.Prelude.{◌≡◌, is_some};
+ghost use Rattle.std.proofs.Common.{refl, ◌∙◌};
+ghost use Rattle.dc_table.specs.Holders.{table_of};
+ghost use Rattle.dc_walk.specs.Becomings.{Becomes, MayAskRows, stays_so, goes_so, keeps_so};
+ghost use Rattle.dc_walk.specs.Findings.{said_in};
 
-/// Answers the questions of a look-up from the rows of the table. It knows whether a step was made,
-/// how many rows were noted, which keys the used rows may tell of, and why it gave up.
+use crate::link::LinkText;
+use crate::question::{key_of, text_key, told};
+use crate::rows::Rows;
+use crate::source::Source;
+use dc_names::{Kind, Part, hash};
+use dc_resolve::{Finder, Stop};
+use dc_row::target;
+
+/// Answers the questions of a look-up by the rows of a source.
 #[derive(Drop)]
-pub(crate) struct Rows<'a> {
-    pub shared: &'a Shared,
-    pub pass: &'a mut Pass,
-    pub used: &'a mut ArrayVec<Used, MOST_USED>,
-    pub base: u64,
-    pub path: PathText<'a>,
-    pub follow: Follow,
-    pub begun: bool,
-    pub made: u64,
-    pub filter: KeyFilter,
-    pub why: Option<Why>,
+pub(crate) struct Walker<'a, S> {
+    pub source: &'a S,
+    pub rows: Rows<'a>,
+}
+
+impl<'a, S: Source> Finder for Walker<'a, S> {
+    type Text = LinkText;
+
+    ghost said = { λ f. said_in f.rows };
+
+    ghost has_stopped = { λ f. is_some f.rows.why };
+
+    ghost becomes = { λ f g. (g.source ≡ f.source) × Becomes S.locks f.rows g.rows };
+
+    ghost may_ask = { λ f n label. S.serves f.source.now (table_of f.rows.reader)
+        × MayAskRows S.locks f.rows n label };
+
+    fn find(&mut self, dir: u64, part: Part<'_>) -> Result<Option<(u64, Kind)>, Stop> {
+        let key = key_of(dir, part);
+        self.find_hashed(dir, part, hash(dir, key.label.bytes()))
+    }
+
+    #[inline(always)]
+    fn find_hashed(
+        &mut self,
+        dir: u64,
+        part: Part<'_>,
+        hash: u64,
+    ) -> Result<Option<(u64, Kind)>, Stop> {
+        let key = key_of(dir, part);
+        let words = told(self.source, &mut self.rows, key, hash)?;
+        Ok(target(&words))
+    }
+
+    #[inline(always)]
+    fn link_text(&mut self, number: u64) -> Result<LinkText, Stop> {
+        let key = text_key(number);
+        let hash = hash(number, key.label.bytes());
+        let text = told(self.source, &mut self.rows, key, hash)?;
+        Ok(LinkText::of(&text))
+    }
+
+    ghost stays = { λ f. (refl, stays_so S.locks f.rows) };
+
+    ghost goes_on = { λ f g h a b. (b.0 ∙ a.0, goes_so S.locks f.rows g.rows h.rows a.1 b.1) };
+
+    ghost keeps = { λ f g b. keeps_so S.locks f.rows g.rows b.1 };
 }

@@ -1,31 +1,39 @@
-//! Walks over the shared table: `fast` takes no lock and no memory, and never waits; `counted` fills and
-//! pins the rows that it needs, each under the lock; `locked` asks the tree itself.
+//! Walks over the shared table: `walk_fast` takes no lock and no memory, and never waits; `walk_counted`
+//! fills and pins the rows that it needs, each under the lock; `walk_locked` asks the tree itself. The
+//! first two are one walk over two sources of rows, so what one of them reads and checks the other
+//! does.
 #![tactic(auto)]
 
-mod asking;
+mod answer;
 mod bucket;
-mod counting;
+mod counted;
 mod filter;
 mod finder;
 mod link;
-mod locking;
+mod locked;
 mod long;
-mod looking;
-mod pinning;
-mod probing;
-mod settling;
+mod look;
+mod pinned;
+mod probe;
+mod question;
+mod row;
+mod rows;
+mod settle;
+mod source;
 #[cfg(test)]
 mod tests;
+mod unlocked;
 mod used;
-mod walking;
+mod walk;
 mod why;
 
-pub use counting::counted;
+pub use answer::Fast;
+pub use counted::walk_counted;
 use dc_row::ROW_WORDS;
-pub use locking::locked;
-pub use settling::Quick;
-pub use used::Used;
-pub use walking::fast;
+pub use locked::walk_locked;
+pub use look::Look;
+pub use unlocked::walk_fast;
+pub use used::Room;
 pub use why::Why;
 
 /// How many rows a bucket has.
@@ -34,6 +42,6 @@ pub const BUCKET_ROWS: u64 = 4;
 /// The most rows whose answers a walk rests on.
 pub const MOST_USED: usize = 256;
 
-/// The most loads of `fast`, 8,449: for each question of all words of the rows of a bucket and once
-/// more of one's count, and of the clock.
+/// The most loads of `walk_fast`, 8,449: for each question of all words of the rows of a bucket and
+/// once more of one's count, and of the clock.
 pub const MOST_LOADS: u64 = MOST_USED as u64 * (BUCKET_ROWS * ROW_WORDS as u64 + 1) + 1;

@@ -1,27 +1,36 @@
+//! Look-ups over a table whose rows are filled, emptied and changed.
+
 ghost use Rattle.dc_ops.specs.Asked.{IsChange};
-ghost use Rattle.dc_table.specs.Passes.{IsSamePass};
 ghost use Rattle.dc_walk.specs.Findings.{CanWalk};
 
 mod by_hand;
+mod causes;
 mod pinned;
 
-use crate::{Quick, Used, Why, counted, fast};
-use arrayvec::ArrayVec;
+use crate::{Fast, Look, Room, Why, walk_counted, walk_fast};
 use dc_names::{Kind, Name, parse};
-use dc_plain::{Call, Follow, Key, Label, Reply};
+use dc_plain::{Call, Flags, Follow, Key, Label, Reply};
+use dc_rows::{change as make, pin, shrink, unpin_all};
 use dc_table::{Pass, Shared};
 use std::alloc::Global;
 use std::sync::Wait;
 use std::test::Fail;
 
+/// The question of a path from the root, or `None` where the text is no path.
+fn from_root(text: &[u8]) -> Option<Look<'_>> {
+    Some(Look {
+        base: 1,
+        path: parse(text).ok()?,
+        follow: Follow::Yes,
+    })
+}
+
 /// What the fast walk of a path from the root comes to, or `None` where the text is no path.
-fn look(shared: &Shared, pass: &mut Pass, text: &[u8]) -> Option<Quick>
+fn look(shared: &Shared, pass: &mut Pass, text: &[u8]) -> Option<Fast>
     requires { CanWalk shared.now pass.old }
     ensures { CanWalk shared.now pass.new }
 {
-    let path = parse(text).ok()?;
-    let mut used: ArrayVec<Used, 256> = ArrayVec::new();
-    Some(fast(shared, pass, &mut used, 1, path, Follow::Yes))
+    Some(walk_fast(shared.reader(), pass, &mut Room::new(), from_root(text)?))
 }
 
 /// What the walk that fills and pins rows comes to for a path from the root, or `None` where the text
@@ -32,13 +41,12 @@ fn count<R: Wait>(
     shared: &Shared,
     pass: &mut Pass,
     text: &[u8],
-) -> Option<Quick>
+) -> Option<Fast>
     requires { CanWalk shared.now pass.old }
     ensures { CanWalk shared.now pass.new }
 {
-    let path = parse(text).ok()?;
-    let mut used: ArrayVec<Used, 256> = ArrayVec::new();
-    Some(counted(shared, rt, alloc, pass, &mut used, 1, path, Follow::Yes))
+    let look = from_root(text)?;
+    Some(walk_counted(shared, rt, alloc, pass, &mut Room::new(), look))
 }
 
 /// What a change is answered, and at which point, or `None` without memory.
@@ -52,7 +60,7 @@ fn change<R: Wait>(
     requires { CanWalk shared.now pass.old × IsChange call.now }
     ensures { CanWalk shared.now pass.new }
 {
-    shared.change(rt, alloc, pass, call).ok()
+    make(shared, rt, alloc, pass, call).ok()
 }
 
 fn mkdir(path: &[u8]) -> Call<'_>
@@ -68,9 +76,9 @@ fn create(path: &[u8]) -> Call<'_>
 }
 
 /// Whether a path led to the root after so many changes.
-fn is_root_at(found: &Option<Quick>, at: u64) -> bool {
+fn is_root_at(found: &Option<Fast>, at: u64) -> bool {
     match found {
-        Some(Quick::Done(stamped)) => {
+        Some(Fast::Done(stamped)) => {
             stamped.at == at && stamped.reply == Reply::Found(1, Kind::Dir)
         }
         _ => false,
@@ -82,7 +90,7 @@ fn empty_rows_answer_no_question(rt: HostRuntime) -> Result<(), Fail> {
     let (shared, mut p) = Shared::new(rt.alloc(), 1, 16).expect(&rt, "memory");
     for text in [b"/z".as_slice(), b"/a/z", b"//./z/", b"z", b"..//../z"] {
         let found = look(&shared, &mut p, text);
-        assert!(rt; matches!(found, Some(Quick::Again(Why::Miss(0)))));
+        assert!(rt; matches!(found, Some(Fast::Again(Why::Miss(0)))));
     }
     Ok(())
 }
@@ -103,11 +111,11 @@ fn the_point_is_the_clock(rt: HostRuntime) -> Result<(), Fail> {
         base: 1,
         path: b"/a",
     };
-    let made = shared.change(&rt, rt.alloc(), &mut p, &call);
+    let made = make(&shared, &rt, rt.alloc(), &mut p, &call);
     assert!(rt; matches!(made, Ok((Reply::Done(2), 0))));
     assert!(rt; is_root_at(&look(&shared, &mut p, b"/"), 1));
     let found = look(&shared, &mut p, b"/a");
-    assert!(rt; matches!(found, Some(Quick::Again(Why::Miss(0)))));
+    assert!(rt; matches!(found, Some(Fast::Again(Why::Miss(0)))));
     Ok(())
 }
 
@@ -117,16 +125,16 @@ fn a_name_without_room_is_long(rt: HostRuntime) -> Result<(), Fail> {
     let mut text = [b'n'; 34];
     text[0] = b'/';
     let found = look(&shared, &mut p, &text);
-    assert!(rt; matches!(found, Some(Quick::Again(Why::Long))));
+    assert!(rt; matches!(found, Some(Fast::Again(Why::Long))));
     let found = look(&shared, &mut p, &text[..33]);
-    assert!(rt; matches!(found, Some(Quick::Again(Why::Miss(0)))));
+    assert!(rt; matches!(found, Some(Fast::Again(Why::Miss(0)))));
     Ok(())
 }
 
 /// Whether a path was answered so after so many changes.
-fn is_answered(found: &Option<Quick>, reply: &Reply, at: u64) -> bool {
+fn is_answered(found: &Option<Fast>, reply: &Reply, at: u64) -> bool {
     match found {
-        Some(Quick::Done(stamped)) => stamped.at == at && stamped.reply == *reply,
+        Some(Fast::Done(stamped)) => stamped.at == at && stamped.reply == *reply,
         _ => false,
     }
 }
@@ -147,14 +155,13 @@ fn filled_rows_answer(rt: HostRuntime) -> Result<(), Fail> {
         base: 1,
         path: b"/a",
     };
-    let made = shared.change(&rt, rt.alloc(), &mut p, &mkdir);
+    let made = make(&shared, &rt, rt.alloc(), &mut p, &mkdir);
     assert!(rt; matches!(made, Ok((Reply::Done(2), 0))));
     let a = in_root(b"a").expect(&rt, "a name");
     let b = in_root(b"b").expect(&rt, "a name");
-    assert!(rt; matches!(shared.hold(&rt, rt.alloc(), &mut p, &a), Ok(Some(0))));
-    assert!(rt; matches!(shared.hold(&rt, rt.alloc(), &mut p, &b), Ok(Some(1))));
-    shared.release(&rt, &mut p, 0);
-    shared.release(&rt, &mut p, 1);
+    assert!(rt; matches!(pin(&shared, &rt, rt.alloc(), &mut p, &a), Ok(Some(0))));
+    assert!(rt; matches!(pin(&shared, &rt, rt.alloc(), &mut p, &b), Ok(Some(1))));
+    unpin_all(&shared, &rt, &mut p, &[0, 1]);
     let found = look(&shared, &mut p, b"/a");
     assert!(rt; is_answered(&found, &Reply::Found(2, Kind::Dir), 1));
     let found = look(&shared, &mut p, b"/b");
@@ -163,16 +170,17 @@ fn filled_rows_answer(rt: HostRuntime) -> Result<(), Fail> {
         base: 1,
         old: b"/a",
         new: b"/b",
+        flags: Flags::default(),
     };
-    let moved = shared.change(&rt, rt.alloc(), &mut p, &rename);
+    let moved = make(&shared, &rt, rt.alloc(), &mut p, &rename);
     assert!(rt; matches!(moved, Ok((Reply::Unit, 1))));
     let found = look(&shared, &mut p, b"/a");
     assert!(rt; is_answered(&found, &Reply::Refused(2), 2));
     let found = look(&shared, &mut p, b"/b");
     assert!(rt; is_answered(&found, &Reply::Found(2, Kind::Dir), 2));
-    assert!(rt; shared.shrink(&rt, &mut p, 4) == 2);
+    assert!(rt; shrink(&shared, &rt, &mut p, 4) == 2);
     let found = look(&shared, &mut p, b"/a");
-    assert!(rt; matches!(found, Some(Quick::Again(Why::Miss(0)))));
+    assert!(rt; matches!(found, Some(Fast::Again(Why::Miss(0)))));
     assert!(rt; shared.learn(&mut p) == 2);
     Ok(())
 }

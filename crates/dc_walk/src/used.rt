@@ -5,13 +5,15 @@ ghost use Rattle.dc_plain.specs.KeysShown.{key_shown};
 ghost use Rattle.dc_resolve.specs.Needs.{IsUntold};
 ghost use Rattle.dc_walk.specs.Finds.{told_in, AllSpelled, IsStanding};
 
+use crate::MOST_USED;
+use arrayvec::ArrayVec;
 use dc_plain::Key;
 use dc_row::{EMPTY_ROW, ROW_WORDS, tells_of, words_have_the_fact_they_spell};
 
 /// A row that answered a question: the place of its note among those of the walk, and its words, the
 /// count first.
 #[derive(Clone, Copy, Drop)]
-pub struct Used {
+pub(crate) struct Used {
     pub row: u64,
     pub place: u64,
     pub words: [u64; ROW_WORDS],
@@ -23,6 +25,22 @@ impl Default for Used {
             row: 0,
             place: 0,
             words: EMPTY_ROW,
+        }
+    }
+}
+
+/// Room for the rows that a walk rests on, which the next walk may use again.
+#[derive(Drop)]
+pub struct Room {
+    pub(crate) used: ArrayVec<Used, MOST_USED>,
+}
+
+impl Room {
+    /// Room that no walk has used yet. It takes no memory besides its own.
+    #[must_use]
+    pub fn new() -> Room {
+        Room {
+            used: ArrayVec::new(),
         }
     }
 }

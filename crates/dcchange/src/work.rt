@@ -4,6 +4,7 @@ ghost use Rattle.dc_table.specs.Passes.{Fits, IsIdle};
 ghost use Rattle.std.specs.Thread.{IsSync};
 
 use dc_plain::Call;
+use dc_rows::change;
 use dc_table::{Pass, Shared};
 use std::alloc::Global;
 use std::sync::Wait;
@@ -29,13 +30,13 @@ fn work<R: Wait>(
                 base: 1,
                 path: &path,
             };
-            shared.change(rt, alloc, &mut pass, &call)
+            change(shared, rt, alloc, &mut pass, &call)
         } else {
             let call = Call::Unlink {
                 base: 1,
                 path: &path,
             };
-            shared.change(rt, alloc, &mut pass, &call)
+            change(shared, rt, alloc, &mut pass, &call)
         };
     }
     pass

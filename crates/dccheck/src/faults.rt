@@ -1,5 +1,6 @@
 //! What ends the program without a verdict.
 
+use dc_lang::InputFault;
 use dc_names::NoMemory;
 use std::alloc::{AllocError, AllocFailed};
 
@@ -44,6 +45,15 @@ impl File {
 impl From<NoMemory> for Fault {
     fn from(_fault: NoMemory) -> Fault {
         Fault::NoMemory
+    }
+}
+
+impl From<InputFault> for Fault {
+    fn from(fault: InputFault) -> Fault {
+        match fault {
+            InputFault::BadLine(line) => Fault::BadLine(File::Commands, line),
+            InputFault::NoMemory => Fault::NoMemory,
+        }
     }
 }
 

@@ -2,9 +2,10 @@
 
 ghost use Rattle.dc_walk.specs.Findings.{CanWalk};
 
-use crate::tree::{Notes, make_filled, number_of};
+use crate::tree::{make_filled, number_of};
 use dc_names::{PathText, parse};
 use dc_table::{Pass, Shared};
+use dc_walk::Room;
 use std::alloc::Global;
 use std::rt::Clock;
 use std::sync::Wait;
@@ -48,27 +49,27 @@ fn shuffled<'a>(alloc: Global, paths: &[PathText<'a>], looks: u64) -> Option<Vec
 }
 
 /// How many of the paths lead somewhere.
-fn found(shared: &Shared, pass: &mut Pass, notes: &mut Notes, paths: &[PathText<'_>]) -> u64
+fn found(shared: &Shared, pass: &mut Pass, room: &mut Room, paths: &[PathText<'_>]) -> u64
     requires { CanWalk shared.now pass.old }
     ensures { CanWalk shared.now pass.new }
 {
     let mut found: u64 = 0;
     for path in paths {
-        let number = number_of(shared, pass, notes, *path);
+        let number = number_of(shared, pass, room, *path);
         found = found.wrapping_add(u64::from(number.is_some()));
     }
     found
 }
 
-/// The same, with the texts of the paths tested anew.
-fn parsed(shared: &Shared, pass: &mut Pass, notes: &mut Notes, paths: &[PathText<'_>]) -> u64
+/// How many of the paths lead somewhere, with their texts tested anew.
+fn parsed(shared: &Shared, pass: &mut Pass, room: &mut Room, paths: &[PathText<'_>]) -> u64
     requires { CanWalk shared.now pass.old }
     ensures { CanWalk shared.now pass.new }
 {
     let mut found: u64 = 0;
     for path in paths {
         if let Ok(path) = parse(path.bytes()) {
-            let number = number_of(shared, pass, notes, path);
+            let number = number_of(shared, pass, room, path);
             found = found.wrapping_add(u64::from(number.is_some()));
         }
     }
@@ -86,16 +87,16 @@ fn turn<R: Clock>(
     rt: &R,
     shared: &Shared,
     pass: &mut Pass,
-    notes: &mut Notes,
+    room: &mut Room,
     paths: &[PathText<'_>],
 ) -> Option<Looked>
     requires { CanWalk shared.now pass.old }
     ensures { CanWalk shared.now pass.new }
 {
     let start = Instant::now(rt).ok()?;
-    let found = found(shared, pass, notes, paths);
+    let found = found(shared, pass, room, paths);
     let middle = Instant::now(rt).ok()?;
-    let again = parsed(shared, pass, notes, paths);
+    let again = parsed(shared, pass, room, paths);
     let end = Instant::now(rt).ok()?;
     if again != found {
         return None;
@@ -112,15 +113,15 @@ fn best_turn<R: Clock>(
     rt: &R,
     shared: &Shared,
     pass: &mut Pass,
-    notes: &mut Notes,
+    room: &mut Room,
     paths: &[PathText<'_>],
     turns: u64,
 ) -> Option<Looked>
     requires { CanWalk shared.now pass.old }
 {
-    let mut best = turn(rt, shared, pass, notes, paths)?;
+    let mut best = turn(rt, shared, pass, room, paths)?;
     'turns: for _ in 1..turns {
-        let now = turn(rt, shared, pass, notes, paths)?;
+        let now = turn(rt, shared, pass, room, paths)?;
         best.fast = best.fast.min(now.fast);
         best.parsed = best.parsed.min(now.parsed);
     }
@@ -145,7 +146,7 @@ fn plant<'a, R: Wait>(
     alloc: Global,
     shared: &Shared,
     pass: &mut Pass,
-    notes: &mut Notes,
+    room: &mut Room,
     lines: &[&'a [u8]],
 ) -> Option<Vec<PathText<'a>>>
     requires { CanWalk shared.now pass.old }
@@ -153,7 +154,7 @@ fn plant<'a, R: Wait>(
 {
     let mut paths = Vec::new(alloc);
     'lines: for line in lines {
-        make_filled(rt, alloc, shared, pass, notes, line)?;
+        make_filled(rt, alloc, shared, pass, room, line)?;
         if let [b'f' | b'p', b' ', path @ ..] = line {
             paths.push(parse(path).ok()?).ok()?;
         }
@@ -170,15 +171,15 @@ pub fn look_all<R: Wait + Clock>(
     sizes: Sizes,
 ) -> Option<Looked> {
     let (shared, mut pass) = Shared::new(alloc, 1024, 65_536).ok()?;
-    let mut notes = Notes::new();
+    let mut room = Room::new();
     let lines = lines_in(alloc, lines)?;
-    let paths = plant(rt, alloc, &shared, &mut pass, &mut notes, lines.as_slice())?;
+    let paths = plant(rt, alloc, &shared, &mut pass, &mut room, lines.as_slice())?;
     let paths = shuffled(alloc, paths.as_slice(), sizes.looks)?;
     best_turn(
         rt,
         &shared,
         &mut pass,
-        &mut notes,
+        &mut room,
         paths.as_slice(),
         sizes.turns,
     )

@@ -2,33 +2,39 @@
 
 ghost use Rattle.dc_walk.specs.Findings.{CanWalk};
 
-use arrayvec::ArrayVec;
 use dc_names::{PathText, parse};
 use dc_plain::{Call, Follow, Reply};
+use dc_rows::change;
 use dc_table::{Pass, Shared};
-use dc_walk::{MOST_USED, Quick, Used, counted, fast};
+use dc_walk::{Fast, Look, Room, walk_counted, walk_fast};
 use std::alloc::Global;
 use std::sync::Wait;
 
-/// Room for the rows that a walk uses.
-pub type Notes = ArrayVec<Used, MOST_USED>;
+/// The question of a path from the root.
+fn from_root(path: PathText<'_>) -> Look<'_> {
+    Look {
+        base: 1,
+        path,
+        follow: Follow::Yes,
+    }
+}
 
 /// The number of what a path leads to, by the rows alone.
 pub fn number_of(
     shared: &Shared,
     pass: &mut Pass,
-    notes: &mut Notes,
+    room: &mut Room,
     path: PathText<'_>,
 ) -> Option<u64>
     requires { CanWalk shared.now pass.old }
     ensures { CanWalk shared.now pass.new }
 {
-    match fast(shared, pass, notes, 1, path, Follow::Yes) {
-        Quick::Done(stamped) => match stamped.reply {
+    match walk_fast(shared.reader(), pass, room, from_root(path)) {
+        Fast::Done(stamped) => match stamped.reply {
             Reply::Found(number, _) => Some(number),
             _ => None,
         },
-        Quick::Again(_) => None,
+        Fast::Again(_) => None,
     }
 }
 
@@ -39,13 +45,13 @@ fn make<R: Wait>(rt: &R, alloc: Global, shared: &Shared, pass: &mut Pass, line: 
 {
     let base = 1;
     let made = match line {
-        [b'd', b' ', path @ ..] => shared.change(rt, alloc, pass, &Call::Mkdir { base, path }),
+        [b'd', b' ', path @ ..] => change(shared, rt, alloc, pass, &Call::Mkdir { base, path }),
         [b'f' | b'c', b' ', path @ ..] => {
-            shared.change(rt, alloc, pass, &Call::Create { base, path })
+            change(shared, rt, alloc, pass, &Call::Create { base, path })
         }
         [b'l', b' ', rest @ ..] => {
             let (text, path) = words_of(rest)?;
-            shared.change(rt, alloc, pass, &Call::Symlink { base, text, path })
+            change(shared, rt, alloc, pass, &Call::Symlink { base, text, path })
         }
         [b'p', b' ', ..] => return Some(()),
         _ => return None,
@@ -77,7 +83,7 @@ pub fn make_filled<R: Wait>(
     alloc: Global,
     shared: &Shared,
     pass: &mut Pass,
-    notes: &mut Notes,
+    room: &mut Room,
     line: &[u8],
 ) -> Option<()>
     requires { CanWalk shared.now pass.old }
@@ -85,8 +91,8 @@ pub fn make_filled<R: Wait>(
 {
     make(rt, alloc, shared, pass, line)?;
     let path = path_of(line)?;
-    match counted(shared, rt, alloc, pass, notes, 1, path, Follow::Yes) {
-        Quick::Done(_) => Some(()),
-        Quick::Again(_) => None,
+    match walk_counted(shared, rt, alloc, pass, room, from_root(path)) {
+        Fast::Done(_) => Some(()),
+        Fast::Again(_) => None,
     }
 }

@@ -1,4 +1,5 @@
-//! Three actors by a fixed generator: each finished reply is that of the slow machine at its point.
+//! Three actors by a fixed generator, which also evict: each finished reply is that of the slow machine
+//! at its point.
 use super::{create, look, mkdir, named, rename};
 use crate::{Act, Core, Event, Finished, Refused};
 use dc_names::{Kind, NoMemory};
@@ -145,6 +146,7 @@ struct Three {
     tree: PlainTree,
     plans: Vec<Plan>,
     done: u64,
+    evictions: u64,
 }
 
 impl Three {
@@ -158,6 +160,7 @@ impl Three {
             tree: PlainTree::new(alloc, 16)?,
             plans,
             done: 0,
+            evictions: 0,
         })
     }
 }
@@ -211,7 +214,12 @@ impl Three {
             }
             Refused::OddRow(row) => {
                 plan.push(act)?;
-                let words = words_of(alloc, &mut self.tree, number)?;
+                let mut words = EMPTY_ROW;
+                if (number >> 8) % 4 == 0 {
+                    self.evictions = self.evictions.saturating_add(1);
+                } else {
+                    words = words_of(alloc, &mut self.tree, number)?;
+                }
                 push_row(plan, row, &words)?;
             }
             Refused::Changed(..) => {
@@ -283,6 +291,7 @@ fn schedules_are_one_tree(rt: HostRuntime) -> Result<(), Fail> {
         );
     }
     let (found, refused) = look_ups(three.core.finished());
-    assert!(rt; three.done >= 5000 && clock >= 20 && found >= 20 && refused >= 4);
+    assert!(rt; three.done >= 5000 && three.evictions >= 20 && clock >= 20);
+    assert!(rt; found >= 20 && refused >= 4);
     Ok(())
 }

@@ -1,5 +1,5 @@
 //! Both stores and the slow machine answer a long list of calls alike.
-use super::{answered, create, link, look, mkdir, rename, rmdir, symlink, unlink};
+use super::{answered, create, exchange, link, look, mkdir, rename, rmdir, symlink, unlink};
 use dc_names::NoMemory;
 use dc_plain::{Call, PlainTree, Reply};
 use dc_store::{MapStore, SlabStore, Store};
@@ -95,5 +95,22 @@ fn stores_answer_alike(rt: HostRuntime) -> Result<(), Fail> {
     // Every kind of reply came, and twice as many inodes were made as may live, so slab keys were used again.
     assert!(rt; seen.iter().all(|times| *times >= 10));
     assert!(rt; three.slab.next() > 32);
+    Ok(())
+}
+
+/// After every two other calls comes an exchange of two of the paths.
+#[test]
+fn stores_exchange_alike(rt: HostRuntime) -> Result<(), Fail> {
+    let mut three = Three::new(rt.alloc())?;
+    let mut number = 7;
+    for step in 0..900 {
+        number = drawn(number);
+        let call = if step % 3 == 2 {
+            exchange(path_of(number), path_of(drawn(number)))
+        } else {
+            call_of(number)
+        };
+        assert!(rt; three.answer(rt.alloc(), &call)?.is_some(), "step {step}");
+    }
     Ok(())
 }

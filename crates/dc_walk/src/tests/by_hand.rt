@@ -8,10 +8,10 @@ ghost use Rattle.dc_table.specs.Passes.{view, share};
 ghost use Rattle.dc_walk.specs.Findings.{CanWalk};
 ghost use Rattle.dc_walk.specs.Probes.{note_of, walk_with};
 
-use crate::probing::probe;
+use crate::probe::probe;
 use crate::tests::{change, count, create, is_answered, look, mkdir};
 use dc_names::Kind;
-use dc_plain::{Call, Reply};
+use dc_plain::{Call, Flags, Reply};
 use dc_row::ROW_WORDS;
 use dc_table::{Pass, Shared};
 use std::alloc::Global;
@@ -29,8 +29,8 @@ fn note_two(shared: &Shared, pass: &mut Pass, path: &[u8]) -> Option<(Words, Wor
         (note_of 0 words.0 ∷ note_of 1 words.1 ∷ [])) }
 {
     let call = Call::Stat { base: 1, path };
-    let first = probe(shared, pass, &call, 0, true).ok()?;
-    let second = probe(shared, pass, &call, 1, false).ok()?;
+    let first = probe(shared.reader(), pass, &call, 0, true).ok()?;
+    let second = probe(shared.reader(), pass, &call, 1, false).ok()?;
     Some((first, second))
 }
 
@@ -48,13 +48,13 @@ fn turn(
     ensures can { CanWalk shared.now pass.new }
 {
     let call = Call::Stat { base: 1, path };
-    let Ok(last) = probe(shared, pass, &call, 3, false) else {
+    let Ok(last) = probe(shared.reader(), pass, &call, 3, false) else {
         return None;
     };
-    let at = shared.pivot(pass, &call, false);
-    let first = shared.check(pass, 0, 0, noted.0[0]);
-    let second = shared.check(pass, 1, 1, noted.1[0]);
-    let third = shared.check(pass, 2, 3, last[0]);
+    let at = shared.reader().pivot(pass, &call, false);
+    let first = shared.reader().check(pass, 0, 0, noted.0[0]);
+    let second = shared.reader().check(pass, 1, 1, noted.1[0]);
+    let third = shared.reader().check(pass, 2, 3, last[0]);
     Some((last, at, [first, second, third]))
 }
 
@@ -109,7 +109,12 @@ fn move_away<R: Wait>(
     ensures { CanWalk shared.now pass.new }
 {
     let new = b"/b".as_slice();
-    let rename = Call::Rename { base: 1, old, new };
+    let rename = Call::Rename {
+        base: 1,
+        old,
+        new,
+        flags: Flags::default(),
+    };
     let moved = change(rt, alloc, shared, pass, &rename);
     let created = change(rt, alloc, shared, pass, &create(file));
     let found = count(rt, alloc, shared, pass, file);

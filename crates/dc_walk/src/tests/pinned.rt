@@ -1,9 +1,10 @@
 //! Walks that fill and pin rows, and walks under the lock.
 
-use crate::tests::{change, count, create, in_root, is_answered, look, mkdir};
-use crate::{Quick, Why, locked};
+use crate::tests::{change, count, create, from_root, in_root, is_answered, look, mkdir};
+use crate::{Fast, Room, Why, walk_counted, walk_locked};
 use dc_names::Kind;
 use dc_plain::{Call, Follow, Reply, Stamped};
+use dc_rows::{pin, shrink, unpin_all};
 use dc_table::Shared;
 use std::test::Fail;
 
@@ -20,10 +21,10 @@ fn a_pinned_row_is_not_taken(rt: HostRuntime) -> Result<(), Fail> {
     let made = change(&rt, rt.alloc(), &shared, &mut p, &mkdir(b"/a/b/c/d"));
     assert!(rt; made == Some((Reply::Done(5), 3)));
     let found = count(&rt, rt.alloc(), &shared, &mut p, b"/a/b/c/d/e");
-    assert!(rt; matches!(found, Some(Quick::Again(Why::Miss(4)))));
+    assert!(rt; matches!(found, Some(Fast::Again(Why::Miss(4)))));
     let found = look(&shared, &mut p, b"/a/b/c/d");
     assert!(rt; is_answered(&found, &Reply::Found(5, Kind::Dir), 4));
-    assert!(rt; shared.shrink(&rt, &mut p, 5) == 4);
+    assert!(rt; shrink(&shared, &rt, &mut p, 5) == 4);
     Ok(())
 }
 
@@ -32,12 +33,12 @@ fn a_pinned_row_is_not_taken(rt: HostRuntime) -> Result<(), Fail> {
 fn the_pins_of_others_stay(rt: HostRuntime) -> Result<(), Fail> {
     let (shared, mut p) = Shared::new(rt.alloc(), 1, 16).expect(&rt, "memory");
     let a = in_root(b"a").expect(&rt, "a name");
-    assert!(rt; matches!(shared.hold(&rt, rt.alloc(), &mut p, &a), Ok(Some(0))));
+    assert!(rt; matches!(pin(&shared, &rt, rt.alloc(), &mut p, &a), Ok(Some(0))));
     let found = count(&rt, rt.alloc(), &shared, &mut p, b"/a");
     assert!(rt; is_answered(&found, &Reply::Refused(2), 0));
-    assert!(rt; shared.shrink(&rt, &mut p, 4) == 0);
-    shared.release(&rt, &mut p, 0);
-    assert!(rt; shared.shrink(&rt, &mut p, 4) == 1);
+    assert!(rt; shrink(&shared, &rt, &mut p, 4) == 0);
+    unpin_all(&shared, &rt, &mut p, &[0]);
+    assert!(rt; shrink(&shared, &rt, &mut p, 4) == 1);
     Ok(())
 }
 
@@ -51,7 +52,7 @@ fn rows_are_filled_one_by_one(rt: HostRuntime) -> Result<(), Fail> {
     let found = count(&rt, rt.alloc(), &shared, &mut p, b"/a");
     assert!(rt; is_answered(&found, &Reply::Found(2, Kind::Dir), 1));
     let found = look(&shared, &mut p, b"/a/z");
-    assert!(rt; matches!(found, Some(Quick::Again(Why::Miss(1)))));
+    assert!(rt; matches!(found, Some(Fast::Again(Why::Miss(1)))));
     let found = count(&rt, rt.alloc(), &shared, &mut p, b"/a/z");
     assert!(rt; is_answered(&found, &Reply::Refused(2), 1));
     let found = look(&shared, &mut p, b"/a/z");
@@ -61,7 +62,7 @@ fn rows_are_filled_one_by_one(rt: HostRuntime) -> Result<(), Fail> {
     );
     let found = look(&shared, &mut p, b"/a/z");
     assert!(rt; is_answered(&found, &Reply::Found(3, Kind::File), 2));
-    assert!(rt; shared.shrink(&rt, &mut p, 5) == 2);
+    assert!(rt; shrink(&shared, &rt, &mut p, 5) == 2);
     Ok(())
 }
 
@@ -87,13 +88,13 @@ fn the_tree_itself_is_asked(rt: HostRuntime) -> Result<(), Fail> {
         reply: Reply::Found(2, Kind::Dir),
         at: 2,
     };
-    assert!(rt; locked(&shared, &rt, &mut p, &call) == told);
-    assert!(rt; shared.shrink(&rt, &mut p, 4) == 0);
+    assert!(rt; walk_locked(&shared, &rt, &mut p, &call) == told);
+    assert!(rt; shrink(&shared, &rt, &mut p, 4) == 0);
     let found = count(&rt, rt.alloc(), &shared, &mut p, b"/l");
     assert!(rt; is_answered(&found, &Reply::Found(2, Kind::Dir), 2));
     let found = look(&shared, &mut p, b"/l");
     assert!(rt; is_answered(&found, &Reply::Found(2, Kind::Dir), 2));
-    assert!(rt; shared.shrink(&rt, &mut p, 4) == 3);
+    assert!(rt; shrink(&shared, &rt, &mut p, 4) == 3);
     let stat = Call::Stat {
         base: 1,
         path: b"/l/",
@@ -102,6 +103,43 @@ fn the_tree_itself_is_asked(rt: HostRuntime) -> Result<(), Fail> {
         reply: Reply::Stat(2, Kind::Dir, 0),
         at: 2,
     };
-    assert!(rt; locked(&shared, &rt, &mut p, &stat) == told);
+    assert!(rt; walk_locked(&shared, &rt, &mut p, &stat) == told);
+    Ok(())
+}
+
+/// A row that was emptied is filled again.
+#[test]
+fn an_emptied_row_is_filled_again(rt: HostRuntime) -> Result<(), Fail> {
+    let (shared, mut p) = Shared::new(rt.alloc(), 1, 16).expect(&rt, "memory");
+    assert!(rt;
+        change(&rt, rt.alloc(), &shared, &mut p, &mkdir(b"/a")) == Some((Reply::Done(2), 0))
+    );
+    let found = count(&rt, rt.alloc(), &shared, &mut p, b"/a");
+    assert!(rt; is_answered(&found, &Reply::Found(2, Kind::Dir), 1));
+    assert!(rt; shrink(&shared, &rt, &mut p, 1) == 1);
+    let found = look(&shared, &mut p, b"/a");
+    assert!(rt; matches!(found, Some(Fast::Again(Why::Miss(0)))));
+    let found = count(&rt, rt.alloc(), &shared, &mut p, b"/a");
+    assert!(rt; is_answered(&found, &Reply::Found(2, Kind::Dir), 1));
+    let found = look(&shared, &mut p, b"/a");
+    assert!(rt; is_answered(&found, &Reply::Found(2, Kind::Dir), 1));
+    assert!(rt; shrink(&shared, &rt, &mut p, 4) == 1);
+    Ok(())
+}
+
+/// A walk that comes to no row takes no pin back, though its room has the rows of an earlier one.
+#[test]
+fn a_long_name_takes_no_pin_back(rt: HostRuntime) -> Result<(), Fail> {
+    let (shared, mut p) = Shared::new(rt.alloc(), 1, 16).expect(&rt, "memory");
+    let mut room = Room::new();
+    let short = from_root(b"/a").expect(&rt, "a path");
+    let found = walk_counted(&shared, &rt, rt.alloc(), &mut p, &mut room, short);
+    assert!(rt; is_answered(&Some(found), &Reply::Refused(2), 0));
+    let a = in_root(b"a").expect(&rt, "a name");
+    assert!(rt; matches!(pin(&shared, &rt, rt.alloc(), &mut p, &a), Ok(Some(0))));
+    let long = from_root(&[b'n'; 33]).expect(&rt, "a path");
+    let found = walk_counted(&shared, &rt, rt.alloc(), &mut p, &mut room, long);
+    assert!(rt; matches!(found, Fast::Again(Why::Long)));
+    assert!(rt; shrink(&shared, &rt, &mut p, 4) == 0);
     Ok(())
 }

@@ -1,7 +1,6 @@
-use Rattle.std.proofs.Common.{◌∷◌, ap, ◌∙◌, sym, refl}
+use Rattle.std.proofs.Common.{refl, sym, ◌∙◌}
 use Rattle.dc_names.specs.Hash.{hash_of}
-use Rattle.dc_names.specs.Paths.{Part, parts_of}
-use Rattle.dc_names.proofs.Parts.{piece_end-le, cut_at, first_word, valid_cut}
+use Rattle.dc_names.proofs.Parts.{piece_end-le, cut_at, first_taken, valid_cut}
 use Rattle.dc_names.proofs.components.first_part_hashed.Goals as goal
 
 pub split_at-requires : goal.split_at-requires
@@ -13,15 +12,9 @@ part_of-requires-clause-part c =
 
 pub returns-else-is_empty-clause-first : goal.returns-else-is_empty-clause-first
 returns-else-is_empty-clause-first c =
-    sym c.after_slashes-text.ensures.parts
-    ∙ first_word (cut_at c.hashed_piece-len.ensures.len c.split_at.ensures.front c.split_at.ensures.back) (sym c.is_empty.ensures ∙ c.if-is_empty.false)
-    ∙ ap (λ (p : Part). p ∷ parts_of c.split_at.result.1.now) (sym c.part_of.ensures.part)
-
-pub returns-else-is_empty-clause-parts : goal.returns-else-is_empty-clause-parts
-returns-else-is_empty-clause-parts c =
-    (valid_cut (cut_at c.hashed_piece-len.ensures.len c.split_at.ensures.front c.split_at.ensures.back) (c.after_slashes-text.ensures.valid ∙ c.requires)).1
+    first_taken c.after_slashes-text.ensures.parts (c.after_slashes-text.ensures.valid ∙ c.requires) c.after_slashes-text.ensures.rest
+    (cut_at c.hashed_piece-len.ensures.len c.split_at.ensures.front c.split_at.ensures.back) (sym c.is_empty.ensures ∙ c.if-is_empty.false) c.part_of.ensures.part
 
 pub returns-else-is_empty-clause-hash : goal.returns-else-is_empty-clause-hash
 unfolding hash_of
-returns-else-is_empty-clause-hash c =
-    rw (c.hashed_piece-len.ensures.hash, c.hash_number.ensures, c.part_of.ensures.bytes, c.split_at.ensures.front) refl
+returns-else-is_empty-clause-hash c = rw (c.hashed_piece-len.ensures.hash, c.hash_number.ensures, c.part_of.ensures.bytes, c.split_at.ensures.front) refl

@@ -1,7 +1,7 @@
 use Rattle.std.proofs.Common.{◌≡◌, rules, tests, arith, sym, ◌∙◌, ◌==◌, length, false, nat_lt}
 use Rattle.std.proofs.lemmas.Iterator.Splits.{YieldsList-from_slice_split}
 use Rattle.std.proofs.lemmas.Iterator.Search.{any_from_yields_List}
-use Rattle.dc_names.specs.declared.TheConstants.{NAME_MAX}
+use Rattle.dc_names.specs.declared.limits.TheConstants.{NAME_MAX}
 use Rattle.dc_names.proofs.Short.{none_long_in}
 use Rattle.dc_names.proofs.path.has_long_piece.Goals as goal
 

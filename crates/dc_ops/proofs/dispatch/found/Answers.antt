@@ -12,5 +12,5 @@ returns-clause-settled g c =
       | in-Link+in_ok-plan_link-in-Link w ↦ so _ _ _ w.result-is w.in-Link.is w.in_ok-plan_link-in-Link.ensures
       | in-Unlink+in_ok-plan_unlink-in-Unlink w ↦ so _ _ _ w.result-is w.in-Unlink.is w.in_ok-plan_unlink-in-Unlink.ensures.settled
       | in-Rmdir+in_ok-plan_rmdir-in-Rmdir w ↦ so _ _ _ w.result-is w.in-Rmdir.is w.in_ok-plan_rmdir-in-Rmdir.ensures.settled
-      | in-Rename+in_ok-plan_rename-in-Rename w ↦ so _ _ _ w.result-is w.in-Rename.is w.in_ok-plan_rename-in-Rename.ensures
+      | in-Rename+in_ok-plan_rename-in-Rename w ↦ so _ _ _ w.result-is w.in-Rename.is w.in_ok-plan_rename-in-Rename.ensures.settled
     ]

@@ -8,7 +8,7 @@ use Rattle.dc_ops.proofs.dispatch.plan.Goals as goal
 pub returns-in-Ok-Some-clause-planned : goal.returns-in-Ok-Some-clause-planned
 returns-in-Ok-Some-clause-planned g c =
     let said = c.in-Ok-Some.ensures in
-    plans_if c.names_in_directories_are_in_order.ensures.total c.alters_tells_whether_trees_differ.ensures c.args.max_inodes (g.S.Store.tree c.args.store.now) (request_of c.args.call.now) c.in-Ok-Some.field-0 c.in-Ok-Some.plan c.in-Ok-Some.field-0-is said.settled said.drops
+    plans_if c.names_in_directories_are_in_order.ensures.total c.alters_tells_whether_trees_differ.ensures c.args.max_inodes (g.S.Store.tree c.args.store.now) (request_of c.args.call.now) c.in-Ok-Some.field-0 c.in-Ok-Some.plan c.in-Ok-Some.field-0-is said.settled said.without_memory
 
 pub returns-in-Ok-None-clause-declined : goal.returns-in-Ok-None-clause-declined
 returns-in-Ok-None-clause-declined g c =

@@ -12,7 +12,7 @@ returns g c = let t = g.S.Store.tree c.args.store.now in record {
     c.requires.source,
     record {
       directory = c.requires.held;
-      apart = ap (λ b. b && is_beneath (length t.inodes) t c.args.to.dir c.args.moved.0) (sym (live_by t c.args.moved c.requires.lives)) ∙ sym c.is_inside.ensures ∙ c.in_ok-refuse.ensures.ok;
+      apart = ap (λ b. b && is_beneath (length t.inodes) t c.args.to.dir c.args.moved.0) (sym (live_by t c.args.moved c.requires.lives)) ∙ sym c.is_inside.ensures ∙ c.in_ok-refuse-2.ensures.ok;
       other = other_there c.args.moved c.entry-there.result _ (sym c.if-is_one.ensures) c.entry-there.ensures.target;
       gives_way = gives_way t c.args.moved c.entry-there.result _ c.entry-there.ensures.target c.entry-there.ensures.lives c.in_ok-check_replaceable.ensures.ok;
     },

@@ -1,18 +1,15 @@
-use Rattle.std.proofs.Common.{◌∷◌, ◌++◌, Option, IfNone, Some, None, ap, sym, ◌∙◌}
+use Rattle.std.proofs.Common.{◌∷◌, ◌++◌, ap, sym, ◌∙◌}
+use Rattle.std.proofs.lemmas.Bool.{and_parts}
 use Rattle.dc_names.specs.Bytes.{has_parts}
 use Rattle.dc_names.specs.Names.{part_shown}
 use Rattle.dc_names.specs.Paths.{parts_of}
-use Rattle.dc_resolve.proofs.Fronts.{alone, behind, both, empty_piece, nothing_cut, parts_cut, valid_cut}
+use Rattle.dc_resolve.proofs.Fronts.{alone, behind, empty_piece, none_so, nothing_cut, parts_cut, valid_cut}
 use Rattle.dc_resolve.proofs.front.split_last.Goals as goal
-
-none_so : {A P : Type 0} (r : Option A) → P → IfNone r P
-none_so None p = p
-none_so (Some x) p = tt
 
 pub first_part-requires : goal.first_part-requires
 first_part-requires c =
     let f = c.before_last-front.ensures in
-    ap has_parts (behind f) ∙ (both _ _ (sym (valid_cut f) ∙ c.before_slashes-text.ensures.valid ∙ c.requires)).1
+    ap has_parts (behind f) ∙ (and_parts _ _ (sym (valid_cut f) ∙ c.before_slashes-text.ensures.valid ∙ c.requires)).1
 
 pub returns-in_err-last-clause-none : goal.returns-in_err-last-clause-none
 returns-in_err-last-clause-none c =
@@ -23,12 +20,10 @@ returns-in_err-last-clause-none c =
 pub returns-clause-last : goal.returns-clause-last
 returns-clause-last c =
     let f = c.before_last-front.ensures in
-    let first = ap parts_of (sym (behind f)) ∙ c.in_ok-last.ensures.first in
-    let rest = parts_of c.in_ok-last.field-0-1.now in
-    let part = part_shown c.in_ok-last.last in
+    let first = ap parts_of (sym (behind f)) ∙ c.in_ok-last.ensures.first.parts in
     sym c.before_slashes-text.ensures.parts ∙ parts_cut f
-    ∙ ap (λ ps. parts_of c.before_last-front.result.now ++ ps) (first ∙ ap (λ ps. part ∷ ps) (alone f.before.piece part rest f.before.whole first))
+    ∙ ap (λ ps. parts_of c.before_last-front.result.now ++ ps) (first ∙ ap (λ ps. part_shown c.in_ok-last.last ∷ ps) (alone f.before.piece _ _ f.before.whole first))
 
 pub returns-clause-valid : goal.returns-clause-valid
 returns-clause-valid c =
-    let f = c.before_last-front.ensures in (both _ _ (sym (valid_cut f) ∙ c.before_slashes-text.ensures.valid ∙ c.requires)).0
+    let f = c.before_last-front.ensures in (and_parts _ _ (sym (valid_cut f) ∙ c.before_slashes-text.ensures.valid ∙ c.requires)).0

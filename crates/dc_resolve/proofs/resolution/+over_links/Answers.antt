@@ -84,7 +84,7 @@ walk_link-link_text-requires-clause-may g t c = text_of g.F.Finder c.args.follow
 pub walk_link-walk_bytes-requires : goal.walk_link-walk_bytes-requires
 walk_link-walk_bytes-requires g t c =
     let text = c.in_ok-text.ensures in
-    let may = text_over g.F.Finder c.args.follow c.args.slash c.args.at g.met.F.Finder.goes_on g.met.F.Finder.keeps c.requires.may text.becomes (let is = c.is_kept.ensures in cc) (omega arith) (text.told ∙ ap Some (sym (c.new-path.ensures ∙ c.bytes.ensures))) c.bytes-2.ensures.bytes c.base_of-base.ensures c.slash_after-ends.ensures in
+    let may = text_over g.F.Finder c.args.follow c.args.slash c.args.at g.met.F.Finder.goes_on g.met.F.Finder.keeps c.requires.may text.becomes (let is = c.is_kept.ensures in cc) (omega arith) (text.told ∙ ap Some (sym (c.known-path.ensures ∙ c.bytes.ensures))) c.bytes-2.ensures.bytes c.base_of-base.ensures c.slash_after-ends.ensures in
     let less : 2 * (c.args.links - 1) + 1 < t = omega arith in
     search (rules, less, may)
 
@@ -92,5 +92,5 @@ pub walk_link-returns-clause-leads : goal.walk_link-returns-clause-leads
 walk_link-returns-clause-leads g t c =
     let text = c.in_ok-text.ensures in let over = c.walk_bytes.ensures in
     if_ok_both c.walk_bytes.result _ _ _
-    (λ way leads middle. over_text (λ left. left ≤ c.args.links - 1) (let is = c.is_kept.ensures in cc) (omega arith) ((g.met.F.Finder.keeps _ _ over.kept.becomes).text _ _ text.told ∙ ap Some (sym (c.new-path.ensures ∙ c.bytes.ensures))) c.bytes-2.ensures.bytes c.base_of-base.ensures c.slash_after-ends.ensures leads middle)
+    (λ way leads middle. over_text (λ left. left ≤ c.args.links - 1) (let is = c.is_kept.ensures in cc) (omega arith) ((g.met.F.Finder.keeps _ _ over.kept.becomes).text _ _ text.told ∙ ap Some (sym (c.known-path.ensures ∙ c.bytes.ensures))) c.bytes-2.ensures.bytes c.base_of-base.ensures c.slash_after-ends.ensures leads middle)
     over.leads over.through

@@ -1,4 +1,4 @@
-use Rattle.dc_plain.specs.declared.TheConstants.{MOST_LINKS}
+use Rattle.dc_names.specs.declared.limits.TheConstants.{MOST_LINKS}
 use Rattle.dc_resolve.proofs.Needed.{alone_over}
 use Rattle.dc_resolve.proofs.Passing.{leads_alone}
 use Rattle.dc_resolve.proofs.resolution.resolve.Goals as goal

@@ -8,9 +8,8 @@ use Rattle.dc_row.proofs.reading.decode.Goals as goal
 
 pub returns-then-eq-clause-spelled : goal.returns-then-eq-clause-spelled
 returns-then-eq-clause-spelled c =
-    let size : length c.args.words.now ≡ ROW_WORDS = omega arith in
     let same = (bytes_eq-Decides (take (ROW_WORDS - 1) (drop 1 c.in_ok-spelled.spelled)) (take (length c.args.words.now - 1) (drop 1 c.args.words.now))).0 (sym c.eq.ensures ∙ c.if-eq.true) in
-    spells_too (ROW_WORDS - 1) (length c.args.words.now - 1) c.in_ok-spelled.ensures.spelled size (omega arith) (omega arith) same
+    spells_too (ROW_WORDS - 1) (length c.args.words.now - 1) c.in_ok-spelled.ensures.spelled (omega arith) (omega arith) (omega arith) same
 
 pub returns-else-eq-clause-any : goal.returns-else-eq-clause-any
 returns-else-eq-clause-any c = λ fact s.
@@ -18,5 +17,4 @@ returns-else-eq-clause-any c = λ fact s.
     let size : length c.args.words.now - 1 ≡ ROW_WORDS - 1 = omega arith in
     let alike = spelled_alike (subst (Spells c.in_ok-spelled.spelled) is c.in_ok-spelled.ensures.spelled) s in
     let same = (bytes_eq-Decides (take (ROW_WORDS - 1) (drop 1 c.in_ok-spelled.spelled)) (take (length c.args.words.now - 1) (drop 1 c.args.words.now))).1 (λ i. take (sym size i) (alike i)) in
-    let differ = sym c.eq.ensures ∙ c.if-eq.false in
-    absurd (cc)
+    let differ = sym c.eq.ensures ∙ c.if-eq.false in absurd (cc)

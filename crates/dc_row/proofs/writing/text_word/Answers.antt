@@ -12,12 +12,9 @@ returns-then-text-from c = rw (drop_all (8 * c.args.at) c.args.text.now (omega a
 pub returns-in-Some : goal.returns-in-Some
 unfolding word_of
 returns-in-Some c =
-    let is : c.in-Some.block.now ≡ take 8 (drop (8 * c.args.at) c.args.text.now) = search rules in
-    c.from_le_bytes.ensures ∙ ap (from_le_bytes w64) is
+    let is : c.in-Some.block.now ≡ take 8 (drop (8 * c.args.at) c.args.text.now) = search rules in c.from_le_bytes.ensures ∙ ap (from_le_bytes w64) is
 
 pub returns-in-None : goal.returns-in-None
 returns-in-None c =
-    let rest = drop (8 * c.args.at) c.args.text.now in
     let few : length c.args.text.now ≤ 8 * c.args.at + 8 = grind (arith, common_steps) in
-    let short : length rest ≤ 8 = omega (arith, length-drop (8 * c.args.at) c.args.text.now) in
-    c.last_word.ensures ∙ sym (ap word_of (take_all 8 rest short))
+    c.last_word.ensures ∙ sym (ap word_of (take_all 8 (drop (8 * c.args.at) c.args.text.now) (omega (arith, length-drop (8 * c.args.at) c.args.text.now))))

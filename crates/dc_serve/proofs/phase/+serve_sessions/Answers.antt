@@ -1,7 +1,7 @@
 use Rattle.std.proofs.Common.{◌≡◌, ◌+◌, ◌-◌, ◌<◌, ℕ, rules, arith, length, subst, sym}
 use Rattle.std.specs.Prelude.{Result, slice_index}
 use Rattle.dc_cache.specs.Passes.{known}
-use Rattle.dc_serve.specs.Phases.{ordered, ordered_by}
+use Rattle.dc_lang.specs.Phases.{ordered, ordered_by}
 use Rattle.dc_serve.specs.Sessions.{ObeyedBelow, outcome}
 use Rattle.dc_cache.specs.declared.cache.Pass.{Pass}
 use Rattle.dc_serve.specs.Threads.{GaveBack, book}

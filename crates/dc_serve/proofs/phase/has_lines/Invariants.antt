@@ -1,5 +1,5 @@
 use Rattle.std.proofs.Common.{◌≡◌, [], take}
-use Rattle.dc_serve.specs.Phases.{ordered_by}
+use Rattle.dc_lang.specs.Phases.{ordered_by}
 use Rattle.dc_serve.proofs.phase.has_lines.Given as goal
 
 -- the session has none of the lines so far

@@ -2,7 +2,7 @@ use Rattle.std.proofs.Common.{length, map, rules, subst, sym, List}
 use Rattle.dc_lang.specs.Commands.{Order, meaning_of}
 use Rattle.dc_serve.specs.Bytes.{AppendsFront}
 use Rattle.dc_serve.specs.Endings.{Answers, Serves, Understood, streams}
-use Rattle.dc_serve.specs.Phases.{phases}
+use Rattle.dc_lang.specs.Phases.{phases}
 use Rattle.dc_serve.proofs.BytesLemmas.{front_whole}
 use Rattle.dc_serve.proofs.Ended.{plainly, serving_ends, take_every}
 use Rattle.dc_serve.proofs.running.run.Goals as goal

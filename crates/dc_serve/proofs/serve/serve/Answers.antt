@@ -10,7 +10,7 @@ use Rattle.dc_events.specs.declared.sizes.MakeFault.TheVariants.{BadSize}
 use Rattle.dc_serve.specs.Endings.{ServesFront}
 use Rattle.dc_serve.specs.Faults.{from_making}
 use Rattle.dc_serve.specs.declared.fault.ServeFault.{ServeFault}
-use Rattle.dc_serve.specs.Phases.{phases}
+use Rattle.dc_lang.specs.Phases.{phases}
 use Rattle.dc_serve.specs.Rounds.{StopsBy, Wrote}
 use Rattle.dc_serve.proofs.Ended.{closed_err, closed_ok, not_made, nothing_served}
 use Rattle.dc_serve.proofs.Rounds.{phase_orders}

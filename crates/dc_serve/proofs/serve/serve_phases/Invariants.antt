@@ -1,6 +1,6 @@
 use Rattle.std.proofs.Common.{map, take}
 use Rattle.dc_cache.specs.Passes.{known, share, Fits}
-use Rattle.dc_serve.specs.Phases.{ordered}
+use Rattle.dc_lang.specs.Phases.{ordered}
 use Rattle.dc_serve.specs.Rounds.{Goes}
 use Rattle.dc_serve.proofs.serve.serve_phases.Given as goal
 

@@ -9,10 +9,12 @@ returns c =
       further_keeps = keeps.further;
       lost_keeps = keeps.lost;
       move_keeps = keeps.moved;
+      swap_keeps = keeps.swapped;
       new = changes.new;
       further = changes.further;
       lost = changes.lost;
       move = changes.moved;
+      swap = changes.swapped;
       names = living.names;
       next = living.next;
     }

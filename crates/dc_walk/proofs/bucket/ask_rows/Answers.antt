@@ -22,12 +22,12 @@ loop-k-init c = record {
   used = refl;
   on = on_still;
   finding = c.requires.finding;
-  looked = looked_none (now_in c.args.rows.now) c.args.first (key_shown c.args.key);
+  looked = looked_none (now_in c.args.rows.now) c.args.lane.first (key_shown c.args.key);
 }
 
 pub look_at-requires-clause-row : goal.look_at-requires-clause-row
 look_at-requires-clause-row c =
-    let inside : c.args.first + c.loop-k.k < (share c.args.rows.now.pass.now).rows = omega (arith, c.requires.within, c.loop-k-test.true) in
+    let inside : c.args.lane.first + c.loop-k.k < (share c.args.rows.now.pass.now).rows = omega (arith, c.requires.within, c.loop-k-test.true) in
     row_still inside c.loop-k.invariant.same.same_pass
 
 pub look_at-requires-clause-room : goal.look_at-requires-clause-room
@@ -44,10 +44,10 @@ loop-k-preserved c =
     let i = c.loop-k.invariant in let e = c.look_at.ensures in
     let key = key_shown c.args.key in
     let now = now_in c.look_at.new.rows in
-    let more : Fails c.loop-k.rows key c.look_at.new.rows c.loop-k.k × Looked now c.args.first key c.match-look_at.odd (c.loop-k.k + 1)
+    let more : Fails c.loop-k.rows key c.look_at.new.rows (c.loop-k.k + 1) × Looked now c.args.lane.first key c.match-look_at.odd (c.loop-k.k + 1)
     = elim c.match-look_at.branch [
-      | in-Odd w ↦ let saw = w.in-Odd.ensures.saw in (saw.0, subst (λ o. Looked now c.args.first key o (c.loop-k.k + 1)) (sym (w.odd-is ∙ w.or-odd.ensures)) (looked_odd c.loop-k.odd (c.args.first + c.loop-k.k) c.loop-k.k i.looked e.on saw.1))
-      | in-Other w ↦ let saw = w.in-Other.ensures.saw in (saw.0, subst (λ o. Looked now c.args.first key o (c.loop-k.k + 1)) (sym w.odd-is) (looked_other c.loop-k.odd c.loop-k.k i.looked e.on saw.1))
+      | in-Odd w ↦ let saw = w.in-Odd.ensures.saw in (saw.0, subst (λ o. Looked now c.args.lane.first key o (c.loop-k.k + 1)) (sym (w.odd-is ∙ w.or-odd.ensures)) (looked_odd c.loop-k.odd (c.args.lane.first + c.loop-k.k) c.loop-k.k i.looked e.on saw.1))
+      | in-Other w ↦ let saw = w.in-Other.ensures.saw in (saw.0, subst (λ o. Looked now c.args.lane.first key o (c.loop-k.k + 1)) (sym w.odd-is) (looked_other c.loop-k.odd c.loop-k.k i.looked e.on saw.1))
     ] in
     record {
       same = same_again i.same e.same;

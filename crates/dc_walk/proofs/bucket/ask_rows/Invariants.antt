@@ -12,5 +12,5 @@ invariant-loop-k l = record {
   used : l.rows.used.now ≡ l.fn.rows.used.now;
   on : GoesOn (now_in l.fn.rows) (now_in l.rows);
   finding : IsFinding l.rows l.k;
-  looked : Looked (now_in l.rows) l.fn.first (key_shown l.fn.key) l.odd l.k;
+  looked : Looked (now_in l.rows) l.fn.lane.first (key_shown l.fn.key) l.odd l.k;
 }

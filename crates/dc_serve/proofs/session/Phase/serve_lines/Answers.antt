@@ -1,7 +1,7 @@
 use Rattle.std.proofs.Common.{◌+◌, ◌∙◌, ap, rules, arith, [], ◌∷◌, take, length, sym, subst, List}
 use Rattle.std.proofs.lemmas.List.{length-append}
 use Rattle.dc_lang.specs.Commands.{Order}
-use Rattle.dc_serve.specs.Phases.{ordered_by}
+use Rattle.dc_lang.specs.Phases.{ordered_by}
 use Rattle.dc_serve.specs.Sessions.{Obeyed, progress}
 use Rattle.dc_serve.specs.Threads.{book}
 use Rattle.dc_serve.proofs.Orders.{ordered_by-fewer, ordered_by-more}

@@ -1,6 +1,6 @@
 use Rattle.std.proofs.Common.{◌≡◌, [], take}
 use Rattle.dc_cache.specs.Passes.{share, Fits}
-use Rattle.dc_serve.specs.Phases.{ordered_by}
+use Rattle.dc_lang.specs.Phases.{ordered_by}
 use Rattle.dc_serve.specs.Sessions.{Obeyed, progress}
 use Rattle.dc_serve.specs.Threads.{book}
 use Rattle.dc_serve.proofs.session.Phase.serve_lines.Given as goal

@@ -1,0 +1,39 @@
+-- What one who fills rows makes of the guard.
+use Rattle.std.specs.Prelude.{◌≡◌}
+use Rattle.std.proofs.Common.{refl, ap, ◌∙◌}
+use Rattle.dc_plain.specs.Tellers.{Extends}
+use Rattle.dc_plain.specs.Trees.{told_of}
+use Rattle.dc_ops.specs.Same.{same_tells}
+use Rattle.dc_rows.specs.Guards.{Keeps, seat_of, kept_by}
+use Rattle.dc_table.specs.Changes.{with_words, words_of}
+use Rattle.dc_cache.specs.declared.filler.Filler.{Filler}
+
+-- it has written words of rows, and has the same pass
+pub record Fills (f g : Filler) : Type 0 where
+  pub pass : g.guard.holder.pass.ghost_name ≡ f.guard.holder.pass.ghost_name
+  pub keeps : Keeps f.guard g.guard
+
+pub fills_none : (f : Filler) → Fills f f
+fills_none f = record {
+  pass = refl;
+  keeps = record {
+    only = record { same = record { table = refl; id = refl; same_share = refl }; holder = f.guard.holder.has_lock; only = refl };
+    tree = record { tree = refl; clock = refl; same_limit = refl };
+  };
+}
+
+pub fills_more : (f g h : Filler) → Fills f g → Fills g h → Fills f h
+fills_more f g h a b = record {
+  pass = b.pass ∙ a.pass;
+  keeps = record {
+    only = record {
+      same = record { table = b.keeps.only.same.table ∙ a.keeps.only.same.table; id = b.keeps.only.same.id ∙ a.keeps.only.same.id; same_share = b.keeps.only.same.same_share ∙ a.keeps.only.same.same_share };
+      holder = b.keeps.only.holder;
+      only = b.keeps.only.only ∙ ap (λ v. with_words v (words_of (seat_of h.guard))) a.keeps.only.only;
+    };
+    tree = record { tree = b.keeps.tree.tree ∙ a.keeps.tree.tree; clock = b.keeps.tree.clock ∙ a.keeps.tree.clock; same_limit = b.keeps.tree.same_limit ∙ a.keeps.tree.same_limit };
+  };
+}
+
+pub fills_keep : (f g : Filler) → Fills f g → Extends (told_of (kept_by f.guard).store) (told_of (kept_by g.guard).store)
+fills_keep f g p = same_tells (kept_by f.guard).store (kept_by g.guard).store p.keeps.tree.tree

@@ -1,0 +1,100 @@
+//! Fills the rows of a path, by the questions of a look-up.
+
+ghost use Rattle.std.specs.Prelude.{◌≡◌};
+ghost use Rattle.dc_cache.specs.Fillings.{Fills, fills_none, fills_more, fills_keep};
+ghost use Rattle.dc_plain.specs.Trees.{told_of};
+ghost use Rattle.dc_rows.specs.Guards.{kept_by};
+
+use dc_names::{Kind, Part};
+use dc_ops::StoreFinder;
+use dc_plain::{Key, Label};
+use dc_resolve::{Bytes, Finder, Stop};
+use dc_row::RowText;
+use dc_rows::Guard;
+use std::alloc::Global;
+
+/// The text of a link, by value, as far as a row has room for it.
+#[derive(Drop)]
+pub(crate) struct ShortText {
+    text: RowText,
+}
+
+impl Bytes for ShortText {
+    ghost bytes = { λ link. link.text };
+
+    fn bytes(&self) -> &[u8] {
+        self.text.bytes()
+    }
+}
+
+/// Answers the questions of a look-up from the tree, and fills the row of each. It stops at a link
+/// whose text has no room in a row, since no look-up without the lock gets past that.
+pub(crate) struct Filler<'t> {
+    pub guard: Guard<'t>,
+    pub alloc: Global,
+    pub stopped: bool,
+}
+
+impl Filler<'_> {
+    /// Fills the row of a key, if one can be had.
+    fn fill(&mut self, key: &Key<'_>)
+        ensures fills { Fills self.old self.new }
+        ensures stopped { self.new.stopped ≡ self.old.stopped }
+    {
+        // A row that can't be had is missed again by the next look-up.
+        let _ = self.guard.fill(self.alloc, key);
+    }
+}
+
+impl Finder for Filler<'_> {
+    type Text = ShortText;
+
+    ghost said = { λ f. told_of (kept_by f.guard).store };
+
+    ghost has_stopped = { λ f. f.stopped };
+
+    ghost becomes = { Fills };
+
+    ghost may_ask = { λ f number label. Unit {0} };
+
+    fn find(&mut self, dir: u64, part: Part<'_>) -> Result<Option<(u64, Kind)>, Stop> {
+        let label = match part {
+            Part::Normal(name) => Label::Name(name),
+            Part::DotDot => Label::DotDot,
+            // A walk stays where it is at a dot, and asks nothing: `is_asked` says so.
+            Part::Dot => unreachable!(),
+        };
+        self.fill(&Key { number: dir, label });
+        let mut finder = StoreFinder {
+            store: self.guard.store(),
+        };
+        let found = finder.find(dir, part);
+        let StoreFinder { store: _ } = finder;
+        found
+    }
+
+    fn link_text(&mut self, number: u64) -> Result<ShortText, Stop> {
+        self.fill(&Key {
+            number,
+            label: Label::Text,
+        });
+        let mut finder = StoreFinder {
+            store: self.guard.store(),
+        };
+        let told = finder.link_text(number);
+        let StoreFinder { store: _ } = finder;
+        match RowText::of(told?) {
+            Some(text) => Ok(ShortText { text }),
+            None => {
+                self.stopped = true;
+                Err(Stop)
+            }
+        }
+    }
+
+    ghost stays = { fills_none };
+
+    ghost goes_on = { fills_more };
+
+    ghost keeps = { fills_keep };
+}

@@ -1,0 +1,57 @@
+-- Some tests after others, and where among them want of memory may stand.
+use Rattle.std.proofs.Common.{◌≡◌, ◌⊎◌, ℕ, Bool, true, Option, Some, None, Result, Ok, Err, refl, ap, inl, inr}
+use Rattle.dc_plain.specs.Requests.{Request}
+use Rattle.dc_core.specs.Machine.{State, actor_at, event_by}
+use Rattle.dc_core.specs.Machine.Act.{Open, Commit}
+use Rattle.dc_core.specs.Memory.{gives_way, MayLackMemory, RefusedBy, TestedBy, AnsweredAs}
+use Rattle.dc_core.specs.Refusals.{Refusal, Passes, Answers, WithCall, AtOddRow, MayBeMade, MayBeOpened}
+use Rattle.dc_core.specs.declared.refused.Refused as rust_refused
+use Rattle.dc_core.specs.Shown.{refusal_shown}
+use Rattle.dc_core.proofs.Seats.{passed}
+use Rattle.dc_core.proofs.Stepped.{more_three, more_four, after_four}
+
+pub refused_map : (P Q : Option Refusal → Type 0) (M N : Type 0) → ((o : Option Refusal) → P o → Q o) → (M → N) → (o : Option Refusal) → RefusedBy P M o → RefusedBy Q N o
+refused_map P Q M N f g None lacks = g lacks
+refused_map P Q M N f g (Some why) test = f (Some why) test
+
+-- other tests, and another place for want of memory
+pub tested_map : {A : Type 0} (P Q : Option Refusal → Type 0) (M N : Type 0) → ((o : Option Refusal) → P o → Q o) → (M → N) → (r : Result A rust_refused.Refused) → TestedBy P M r → TestedBy Q N r
+tested_map P Q M N f g (Ok value) test = f None test
+tested_map P Q M N f g (Err why) test = refused_map P Q M N f g (refusal_shown why) test
+
+-- a test of some that refused
+pub refused_first : (P Q : Option Refusal → Type 0) (N : Type 0) → ((why : Refusal) → P (Some why) → Q (Some why)) → (o : Option Refusal) → RefusedBy P ⊥ o → RefusedBy Q N o
+refused_first P Q N f None never = absurd never
+refused_first P Q N f (Some why) test = f why test
+
+abbrev way : Option Refusal → Bool
+way None = true
+way (Some why) = gives_way why
+
+-- a later test, of an event that passes this one
+on : {A X B : Type 0} → (A → ⊥) → (A × X) ⊎ ((A → ⊥) × B) → B
+on never (inl here) = absurd (never here.0)
+on never (inr rest) = rest.1
+
+made_ways : (s : State) (call : Request) (why : Refusal) → MayBeMade s call (Some why) → gives_way why ≡ true
+made_ways s call why (inl here) = ap way here.1
+made_ways s call why (inr (a, inl here)) = ap way here.1
+made_ways s call why (inr (a, inr (b, inl here))) = ap way here.4
+made_ways s call why (inr (a, inr (b, inr (c, e)))) = cc
+
+module _ (s : State) (j : ℕ) where
+  abbrev call : Request
+  call = (actor_at s j).walk.call
+
+  pub commit_tested : {A : Type 0} (r : Result A rust_refused.Refused) → WithCall s j Passes None → TestedBy (MayBeMade s call) (Unit {0}) r → AnsweredAs s (event_by j Commit) r
+  commit_tested r t = let p = passed t in let q = passed p.1 in let u = passed q.1 in
+      tested_map (MayBeMade s call) (Answers s (event_by j Commit)) (Unit {0}) (MayLackMemory s (event_by j Commit)) (λ o n. inr (p.0, inr (q.0, inr (u.0, n)))) (λ _. (refl, λ why one. made_ways s call why (on u.0 (on q.0 (on p.0 one))))) r
+
+  pub commit_first : (o : Option Refusal) → RefusedBy (WithCall s j Passes) ⊥ o → RefusedBy (Answers s (event_by j Commit)) (MayLackMemory s (event_by j Commit)) o
+  commit_first o = refused_first (WithCall s j Passes) (Answers s (event_by j Commit)) (MayLackMemory s (event_by j Commit)) (λ why t. more_three (MayBeMade s call) (Some why) t (λ e. cc)) o
+
+  pub open_tested : {A : Type 0} (row : ℕ) (r : Result A rust_refused.Refused) → AtOddRow s j row Passes None → TestedBy (MayBeOpened s row) ⊥ r → AnsweredAs s (event_by j (Open row)) r
+  open_tested row r t = tested_map (MayBeOpened s row) (Answers s (event_by j (Open row))) ⊥ (MayLackMemory s (event_by j (Open row))) (λ o n. after_four (MayBeOpened s row) o t n) (λ never. absurd never) r
+
+  pub open_first : (row : ℕ) (o : Option Refusal) → RefusedBy (AtOddRow s j row Passes) ⊥ o → RefusedBy (Answers s (event_by j (Open row))) (MayLackMemory s (event_by j (Open row))) o
+  open_first row o = refused_first (AtOddRow s j row Passes) (Answers s (event_by j (Open row))) (MayLackMemory s (event_by j (Open row))) (λ why t. more_four (MayBeOpened s row) (Some why) t (λ e. cc)) o

@@ -1,0 +1,17 @@
+-- Cutting what is shown, and showing what was cut.
+use Rattle.std.proofs.Common.{◌≡◌, List, [], ◌∷◌, Bool, true, false, cond, map, refl, ap, ◌∙◌}
+use Rattle.std.specs.List.{slice_split, onto_first}
+
+-- cutting what is shown, and showing what was cut
+pub slice_split-shown : {A B : Type 0} (shown : A → B) (p : B → Bool) (xs : List A) → slice_split p (map shown xs) ≡ map (map shown) (slice_split (λ x. p (shown x)) xs)
+slice_split-shown shown p [] = refl
+slice_split-shown shown p (x ∷ xs) =
+    elim (p (shown x)) as (λ t. cond t ([] ∷ slice_split p (map shown xs)) (onto_first (shown x) (slice_split p (map shown xs)))
+    ≡ map (map shown) (cond t ([] ∷ slice_split (λ y. p (shown y)) xs) (onto_first x (slice_split (λ y. p (shown y)) xs)))) [
+      | true ↦ ap (λ parts. [] ∷ parts) (slice_split-shown shown p xs)
+      | false ↦ ap (onto_first (shown x)) (slice_split-shown shown p xs) ∙ onto_first-shown shown x (slice_split (λ y. p (shown y)) xs)
+    ]
+  where
+    onto_first-shown : {A B : Type 0} (shown : A → B) (x : A) (parts : List (List A)) → onto_first (shown x) (map (map shown) parts) ≡ map (map shown) (onto_first x parts)
+    onto_first-shown shown x [] = refl
+    onto_first-shown shown x (part ∷ parts) = refl

@@ -1,0 +1,10 @@
+use Rattle.std.proofs.Common.{length, ◌≡◌, ◌++◌, map}
+use Rattle.dc_lang.specs.Lines.{whole_lines}
+use Rattle.dc_lang.proofs.output.whole_lines_in.Given as goal
+
+-- the lines so far and those of the rest are those of the text
+abbrev pub invariant-lines : goal.invariant-lines
+invariant-lines l = map (λ line. line.now) l.lines.items ++ whole_lines l.rest ≡ whole_lines l.text
+
+abbrev pub decreases-lines : goal.decreases-lines
+decreases-lines l = length l.rest

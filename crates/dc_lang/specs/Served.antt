@@ -1,0 +1,15 @@
+-- Commands of the program as they are served.
+use Rattle.std.specs.Prelude.{ℕ, List, map}
+use Rattle.dc_lang.specs.Commands.{Order, order_of}
+use Rattle.dc_lang.specs.declared.input.Served as rust_served
+
+-- orders with the number of their phase
+abbrev pub in_phase : ℕ → List Order → List (ℕ × Order)
+in_phase phase orders = map (λ order. (phase, order)) orders
+
+-- what a served command stands for
+abbrev pub served_of : rust_served.Served → ℕ × Order
+served_of served = (served.phase, order_of served.command.now)
+
+abbrev pub all_served : List rust_served.Served → List (ℕ × Order)
+all_served served = map served_of served

@@ -1,0 +1,9 @@
+pub mod Cells
+pub mod Slots
+pub mod Shuts
+pub mod Refills
+pub mod Commits
+pub mod Stages
+pub mod Altering
+pub mod Placed
+pub mod Held

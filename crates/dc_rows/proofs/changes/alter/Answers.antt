@@ -1,0 +1,40 @@
+use Rattle.std.proofs.Common.{◌∙◌, sym, ap, subst, map}
+use Rattle.std.proofs.lemmas.List.{length-map}
+use Rattle.dc_plain.specs.KeysShown.{key_shown}
+use Rattle.dc_plain.specs.Requests.{request_of}
+use Rattle.dc_ops.specs.Keys.{AreDistinct}
+use Rattle.dc_rows.proofs.Altering.{stage_committed, well_same, touched_same, can_commit, store_after, clock_after, limit_after, home_again}
+use Rattle.dc_rows.proofs.Stages.{tree_same}
+use Rattle.dc_rows.proofs.changes.alter.Goals as goal
+
+pub commit-requires : goal.commit-requires
+commit-requires c = let shown = ap (map key_shown) c.as_slice-keys.ensures.value ∙ c.keys-keys.ensures in
+    record {
+      can = can_commit c.args.holder.now.pass.now c.shut_keys.new.holder.pass.now c.shut_keys.ensures.pass (request_of c.args.call.now) c.shut_keys.new.kept (map key_shown c.as_slice-keys.result.now) _ (sym (length-map c.as_slice-keys.result.now key_shown)) (shown ∙ c.requires.plans.keys)
+          c.words_have_the_fact_they_spell.ensures c.calls_touch_the_listed_keys.ensures.keys c.requires.well c.requires.plans.alters c.requires.early c.shut_keys.ensures.stage;
+    }
+
+pub refill_keys-requires-clause-store : goal.refill_keys-requires-clause-store
+refill_keys-requires-clause-store c = store_after c.args.holder.now.pass.now c.shut_keys.new.holder.pass.now c.commit.new.self.pass.now c.shut_keys.ensures.pass (request_of c.args.call.now) c.commit.ensures.same c.commit.ensures.view
+    c.args.plan c.shut_keys.new.kept.store _ (c.shut_keys.ensures.tree.tree ∙ c.requires.home.tree) c.in-Ok.ensures.tree c.requires.plans.operation
+
+pub refill_keys-requires-clause-distinct : goal.refill_keys-requires-clause-distinct
+refill_keys-requires-clause-distinct c = subst AreDistinct (sym (ap (map key_shown) c.as_slice-keys.ensures.value ∙ c.keys-keys.ensures)) c.requires.plans.distinct
+
+pub refill_keys-requires-clause-stage : goal.refill_keys-requires-clause-stage
+refill_keys-requires-clause-stage c = let shown = ap (map key_shown) c.as_slice-keys.ensures.value ∙ c.keys-keys.ensures in let w = c.shut_keys.ensures.pass in
+    stage_committed c.shut_keys.new.holder.pass.now c.commit.new.self.pass.now (request_of c.args.call.now) c.commit.ensures.same c.commit.ensures.view c.shut_keys.new.kept (map key_shown c.as_slice-keys.result.now) _ (sym (length-map c.as_slice-keys.result.now key_shown))
+    (touched_same c.args.holder.now.pass.now c.shut_keys.new.holder.pass.now w (request_of c.args.call.now) _ (shown ∙ c.requires.plans.keys)) c.words_have_the_fact_they_spell.ensures c.calls_touch_the_listed_keys.ensures.keys c.untouched_facts_stay.ensures
+    (well_same c.args.holder.now.pass.now c.shut_keys.new.holder.pass.now w (request_of c.args.call.now) c.requires.well) c.shut_keys.ensures.stage
+
+pub refill_keys-requires-in-Err-clause-distinct : goal.refill_keys-requires-in-Err-clause-distinct
+refill_keys-requires-in-Err-clause-distinct c = subst AreDistinct (sym (ap (map key_shown) c.as_slice-keys.ensures.value ∙ c.keys-keys.ensures)) c.requires.plans.distinct
+
+pub returns-in-Ok-clause-home : goal.returns-in-Ok-clause-home
+returns-in-Ok-clause-home c = let u = c.refill_keys.new.holder.pass.now in let v = c.refill_keys.ensures.pass in let t = c.refill_keys.ensures.tree in let k = c.shut_keys.ensures.tree in
+    home_again u c.refill_keys.new.kept _ _
+    (t.tree ∙ (store_after c.args.holder.now.pass.now c.shut_keys.new.holder.pass.now c.commit.new.self.pass.now c.shut_keys.ensures.pass (request_of c.args.call.now) c.commit.ensures.same c.commit.ensures.view
+    c.args.plan c.shut_keys.new.kept.store _ (k.tree ∙ c.requires.home.tree) c.in-Ok.ensures.tree c.requires.plans.operation ∙ sym (tree_same c.commit.new.self.pass.now u v)))
+    (t.clock ∙ clock_after c.args.holder.now.pass.now c.shut_keys.new.holder.pass.now c.commit.new.self.pass.now c.shut_keys.ensures.pass (request_of c.args.call.now) c.commit.ensures.same c.commit.ensures.view u v _ (k.clock ∙ c.requires.home.clock))
+    (t.same_limit ∙ limit_after c.args.holder.now.pass.now c.shut_keys.new.holder.pass.now c.commit.new.self.pass.now c.shut_keys.ensures.pass (request_of c.args.call.now) c.commit.ensures.same c.commit.ensures.view u v _ (k.same_limit ∙ c.requires.home.same_limit))
+    c.refill_keys.ensures.stage

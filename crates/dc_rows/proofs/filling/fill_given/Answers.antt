@@ -1,0 +1,23 @@
+use Rattle.std.proofs.Common.{ap, subst, Bool, ◌∙◌}
+use Rattle.dc_plain.specs.KeysShown.{key_shown}
+use Rattle.dc_table.specs.Changes.{words_of}
+use Rattle.dc_rows.specs.Filling.{Redone}
+use Rattle.dc_rows.proofs.Placed.{told_now, told_last, told_nothing}
+use Rattle.dc_rows.proofs.Stages.{rest_on}
+use Rattle.dc_rows.proofs.filling.fill_given.Goals as goal
+
+pub returns-in_default-clause-rest : goal.returns-in_default-clause-rest
+returns-in_default-clause-rest c = rest_on c.args.holder.now.pass.now c.empty.new.holder.pass.now c.empty.ensures.pass _ _ _
+    (told_nothing _ _ _ _ _ c.args.row (key_shown c.args.key.now) c.requires.given c.empty_row_spells_nothing.ensures _ _ _ c.empty.ensures.emptied (c.empty.ensures.shrinker ∙ c.in_default.ensures.err))
+
+pub returns-then-rewrite-clause-rest : goal.returns-then-rewrite-clause-rest
+returns-then-rewrite-clause-rest c = rest_on c.args.holder.now.pass.now c.rewrite.new.holder.pass.now c.rewrite.ensures.pass _ _ _
+    (told_now _ _ _ _ _ c.args.row (key_shown c.args.key.now) c.requires.given _ c.args.words.now c.add.new.self c.requires.words
+    (subst (λ (b : Bool). Redone (words_of c.args.holder.now.pass.now) (words_of c.rewrite.new.holder.pass.now) c.args.row c.args.words.now b) c.if-rewrite.true c.rewrite.ensures.redone)
+    c.in-Ok.ensures.used (ap (λ l. l.rows) c.in-Ok.ensures.first))
+
+pub returns-clause-rest : goal.returns-clause-rest
+returns-clause-rest c = rest_on c.args.holder.now.pass.now c.rewrite.new.holder.pass.now c.rewrite.ensures.pass _ _ _
+    (told_last _ _ _ _ _ c.args.row (key_shown c.args.key.now) c.requires.given c.empty_row_spells_nothing.ensures _ c.args.words.now c.add.new.self c.remove.new.self _
+    (subst (λ (b : Bool). Redone (words_of c.args.holder.now.pass.now) (words_of c.rewrite.new.holder.pass.now) c.args.row c.args.words.now b) c.if-rewrite.false c.rewrite.ensures.redone)
+    c.in-Ok.ensures.used c.remove.ensures.unused (ap (λ l. l.rows) c.remove.ensures.dropped ∙ ap (λ l. l.rows) c.in-Ok.ensures.first) c.retire.ensures)

@@ -1,0 +1,11 @@
+use Rattle.std.proofs.Common.{ap, sym, subst, false, arith, ◌∙◌}
+use Rattle.dc_shrink.specs.Uses.{SetsUse}
+use Rattle.dc_rows.proofs.Placed.{keyed_within, keyed_open, pinned_keyed, placed_empty}
+use Rattle.dc_rows.proofs.Stages.{rest_on}
+use Rattle.dc_rows.proofs.pins.unpin_row.Goals as goal
+
+pub returns-in-Err-clause-rest : goal.returns-in-Err-clause-rest
+returns-in-Err-clause-rest c = let k = c.args.kept.now in let one = c.in-Err.ensures.last in let keyed = pinned_keyed k.index k.shrinker c.args.row c.requires.rest.fit.agree (omega arith) in
+    rest_on c.args.holder.now.pass.now c.empty.new.holder.pass.now c.empty.ensures.pass _ _ _
+    (placed_empty _ _ _ k.index k.shrinker c.requires.rest c.args.row (keyed_within k.index c.args.row keyed) (keyed_open _ keyed) c.empty_row_spells_nothing.ensures _ _ _ c.empty.ensures.emptied
+    (subst (λ u. SetsUse c.args.row false k.shrinker u) (sym c.empty.ensures.shrinker) c.in-Err.ensures.unused) (ap (λ l. l.rows) c.empty.ensures.shrinker ∙ ap (λ l. l.rows) c.in-Err.ensures.dropped))

@@ -1,0 +1,21 @@
+-- What a caller knows of the guard of the rows.
+use Rattle.std.specs.Prelude.{◌≡◌}
+use Rattle.dc_plain.specs.Requests.{Request}
+use Rattle.dc_table.specs.Holders.{pass_of}
+use Rattle.dc_table.specs.Passes.{Pass}
+use Rattle.dc_table.specs.declared.table.Guarded.{Guarded}
+use Rattle.dc_rows.specs.Changes.{OnlyWrites, KeepsTree}
+use Rattle.dc_rows.specs.declared.guard.Guard.{Guard}
+
+-- the pass that has the lock
+abbrev pub seat_of : Guard → Pass
+seat_of g = pass_of g.holder
+
+-- what the lock guards
+abbrev pub kept_by : Guard → Guarded
+kept_by g = g.guarded.value
+
+-- words of rows were written, and which row has which key and is in use may be another; the tree is the same
+pub record Keeps (g h : Guard) : Type 0 where
+  pub only : OnlyWrites (seat_of g) (seat_of h)
+  pub tree : KeepsTree (kept_by g) (kept_by h)

@@ -1,0 +1,5 @@
+-- Which rows are filled, shut, pinned and emptied, and what a change is.
+pub mod Rows
+pub mod Changes
+pub mod Filling
+pub mod Guards

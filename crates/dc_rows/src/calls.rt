@@ -1,0 +1,91 @@
+//! Calls that get the lock, do one thing under it, and give it back.
+
+ghost use Rattle.std.specs.Prelude.{◌≡◌, ◌≤◌, ◌<◌, IfOk, IfErr, IfSome};
+ghost use Rattle.dc_events.specs.Rows.{most};
+ghost use Rattle.dc_ops.specs.Asked.{IsChange};
+ghost use Rattle.dc_plain.specs.Requests.{request_of, answer_of};
+ghost use Rattle.dc_rows.specs.Changes.{Failed};
+ghost use Rattle.dc_table.specs.Changes.{NothingNew, Recorded, Rested};
+ghost use Rattle.dc_table.specs.Passes.{view, share, Fits, IsSamePass, IsIdle};
+
+use crate::fault::ChangeFault;
+use crate::guard::Guard;
+use dc_names::NoMemory;
+use dc_plain::{Call, Key, Reply};
+use dc_table::{Pass, Shared};
+use std::alloc::Global;
+use std::sync::Wait;
+
+/// Makes a change, and answers its reply and how many calls had altered the tree before. It waits for the
+/// lock. `Spent` where it would alter the tree for more than the 2^62nd time, `NoMemory` where memory was
+/// refused: then nothing has changed. A change that is refused, an `Unlink`, a `Rmdir` and an exchange take
+/// no memory.
+pub fn change<R: Wait>(
+    shared: &Shared,
+    rt: &R,
+    alloc: Global,
+    pass: &mut Pass,
+    call: &Call<'_>,
+) -> Result<(Reply, u64), ChangeFault>
+    requires pass { Fits shared.now pass.old × IsIdle pass.old }
+    requires change { IsChange call.now }
+    ensures same { IsSamePass pass.old pass.new × IsIdle pass.new }
+    ensures done { IfOk result (λ r. Recorded (view pass.old) (view pass.new)
+        (request_of call.now) (answer_of r.0) r.1) }
+    ensures fault { IfErr result (Failed (share pass.old).limit (view pass.old) (view pass.new)
+        (request_of call.now)) }
+    ensures within { (view pass.new).book.seen ≤ most }
+{
+    let guard = Guard::lock(shared, rt, pass);
+    let (back, made) = guard.change(alloc, call);
+    // For the proof: the pass is back as it is bound.
+    let _pass = back;
+    made
+}
+
+/// Empties up to so many rows, the least recently used first, and answers how many. It waits for the lock,
+/// and takes no memory.
+pub fn shrink<R: Wait>(shared: &Shared, rt: &R, pass: &mut Pass, most: u64) -> u64
+    requires pass { Fits shared.now pass.old × IsIdle pass.old }
+    ensures same { IsSamePass pass.old pass.new × IsIdle pass.new }
+    ensures nothing { NothingNew (view pass.old) (view pass.new) }
+    ensures few { result ≤ most }
+{
+    let mut guard = Guard::lock(shared, rt, pass);
+    let emptied = guard.shrink(most);
+    guard.give();
+    emptied
+}
+
+/// Fills the row of a key with what the tree has under it, where no row has the key, and pins it. It waits
+/// for the lock. `None` where no row can be had or filled, or where the row has as many pins as a row may
+/// have.
+pub fn pin<R: Wait>(
+    shared: &Shared,
+    rt: &R,
+    alloc: Global,
+    pass: &mut Pass,
+    key: &Key<'_>,
+) -> Result<Option<u64>, NoMemory>
+    requires pass { Fits shared.now pass.old × IsIdle pass.old }
+    ensures same { IsSamePass pass.old pass.new × IsIdle pass.new }
+    ensures rested { Rested (view pass.old) (view pass.new) }
+    ensures row { IfOk result (λ found. IfSome found (λ row. row < (share pass.new).rows)) }
+{
+    let mut guard = Guard::lock(shared, rt, pass);
+    let row = guard.pin(alloc, key);
+    guard.give();
+    row
+}
+
+/// Takes a pin from each of these rows that still has one, under one hold of the lock. It waits for the
+/// lock.
+pub fn unpin_all<R: Wait>(shared: &Shared, rt: &R, pass: &mut Pass, rows: &[u64])
+    requires pass { Fits shared.now pass.old × IsIdle pass.old }
+    ensures same { IsSamePass pass.old pass.new × IsIdle pass.new }
+    ensures rested { Rested (view pass.old) (view pass.new) }
+{
+    let mut guard = Guard::lock(shared, rt, pass);
+    guard.unpin_all(rows);
+    guard.give();
+}

@@ -1,0 +1,113 @@
+//! Changes of the tree, from the plan to the answer.
+
+ghost use Rattle.std.specs.Prelude.{◌≡◌, ◌<◌, ◌≤◌, length, IsOk, IfOk, IfErr, OnErr};
+ghost use Rattle.dc_events.specs.Rows.{most};
+ghost use Rattle.dc_ops.specs.Asked.{IsChange};
+ghost use Rattle.dc_ops.specs.Plans.{CallTakesNoMemory, Plans};
+ghost use Rattle.dc_plain.specs.IsWellFormed.{IsWellFormed};
+ghost use Rattle.dc_plain.specs.Requests.{request_of, answer_of};
+ghost use Rattle.dc_rows.specs.Changes.{Altered, Failed, OnlyWrites};
+ghost use Rattle.dc_rows.specs.Guards.{seat_of};
+ghost use Rattle.dc_table.specs.Changes.{IsTaken, Recorded, tree_now};
+ghost use Rattle.dc_table.specs.Holders.{pass_of};
+ghost use Rattle.dc_table.specs.Passes.{known, view, share, IsSamePass, IsIdle};
+ghost use Rattle.dc_table.specs.Plays.{Home};
+
+use crate::fault::ChangeFault;
+use crate::guard::Guard;
+use crate::shutting::{refill_keys, shut_keys};
+use dc_names::NoMemory;
+use dc_ops::{Plan, carry, plan};
+use dc_plain::{
+    Call, Reply, calls_touch_the_listed_keys, opening_tree_is_well_formed,
+    operations_keep_trees_well_formed, untouched_facts_stay,
+};
+use dc_row::words_have_the_fact_they_spell;
+use dc_table::{Guarded, Holder, MOST_COUNT, Pass};
+use std::alloc::Global;
+
+/// Carries a plan out, with the rows whose keys it touches shut meanwhile. After `NoMemory` they tell what
+/// they told.
+fn alter(
+    holder: &mut Holder<'_>,
+    kept: &mut Guarded,
+    alloc: Global,
+    call: &Call<'_>,
+    plan: Plan<'_>,
+) -> Result<Reply, NoMemory>
+    requires home { Home (known (pass_of holder.old)) kept.old }
+    requires well { IsWellFormed (tree_now (pass_of holder.old)) }
+    requires plans { let p = pass_of holder.old in
+        Plans (share p).limit (tree_now p) (request_of call.now) plan }
+    requires early { length (view (pass_of holder.old)).hold.history < most }
+    ensures same_reference { holder.new.pass.ghost_name ≡ holder.old.pass.ghost_name }
+    ensures ok { IfOk result (λ reply. Altered (pass_of holder.old) (pass_of holder.new)
+        (request_of call.now) (answer_of reply)) }
+    ensures err { OnErr result (OnlyWrites (pass_of holder.old) (pass_of holder.new)) }
+    ensures without_memory { CallTakesNoMemory (request_of call.now) → IsOk result }
+    ensures home { Home (known (pass_of holder.new)) kept.new }
+{
+    calls_touch_the_listed_keys();
+    untouched_facts_stay();
+    words_have_the_fact_they_spell();
+    let keys = plan.keys();
+    let keys = keys.as_slice();
+    shut_keys(holder, kept, keys);
+    // A reader that finds a row even must find it true. So the rows of what changes stay odd from before
+    // the tree changes until they tell of the new one, or of the old one where it stays.
+    match carry(alloc, &mut kept.store, plan) {
+        Ok(reply) => {
+            holder.commit(call);
+            kept.clock += 1;
+            refill_keys(holder, kept, keys);
+            Ok(reply)
+        }
+        Err(NoMemory) => {
+            refill_keys(holder, kept, keys);
+            Err(NoMemory)
+        }
+    }
+}
+
+impl<'t> Guard<'t> {
+    /// Makes a change, answers its reply and how many calls had altered the tree before, gives the lock
+    /// back, and hands the pass back. `Spent` where it would alter the tree for more than the 2^62nd time,
+    /// `NoMemory` where memory was refused: then nothing has changed. A change that is refused, an
+    /// `Unlink`, a `Rmdir` and an exchange take no memory.
+    pub fn change(
+        self,
+        alloc: Global,
+        call: &Call<'_>,
+    ) -> (&'t mut Pass, Result<(Reply, u64), ChangeFault>)
+        requires taken { IsTaken (view (seat_of self)) }
+        requires change { IsChange call.now }
+        ensures same_reference { result.0.ghost_name ≡ self.entry.holder.pass.ghost_name }
+        ensures same { IsSamePass (seat_of self.entry) result.0.now × IsIdle result.0.now }
+        ensures done { IfOk result.1 (λ r. Recorded (view (seat_of self.entry)) (view result.0.now)
+            (request_of call.now) (answer_of r.0) r.1) }
+        ensures fault { let p = seat_of self.entry in
+            IfErr result.1 (Failed (share p).limit (view p) (view result.0.now) (request_of call.now)) }
+        ensures within { (view result.0.now).book.seen ≤ most }
+    {
+        opening_tree_is_well_formed();
+        operations_keep_trees_well_formed();
+        let Guard {
+            mut holder,
+            mut guarded,
+        } = self;
+        let at = guarded.clock;
+        let plan = match plan(&guarded.store, call, guarded.max_inodes) {
+            Ok(plan) => plan,
+            Err(reply) => return (holder.answer(guarded, call), Ok((reply, at))),
+        };
+        if at >= MOST_COUNT {
+            return (holder.give(guarded), Err(ChangeFault::Spent));
+        }
+        let altered = alter(&mut holder, &mut guarded, alloc, call, plan);
+        let pass = holder.give(guarded);
+        match altered {
+            Ok(reply) => (pass, Ok((reply, at))),
+            Err(NoMemory) => (pass, Err(ChangeFault::NoMemory)),
+        }
+    }
+}

@@ -1,0 +1,100 @@
+//! Rows are emptied under the lock.
+
+ghost use Rattle.std.specs.Prelude.{◌≡◌, ◌≤◌, ◌<◌, length, true};
+ghost use Rattle.dc_events.specs.Rows.{base_of};
+ghost use Rattle.dc_index.specs.Slots.{slot_of, has_key};
+ghost use Rattle.dc_rows.specs.Changes.{KeepsTree, OnlyWrites, RestAt};
+ghost use Rattle.dc_rows.specs.Filling.{Redone, Emptied};
+ghost use Rattle.dc_rows.specs.Guards.{seat_of, kept_by, Keeps};
+ghost use Rattle.dc_rows.specs.Rows.{MayTell};
+ghost use Rattle.dc_table.specs.Changes.{tree_now, words_of};
+ghost use Rattle.dc_table.specs.Holders.{pass_of};
+ghost use Rattle.dc_table.specs.Passes.{view, share, CanShut};
+
+use crate::guard::Guard;
+use crate::writing::open_with;
+use dc_row::{EMPTY_ROW, ROW_WORDS, empty_row_spells_nothing};
+use dc_table::{Guarded, Holder, MOST_COUNT};
+
+/// Shuts a row, writes its words and opens it. `false` where that was its last opening: then it is empty.
+pub(crate) fn rewrite(holder: &mut Holder<'_>, row: u64, words: &[u64; ROW_WORDS]) -> bool
+    requires row { let p = pass_of holder.old in (row < (share p).rows) × CanShut (view p) row }
+    requires size { let p = pass_of holder.old in length (words_of p) ≡ base_of (share p).rows }
+    requires tells { MayTell (tree_now (pass_of holder.old)) words.now }
+    ensures same_reference { holder.new.pass.ghost_name ≡ holder.old.pass.ghost_name }
+    ensures pass { OnlyWrites (pass_of holder.old) (pass_of holder.new) }
+    ensures redone { Redone (words_of (pass_of holder.old)) (words_of (pass_of holder.new)) row
+        words.now result }
+{
+    empty_row_spells_nothing();
+    let odd = holder.shut_row(row);
+    if odd + 1 >= MOST_COUNT {
+        open_with(holder, row, &EMPTY_ROW);
+        return false;
+    }
+    open_with(holder, row, words);
+    true
+}
+
+/// Empties a row that has a key, which it loses. Whether it is in use is another's matter.
+pub(crate) fn empty(holder: &mut Holder<'_>, kept: &mut Guarded, row: u64)
+    requires row { let p = pass_of holder.old in (row < (share p).rows) × CanShut (view p) row }
+    requires size { let p = pass_of holder.old in length (words_of p) ≡ base_of (share p).rows }
+    requires key { has_key (slot_of kept.old.index row) ≡ true }
+    ensures same_reference { holder.new.pass.ghost_name ≡ holder.old.pass.ghost_name }
+    ensures pass { OnlyWrites (pass_of holder.old) (pass_of holder.new) }
+    ensures tree { KeepsTree kept.old kept.new }
+    ensures shrinker { kept.new.shrinker ≡ kept.old.shrinker }
+    ensures emptied { Emptied (words_of (pass_of holder.old)) (words_of (pass_of holder.new))
+        kept.old.index kept.new.index row }
+{
+    empty_row_spells_nothing();
+    if rewrite(holder, row, &EMPTY_ROW) {
+        kept.index.clear(row);
+    } else {
+        kept.index.retire(row);
+    }
+}
+
+/// Empties a row that has a key, which it loses, and takes it out of use.
+fn evict_row(holder: &mut Holder<'_>, kept: &mut Guarded, row: u64)
+    requires key { has_key (slot_of kept.old.index row) ≡ true }
+    requires rest { RestAt (pass_of holder.old) kept.old }
+    ensures same_reference { holder.new.pass.ghost_name ≡ holder.old.pass.ghost_name }
+    ensures pass { OnlyWrites (pass_of holder.old) (pass_of holder.new) }
+    ensures tree { KeepsTree kept.old kept.new }
+    ensures rest { RestAt (pass_of holder.new) kept.new }
+{
+    empty_row_spells_nothing();
+    empty(holder, kept, row);
+    kept.shrinker.remove(row);
+}
+
+impl Guard<'_> {
+    /// Empties a row that has a key, which it loses, and takes it out of use.
+    pub fn evict(&mut self, row: u64)
+        requires key { has_key (slot_of (kept_by self.old).index row) ≡ true }
+        ensures same_reference { self.new.holder.pass.ghost_name ≡ self.old.holder.pass.ghost_name }
+        ensures keeps { Keeps self.old self.new }
+    {
+        let holder = &mut self.holder;
+        evict_row(holder, &mut self.guarded, row);
+    }
+
+    /// Empties up to so many rows, the least recently used first, and answers how many. It takes no
+    /// memory.
+    #[tactic(auto, using(crate::proofs::Held::keeps_then))]
+    pub fn shrink(&mut self, most: u64) -> u64
+        ensures same_reference { self.new.holder.pass.ghost_name ≡ self.old.holder.pass.ghost_name }
+        ensures keeps { Keeps self.old self.new }
+        ensures few { result ≤ most }
+    {
+        for emptied in 0..most {
+            let Some(row) = self.guarded.shrinker.victim() else {
+                return emptied;
+            };
+            self.evict(row);
+        }
+        most
+    }
+}

@@ -1,0 +1,96 @@
+//! Rows are filled for keys under the lock.
+
+ghost use Rattle.std.specs.Prelude.{◌≡◌, IfOk, IfSome};
+ghost use Rattle.dc_index.specs.Slots.{slot_of};
+ghost use Rattle.dc_index.specs.Slots.Slot.{Holds as Held};
+ghost use Rattle.dc_plain.specs.KeysShown.{key_shown};
+ghost use Rattle.dc_rows.specs.Changes.{KeepsTree, OnlyWrites, RestAt};
+ghost use Rattle.dc_rows.specs.Filling.{GivenAt};
+ghost use Rattle.dc_rows.specs.Guards.{kept_by, Keeps};
+ghost use Rattle.dc_table.specs.Changes.{tree_now};
+ghost use Rattle.dc_table.specs.Holders.{pass_of};
+ghost use Rattle.dc_table.specs.Rows.{IsOf};
+
+use crate::evicting::{empty, rewrite};
+use crate::facts::words_for;
+use crate::guard::Guard;
+use dc_names::NoMemory;
+use dc_plain::Key;
+use dc_row::{ROW_WORDS, empty_row_spells_nothing};
+use dc_table::{Guarded, Holder};
+use std::alloc::Global;
+
+/// Fills a row that was given a key, and takes it into use. Without memory for that it is emptied, and
+/// so it is where its count ends.
+fn fill_given(
+    holder: &mut Holder<'_>,
+    kept: &mut Guarded,
+    row: u64,
+    key: &Key<'_>,
+    words: &[u64; ROW_WORDS],
+) -> Result<Option<u64>, NoMemory>
+    requires given { GivenAt (pass_of holder.old) kept.old row (key_shown key.now) }
+    requires words { IsOf (tree_now (pass_of holder.old)) words.now (key_shown key.now) }
+    ensures same_reference { holder.new.pass.ghost_name ≡ holder.old.pass.ghost_name }
+    ensures pass { OnlyWrites (pass_of holder.old) (pass_of holder.new) }
+    ensures tree { KeepsTree kept.old kept.new }
+    ensures rest { RestAt (pass_of holder.new) kept.new }
+    ensures row { IfOk result (λ found. IfSome found (λ row.
+        slot_of kept.new.index row ≡ Held (key_shown key.now))) }
+{
+    empty_row_spells_nothing();
+    let Ok(()) = kept.shrinker.add(row) else {
+        empty(holder, kept, row);
+        return Err(NoMemory);
+    };
+    if rewrite(holder, row, words) {
+        return Ok(Some(row));
+    }
+    kept.index.retire(row);
+    kept.shrinker.remove(row);
+    Ok(None)
+}
+
+/// The row of a key, which is filled where no row has the key.
+fn fill_row(
+    holder: &mut Holder<'_>,
+    kept: &mut Guarded,
+    alloc: Global,
+    key: &Key<'_>,
+) -> Result<Option<u64>, NoMemory>
+    requires store { kept.old.store ≡ tree_now (pass_of holder.old) }
+    requires rest { RestAt (pass_of holder.old) kept.old }
+    ensures same_reference { holder.new.pass.ghost_name ≡ holder.old.pass.ghost_name }
+    ensures pass { OnlyWrites (pass_of holder.old) (pass_of holder.new) }
+    ensures tree { KeepsTree kept.old kept.new }
+    ensures rest { RestAt (pass_of holder.new) kept.new }
+    ensures row { IfOk result (λ found. IfSome found (λ row.
+        slot_of kept.new.index row ≡ Held (key_shown key.now))) }
+{
+    if let Some(row) = kept.index.row_of(key) {
+        return Ok(Some(row));
+    }
+    let Some(words) = words_for(&kept.store, key) else {
+        return Ok(None);
+    };
+    let Some(row) = kept.index.choose(&kept.shrinker, key) else {
+        return Ok(None);
+    };
+    kept.index.set(alloc, row, key)?;
+    kept.shrinker.remove(row);
+    fill_given(holder, kept, row, key, &words)
+}
+
+impl Guard<'_> {
+    /// The row of a key. One that has none gets a row of its bucket, which is filled with what the store
+    /// has under the key. `None` where no row can be had, or no row can tell it.
+    pub fn fill(&mut self, alloc: Global, key: &Key<'_>) -> Result<Option<u64>, NoMemory>
+        ensures same_reference { self.new.holder.pass.ghost_name ≡ self.old.holder.pass.ghost_name }
+        ensures keeps { Keeps self.old self.new }
+        ensures row { IfOk result (λ found. IfSome found (λ row.
+            slot_of (kept_by self.new).index row ≡ Held (key_shown key.now))) }
+    {
+        let holder = &mut self.holder;
+        fill_row(holder, &mut self.guarded, alloc, key)
+    }
+}

@@ -1,0 +1,78 @@
+//! How a guard is got, what it shows, and how it is given back.
+
+ghost use Rattle.std.specs.Prelude.{◌≡◌, IfOk, IfErr};
+ghost use Rattle.dc_events.specs.Effects.{gave, answered};
+ghost use Rattle.dc_plain.specs.Requests.{request_of};
+ghost use Rattle.dc_rows.specs.Guards.{seat_of, kept_by};
+ghost use Rattle.dc_table.specs.Holders.{Locked, Missed, Freed};
+ghost use Rattle.dc_table.specs.Passes.{view, share, Fits, IsIdle, CanAnswer};
+
+use crate::guard::Guard;
+use dc_plain::Call;
+use dc_store::SlabStore;
+use dc_table::{Pass, Shared};
+use std::sync::Wait;
+
+impl<'t> Guard<'t> {
+    /// Waits for the lock, and gets it.
+    #[must_use]
+    pub fn lock<R: Wait>(shared: &'t Shared, rt: &R, pass: &'t mut Pass) -> Guard<'t>
+        requires pass { Fits shared.now pass.old × IsIdle pass.old }
+        ensures same_reference { result.holder.pass.ghost_name ≡ pass.entry.ghost_name }
+        ensures locked { Locked pass.old result.holder (kept_by result) }
+    {
+        let (holder, guarded) = shared.lock(rt, pass);
+        Guard { holder, guarded }
+    }
+
+    /// Tries to get the lock, and never waits. Where another has it the pass comes back.
+    #[must_use]
+    pub fn try_lock(shared: &'t Shared, pass: &'t mut Pass) -> Result<Guard<'t>, &'t mut Pass>
+        requires pass { Fits shared.now pass.old × IsIdle pass.old }
+        ensures got { IfOk result (λ guard.
+            (guard.holder.pass.ghost_name ≡ pass.entry.ghost_name) × Locked pass.old guard.holder (kept_by guard)) }
+        ensures held { IfErr result (λ back.
+            (back.ghost_name ≡ pass.entry.ghost_name) × Missed pass.old back.now) }
+    {
+        match shared.try_lock(pass) {
+            Ok((holder, guarded)) => Ok(Guard { holder, guarded }),
+            Err(pass) => Err(pass),
+        }
+    }
+
+    /// The tree.
+    pub fn store(&self) -> &SlabStore
+        ensures { result.now ≡ (kept_by self.now).store }
+    {
+        &self.guarded.store
+    }
+
+    /// How many calls have altered the tree.
+    pub fn clock(&self) -> u64
+        ensures { result ≡ (kept_by self.now).clock }
+    {
+        self.guarded.clock
+    }
+
+    /// Gives the lock back, and hands the pass back.
+    pub fn give(self) -> &'t mut Pass
+        ensures same_reference { result.ghost_name ≡ self.entry.holder.pass.ghost_name }
+        ensures freed { Freed self.entry.holder result.now }
+        ensures view { view result.now ≡ gave (view (seat_of self.entry)) }
+    {
+        let Guard { holder, guarded } = self;
+        holder.give(guarded)
+    }
+
+    /// Gives the lock back, answers a call that alters nothing, and hands the pass back.
+    pub fn answer(self, call: &Call<'_>) -> &'t mut Pass
+        requires unaltered { let p = seat_of self in CanAnswer (share p) (view p) (request_of call.now) }
+        ensures same_reference { result.ghost_name ≡ self.entry.holder.pass.ghost_name }
+        ensures freed { Freed self.entry.holder result.now }
+        ensures view { let p = seat_of self.entry in
+            view result.now ≡ answered (share p).limit (view p) (request_of call.now) }
+    {
+        let Guard { holder, guarded } = self;
+        holder.answer(guarded, call)
+    }
+}

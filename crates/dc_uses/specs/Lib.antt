@@ -1,0 +1,2 @@
+-- What two calls leave in a pass.
+pub mod Both

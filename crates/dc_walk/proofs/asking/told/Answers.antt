@@ -1,9 +1,0 @@
-use Rattle.std.proofs.Common.{subst}
-use Rattle.dc_plain.specs.KeysShown.{key_shown}
-use Rattle.dc_walk.specs.Filters.{MayHold}
-use Rattle.dc_walk.proofs.Standing.{none_held}
-use Rattle.dc_walk.proofs.asking.told.Goals as goal
-
-pub ask-requires-clause-untold : goal.ask-requires-clause-untold
-ask-requires-clause-untold c = let f = c.args.rows.now in let is = c.requires.may.good.finding in
-    none_held c.words_have_the_fact_they_spell.ensures f.used.now.items (key_shown c.args.key) f.filter is.spelled is.held (subst (λ h. MayHold f.filter h → ⊥) c.requires.hash (λ held. let yes = c.may_hold.ensures.1 held in absurd (cc)))

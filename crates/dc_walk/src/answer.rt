@@ -1,0 +1,14 @@
+//! What a look-up that rests on rows comes to.
+
+use crate::why::Why;
+use dc_plain::Stamped;
+
+/// What a look-up that rests on rows comes to.
+#[derive(Debug, Drop)]
+#[must_use]
+pub enum Fast {
+    /// An answer, and the point at which it was true.
+    Done(Stamped),
+    /// No answer.
+    Again(Why),
+}

@@ -1,0 +1,68 @@
+//! A look-up by rows that are filled and pinned for it.
+
+ghost use Rattle.std.specs.Prelude.{◌≤◌, true, length};
+ghost use Rattle.dc_table.specs.Passes.{view, Fits, IsSamePass, IsIdle};
+ghost use Rattle.dc_walk.specs.Fasts.{Tried};
+ghost use Rattle.dc_walk.specs.Findings.{CanWalk};
+ghost use Rattle.dc_walk.specs.Looks.{look_shown};
+ghost use Rattle.dc_walk.specs.Sources.{Rests};
+ghost use Rattle.dc_walk.specs.declared.TheConstants.{MOST_USED};
+
+use crate::MOST_USED;
+use crate::answer::Fast;
+use crate::look::Look;
+use crate::pinned::Pinning;
+use crate::used::{Room, Used};
+use crate::walk::walk_by;
+use arrayvec::ArrayVec;
+use dc_rows::unpin_all;
+use dc_table::{Pass, Shared};
+use std::alloc::Global;
+use std::sync::Wait;
+
+/// The most rows that a walk pins: those that it uses, and one that didn't tell of its key.
+const MOST_PINNED: usize = MOST_USED + 1;
+
+/// Takes back the pins of the rows that a walk used, and that of a row which it had and didn't use, all
+/// under one hold of the lock.
+fn unpin<R: Wait>(shared: &Shared, rt: &R, pass: &mut Pass, used: &[Used], spare: Option<u64>)
+    requires pass { Fits shared.now pass.old × IsIdle pass.old }
+    requires few { length used.now ≤ MOST_USED }
+    ensures same { IsSamePass pass.old pass.new × IsIdle pass.new }
+    ensures rests { Rests true (view pass.old) (view pass.new) }
+{
+    let mut rows: ArrayVec<u64, MOST_PINNED> = ArrayVec::new();
+    for one in used {
+        rows.push(one.row);
+    }
+    if let Some(row) = spare {
+        rows.push(row);
+    }
+    if !rows.is_empty() {
+        unpin_all(shared, rt, pass, rows.as_slice());
+    }
+}
+
+/// Where a path leads, by rows that are filled from the tree and pinned one after the other, each under
+/// the lock; the answer rests on the rows alone, as that of `walk_fast`. It waits for the lock.
+/// `Again(Memory)` where memory for a row or its pin was refused. On every way out each row that it
+/// pinned is unpinned, so that n names take n + 1 holds of the lock.
+pub fn walk_counted<R: Wait>(
+    shared: &Shared,
+    rt: &R,
+    alloc: Global,
+    pass: &mut Pass,
+    room: &mut Room,
+    look: Look<'_>,
+) -> Fast
+    requires can { CanWalk shared.now pass.old }
+    ensures same { IsSamePass pass.old pass.new × IsIdle pass.new }
+    ensures tried { Tried (look_shown look.entry) (view pass.old) (view pass.new) result }
+{
+    let source = Pinning { shared, rt, alloc };
+    let (fast, spare) = walk_by(&source, shared.reader(), pass, &mut room.used, look);
+    // A pin that stayed would keep the row from every other key. The answer stands without its pins,
+    // since the rows were checked.
+    unpin(shared, rt, pass, room.used.as_slice(), spare);
+    fast
+}

@@ -1,0 +1,40 @@
+//! Rows that are filled and pinned for a walk.
+
+ghost use Rattle.std.specs.Prelude.{◌≡◌, true};
+
+use crate::source::{Lane, Source};
+use dc_names::NoMemory;
+use dc_plain::Key;
+use dc_rows::pin;
+use dc_table::{Pass, Reader, Shared};
+use std::alloc::Global;
+use std::sync::Wait;
+
+/// The key's own row, which is filled from the tree under the lock where no row has the key, and pinned.
+/// Who walks by such rows takes their pins back.
+#[derive(Drop)]
+pub(crate) struct Pinning<'a, R> {
+    pub shared: &'a Shared,
+    pub rt: &'a R,
+    pub alloc: Global,
+}
+
+impl<'a, R: Wait> Source for Pinning<'a, R> {
+    ghost locks = { true };
+
+    ghost serves = { λ source table. source.shared.now ≡ table };
+
+    /// No row where none can be had.
+    fn rows_of(
+        &self,
+        _reader: Reader<'_>,
+        pass: &mut Pass,
+        key: Key<'_>,
+        _hash: u64,
+    ) -> Result<Lane, NoMemory> {
+        match pin(self.shared, self.rt, self.alloc, pass, &key)? {
+            Some(first) => Ok(Lane { first, many: 1 }),
+            None => Ok(Lane { first: 0, many: 0 }),
+        }
+    }
+}

@@ -1,0 +1,149 @@
+//! The questions of a walk, answered by the rows of a source.
+
+ghost use Rattle.std.specs.Prelude.{◌≡◌, ◌≢◌, None, true, is_some, IfOk, OnOk, OnErr};
+ghost use Rattle.dc_names.specs.Names.{part_shown};
+ghost use Rattle.dc_names.specs.Paths.Part.{Dot};
+ghost use Rattle.dc_plain.specs.Facts.Label.{Text};
+ghost use Rattle.dc_plain.specs.KeysShown.{key_shown};
+ghost use Rattle.dc_resolve.specs.Asked.{label_of};
+ghost use Rattle.dc_table.specs.Holders.{table_of};
+ghost use Rattle.dc_table.specs.Passes.{share};
+ghost use Rattle.dc_walk.specs.Becomings.{Becomes, IsGood, MayAskRows, MayAskNew, Had};
+ghost use Rattle.dc_walk.specs.Causes.{TellsWhy};
+ghost use Rattle.dc_walk.specs.Filters.{key_hash};
+ghost use Rattle.dc_walk.specs.Finds.{IsStanding};
+ghost use Rattle.dc_walk.specs.Sources.{Serves};
+
+use crate::bucket::ask_rows;
+use crate::rows::Rows;
+use crate::source::{Lane, Source};
+use crate::used::standing;
+use crate::why::Why;
+use dc_names::{NoMemory, Part};
+use dc_plain::{Key, Label};
+use dc_resolve::Stop;
+use dc_row::{ROW_WORDS, words_have_the_fact_they_spell};
+
+/// The key under which a part is looked up in a directory.
+pub(crate) fn key_of<'a>(number: u64, part: Part<'a>) -> Key<'a>
+    requires asked { part_shown part ≢ Dot }
+    ensures key { key_shown result ≡ record { number = number; label = label_of (part_shown part.entry) } }
+    ensures entry { (key_shown result).label ≢ Text }
+{
+    let label = match part {
+        Part::Normal(name) => Label::Name(name),
+        Part::DotDot => Label::DotDot,
+        Part::Dot => unreachable!(),
+    };
+    Key { number, label }
+}
+
+/// The key of a link's text.
+pub(crate) fn text_key<'a>(number: u64) -> Key<'a>
+    ensures { key_shown result ≡ record { number = number; label = Text } }
+{
+    let label = Label::Text;
+    Key { number, label }
+}
+
+/// Why a walk ends where the rows that were looked at don't tell of a key. The first odd one of them is
+/// `odd`, and so many questions were answered before.
+fn why_of(odd: Option<u64>, key: Key<'_>, answered: u64) -> Why
+    ensures { TellsWhy odd (key_shown key.entry) result }
+{
+    match (odd, key.label) {
+        (Some(row), _) => Why::Busy(row),
+        (None, Label::Text) => Why::Link,
+        (None, Label::Name(_) | Label::DotDot) => Why::Miss(answered),
+    }
+}
+
+/// Has the rows that may tell of a key.
+#[inline(always)]
+fn have<S: Source>(
+    source: &S,
+    rows: &mut Rows<'_>,
+    key: Key<'_>,
+    hash: u64,
+) -> Result<Lane, NoMemory>
+    requires serves { S.serves source.now (table_of rows.old.reader) }
+    requires good { IsGood S.locks rows.old × (rows.old.why ≡ None) }
+    requires hash { hash ≡ key_hash (key_shown key) }
+    ensures had { Had S.locks rows.old rows.new }
+    ensures rows { IfOk result
+        (Serves S.locks (share rows.new.pass.now).rows (key_shown key.entry)) }
+    ensures refused { OnErr result (S.locks ≡ true) }
+{
+    source.rows_of(rows.reader, rows.pass, key, hash)
+}
+
+/// Asks rows for a key of which nothing was told, by its hash, and answers the words of the row that
+/// tells of it.
+#[inline(always)]
+fn ask<S: Source>(
+    source: &S,
+    rows: &mut Rows<'_>,
+    key: Key<'_>,
+    hash: u64,
+) -> Result<[u64; ROW_WORDS], Stop>
+    requires serves { S.serves source.now (table_of rows.old.reader) }
+    requires fresh { rows.old.why ≡ None }
+    requires hash { hash ≡ key_hash (key_shown key) }
+    requires may { MayAskNew S.locks rows.old (key_shown key) }
+    ensures becomes { Becomes S.locks rows.old rows.new }
+    ensures told { IfOk result (IsStanding rows.new.used.now.items (key_shown key.entry)) }
+    ensures same { OnOk result (rows.new.why ≡ None) }
+    ensures stopped { OnErr result (is_some rows.new.why ≡ true) }
+{
+    if rows.used.is_full() {
+        rows.why = Some(Why::Long);
+        return Err(Stop);
+    }
+    let Ok(lane) = have(source, rows, key, hash) else {
+        rows.why = Some(Why::Memory);
+        return Err(Stop);
+    };
+    let answered = rows.used.len() as u64;
+    // For the proof: a table has fewer than 2^64 rows.
+    let reader = rows.reader;
+    let _rows = reader.rows();
+    match ask_rows(rows, lane, key, hash) {
+        Ok(words) => Ok(words),
+        Err(odd) => {
+            rows.spare = lane.head();
+            rows.why = Some(why_of(odd, key, answered));
+            Err(Stop)
+        }
+    }
+}
+
+/// The words of the used row that tells of a key with this hash. Where none does yet, the rows of the
+/// source are asked.
+#[inline(always)]
+pub(crate) fn told<S: Source>(
+    source: &S,
+    rows: &mut Rows<'_>,
+    key: Key<'_>,
+    hash: u64,
+) -> Result<[u64; ROW_WORDS], Stop>
+    requires serves { S.serves source.now (table_of rows.old.reader) }
+    requires hash { hash ≡ key_hash (key_shown key) }
+    requires may { MayAskRows S.locks rows.old (key_shown key).number (key_shown key).label }
+    ensures becomes { Becomes S.locks rows.old rows.new }
+    ensures told { IfOk result (IsStanding rows.new.used.now.items (key_shown key.entry)) }
+    ensures same { OnOk result (is_some rows.new.why ≡ is_some rows.old.why) }
+    ensures stopped { OnErr result (is_some rows.new.why ≡ true) }
+{
+    if rows.why.is_some() {
+        return Err(Stop);
+    }
+    // Most paths have no key twice, and so few rows are looked through for one.
+    if !rows.filter.may_hold(hash) {
+        words_have_the_fact_they_spell();
+        return ask(source, rows, key, hash);
+    }
+    match standing(rows.used.as_slice(), key) {
+        Some(words) => Ok(words),
+        None => ask(source, rows, key, hash),
+    }
+}

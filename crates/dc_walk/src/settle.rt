@@ -1,0 +1,50 @@
+//! The end of a walk: its pivot, and the checks of the rows that its answer rests on.
+
+ghost use Rattle.std.specs.Prelude.{length, map};
+ghost use Rattle.dc_plain.specs.Requests.{answer_of};
+ghost use Rattle.dc_table.specs.Holders.{table_of};
+ghost use Rattle.dc_table.specs.Passes.{view, share, Fits, IsSamePass, IsIdle};
+ghost use Rattle.dc_walk.specs.Findings.{view_in};
+ghost use Rattle.dc_walk.specs.Finds.{use_shown, AllInside};
+ghost use Rattle.dc_walk.specs.Looks.{look_shown, outcome_of};
+ghost use Rattle.dc_walk.specs.Settling.{Came};
+ghost use Rattle.dc_walk.specs.Walks.{Settles};
+
+use crate::answer::Fast;
+use crate::look::Look;
+use crate::used::Used;
+use crate::why::Why;
+use dc_plain::{Reply, Stamped};
+use dc_row::words_have_the_fact_they_spell;
+use dc_table::{Pass, Reader};
+
+/// Makes the pivot of a walk that came to a reply, and checks the rows that it used. `begun` says
+/// whether the walk noted a row.
+pub(crate) fn settle(
+    reader: Reader<'_>,
+    pass: &mut Pass,
+    used: &[Used],
+    look: Look<'_>,
+    reply: Reply,
+    begun: bool,
+) -> Fast
+    requires pass { Fits (table_of reader) pass.old × IsIdle pass.old }
+    requires rows { AllInside (share pass.old).rows used.now }
+    requires came { Came (outcome_of look) (look_shown look) (view_in begun pass.old look)
+        (map use_shown used.now) (answer_of reply) }
+    ensures same { IsSamePass pass.old pass.new × IsIdle pass.new }
+    ensures settles { Settles look.entry (length used.now) (view_in begun pass.old look.entry)
+        (view pass.new) result }
+{
+    words_have_the_fact_they_spell();
+    // After all reads and before all checks: a row whose count still stands was as read at this point.
+    let at = reader.pivot(pass, &look.call(), !begun);
+    for c in 0..used.len() {
+        let one = &used[c];
+        let (place, row, count) = (one.place, one.row, one.words[0]);
+        if let Err((noted, found)) = reader.check(pass, place, row, count) {
+            return Fast::Again(Why::Changed { row, noted, found });
+        }
+    }
+    Fast::Done(Stamped { reply, at })
+}

@@ -1,0 +1,97 @@
+//! A look-up by the rows of a source.
+
+ghost use Rattle.std.specs.Prelude.{◌≡◌, [], map, IfOk, IfErr};
+ghost use Rattle.dc_plain.specs.Requests.{answer_of};
+ghost use Rattle.dc_table.specs.Holders.{table_of};
+ghost use Rattle.dc_table.specs.Passes.{view, share, IsSamePass, IsIdle};
+ghost use Rattle.dc_walk.specs.Findings.{CanWalk, buckets_of, view_in};
+ghost use Rattle.dc_walk.specs.Finds.{use_shown, AllInside};
+ghost use Rattle.dc_walk.specs.Walks.{Went, Stopped, Walks};
+
+use crate::MOST_USED;
+use crate::answer::Fast;
+use crate::filter::KeyFilter;
+use crate::finder::Walker;
+use crate::long::has_long_name;
+use crate::look::Look;
+use crate::rows::Rows;
+use crate::settle::settle;
+use crate::source::Source;
+use crate::used::Used;
+use crate::why::Why;
+use arrayvec::ArrayVec;
+use dc_plain::Reply;
+use dc_resolve::{Walked, walk};
+use dc_table::{Pass, Reader};
+
+/// Walks by rows. It answers the reply, and whether a step was made; or why there is none, and a row
+/// that was had and isn't used.
+pub(crate) fn walk_rows<'x, S: Source>(
+    source: &'x S,
+    reader: Reader<'x>,
+    pass: &'x mut Pass,
+    used: &'x mut ArrayVec<Used, MOST_USED>,
+    look: Look<'x>,
+) -> Result<(Reply, bool), (Why, Option<u64>)>
+    requires serves { S.serves source.now (table_of reader) }
+    requires can { CanWalk (table_of reader) pass.old }
+    requires empty { used.old.items ≡ [] }
+    ensures same { IsSamePass pass.old pass.new × IsIdle pass.new }
+    ensures rows { AllInside (share pass.old).rows used.new.items }
+    ensures went { IfOk result (λ r. Went S.locks look.entry (view pass.old)
+        (view_in r.1 pass.new look.entry) (map use_shown used.new.items) (answer_of r.0)) }
+    ensures stopped { IfErr result (λ e. Stopped S.locks look.entry (buckets_of pass.old)
+        (view pass.old) (view pass.new) e.0) }
+{
+    let rows = Rows {
+        reader,
+        pass,
+        used,
+        look,
+        begun: false,
+        made: 0,
+        filter: KeyFilter::new(),
+        spare: None,
+        why: None,
+    };
+    let mut walker = Walker { source, rows };
+    let walked = walk(&mut walker, look.base, look.path, look.follow);
+    let (begun, spare, why) = (walker.rows.begun, walker.rows.spare, walker.rows.why);
+    match walked {
+        Walked::Found(number, kind) => Ok((Reply::Found(number, kind), begun)),
+        Walked::Refused(refusal) => Ok((Reply::Refused(refusal.number()), begun)),
+        Walked::Stopped => match why {
+            Some(why) => Err((why, spare)),
+            None => unreachable!(),
+        },
+    }
+}
+
+/// Where a path leads by rows, with the rows that were used for it, and one that was had and isn't
+/// used.
+pub(crate) fn walk_by<S: Source>(
+    source: &S,
+    reader: Reader<'_>,
+    pass: &mut Pass,
+    used: &mut ArrayVec<Used, MOST_USED>,
+    look: Look<'_>,
+) -> (Fast, Option<u64>)
+    requires serves { S.serves source.now (table_of reader) }
+    requires can { CanWalk (table_of reader) pass.old }
+    ensures same { IsSamePass pass.old pass.new × IsIdle pass.new }
+    ensures walks { Walks S.locks look.entry (buckets_of pass.old) (view pass.old) (view pass.new)
+        result.0 }
+{
+    // Rows of an earlier walk would be taken for this one's, and their pins back.
+    used.clear();
+    if has_long_name(look.path) {
+        return (Fast::Again(Why::Long), None);
+    }
+    match walk_rows(source, reader, pass, used, look) {
+        Ok((reply, begun)) => {
+            let used = used.as_slice();
+            (settle(reader, pass, used, look, reply, begun), None)
+        }
+        Err((why, spare)) => (Fast::Again(why), spare),
+    }
+}
