@@ -1,5 +1,5 @@
 -- The stamps are legal exactly where no actor's points fall and the stamps by their points pass.
-use Rattle.std.proofs.Common.{◌≡◌, ◌≢◌, ◌↔◌, ℕ, List, Result, Ok, Err, IfOk, OnOk, sym, ◌∙◌}
+use Rattle.std.proofs.Common.{ℕ, List, sym, ◌∙◌}
 use Rattle.dc_plain.specs.LivingLaws.{SameTreeDecides}
 use Rattle.dc_plain.specs.Legal.{Stamp, IsLegal}
 use Rattle.dc_check.specs.Judging.{RisesByActor, IsByPoint, Passes, opening}
@@ -16,9 +16,3 @@ pub passing_from_legal : SameTreeDecides → (limit : ℕ) (stamps sorted : List
 passing_from_legal decides limit stamps sorted by_point is =
     let keeps = sorted_keeps stamps sorted by_point (legal_rises limit stamps is) in
     complete decides sorted (opening limit) tt by_point.rises (record { order = is.order; kept = λ n. is.kept n ∙ sym (keeps n); run = is.run })
-
--- a verdict that comes of a fault isn't `legal`
-pub other_verdict : {V E : Type 0} (result : Result V E) (legal : V) (Blamed Is : Type 0) → IfOk result (λ verdict. verdict ≢ legal) → OnOk result Blamed → (Blamed → Is → ⊥)
-    → IfOk result (λ verdict. verdict ≡ legal ↔ Is)
-other_verdict (Ok verdict) legal Blamed Is other blamed never = (λ same. absurd (other same), λ is. absurd (never blamed is))
-other_verdict (Err fault) legal Blamed Is other blamed never = tt

@@ -5,6 +5,7 @@ pub mod Orders
 pub mod Complete
 pub mod Points
 pub mod Exact
+pub mod Judged
 pub mod Steps
 pub mod Floors
 pub mod Sorted

@@ -1,7 +1,7 @@
 -- The commands that were served, and the sessions of their replies.
-use Rattle.std.proofs.Common.{◌≡◌, ℕ, ◌+◌, List, [], ◌∷◌, ◌++◌, map, ap, sym, ◌∙◌, refl}
+use Rattle.std.proofs.Common.{◌≡◌, ℕ, ◌+◌, List, [], ◌∷◌, ◌++◌, Result, IfOk, IfErr, Vec, Global, map, ap, ◌∙◌, refl, subst}
 use Rattle.std.proofs.lemmas.List.{map-append}
-use Rattle.std.proofs.lemmas.Simd.{map-map}
+use Rattle.std.proofs.lemmas.Result.{IfOk-weaker, MatchResult-weaker}
 use Rattle.dc_lang.specs.declared.input.Served.{Served}
 use Rattle.dc_lang.specs.Commands.{Meaning, Order}
 use Rattle.dc_lang.specs.Inputs.{AllTell}
@@ -10,7 +10,10 @@ use Rattle.dc_lang.specs.Responses.{Response}
 use Rattle.dc_lang.specs.Served.{all_served, served_of}
 use Rattle.dc_check.specs.declared.record.RecordFault.{RecordFault}
 use Rattle.dc_check.specs.declared.record.RecordFault.TheVariants.{BadLine, Unpaired, NoMemory}
-use Rattle.dc_check.specs.Records.{AreRead, AreSessions, IsPairFault, IsRecordFault, orders_of, served_orders}
+use Rattle.dc_lang.specs.Bases.{first_bases}
+use Rattle.dc_check.specs.declared.stamp.Stamp as rust_stamp
+use Rattle.dc_check.specs.Records.{ArePaired, AreRead, AreSessions, AreStamped, IsPairFault, IsRecord, IsRecordFault, orders_of, served_orders, stamps_from}
+use Rattle.dc_check.specs.Stamps.{stamps_of}
 
 pub sessions_below : (lines : List (List ℕ)) (told : List Response) → AllTell lines told → AreSessions told
 sessions_below [] [] tell = tt
@@ -37,7 +40,25 @@ pub served_orders-are : (served : List Served) (phases : List (List Order)) → 
 served_orders-are served phases e = orders_of_served served ∙ ap (map (λ (p : ℕ × Order). p.1)) e ∙ seconds 0 phases
 
 -- what doesn't pair is no record
-pub unpaired : (input output : List ℕ) (said : List Meaning) (told : List Response) → AreRead input output said told → (fault : RecordFault) → IsPairFault (orders_of said) told fault → IsRecordFault input output fault
+unpaired : (input output : List ℕ) (said : List Meaning) (told : List Response) → AreRead input output said told → (fault : RecordFault) → IsPairFault (orders_of said) told fault → IsRecordFault input output fault
 unpaired input output said told read (BadLine n) is = absurd is
 unpaired input output said told read Unpaired is = record { said = said; told = told; read = read; unpaired = is }
 unpaired input output said told read NoMemory is = tt
+
+-- what becomes of the orders of an input with the responses of an output
+pub record Pairs (input output : List ℕ) (result : Result (Vec rust_stamp.Stamp Global) RecordFault) : Type 0 where
+  pub ok : IfOk result (λ stamps. IsRecord input output (stamps_of stamps.items))
+  pub err : IfErr result (IsRecordFault input output)
+
+pub pairs : (input output : List ℕ) (said : List Meaning) (told : List Response) (orders : List Order) (result : Result (Vec rust_stamp.Stamp Global) RecordFault) → AreRead input output said told → orders ≡ orders_of said
+    → IfOk result (λ stamps. AreStamped orders told (stamps_of stamps.items)) → IfErr result (IsPairFault orders told) → Pairs input output result
+pairs input output said told orders result read is ok err = record {
+  ok = IfOk-weaker result _ _ (λ stamps are. record {
+    said = said;
+    told = told;
+    read = read;
+    paired = subst (λ (os : List Order). ArePaired os told) is are.paired;
+    stamps_are = are.stamps_are ∙ ap (λ (os : List Order). stamps_from first_bases os told) is;
+  }) ok;
+  err = MatchResult-weaker result err (λ x p. p) (λ fault bad. unpaired input output said told read fault (subst (λ (os : List Order). IsPairFault os told fault) is bad));
+}

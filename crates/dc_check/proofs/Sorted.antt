@@ -4,7 +4,14 @@ use Rattle.std.specs.List.Sorted.{ties, IsStableByKey, IsNonDecreasingBy}
 use Rattle.std.specs.Ordering.{nat_cmp, is_lt}
 use Rattle.std.proofs.lemmas.Bool.Decides.{eqb_tells, nat_tests}
 use Rattle.dc_plain.specs.Legal.{Stamp}
+use Rattle.std.proofs.lemmas.List.Sorted.{Contains-permutation, IsPermutation-map, IsPermutation-sym}
+use Rattle.std.proofs.lemmas.Simd.{map-map}
+use Rattle.std.specs.Prelude.{Contains, IsPermutation}
+use Rattle.dc_check.specs.declared.stamp.Numbered as rust_numbered
+use Rattle.dc_check.specs.Judges.{AreByPoint, all_numbered, all_phased, numbered_of, phased_of}
 use Rattle.dc_check.specs.Judging.{Rises, IsByPoint}
+use Rattle.dc_check.specs.Phases.{Phased, SameItems, with_phases}
+use Rattle.dc_check.proofs.InOrder.{stamps_with}
 
 -- two tests that agree keep the same
 filter_same : {X : Type 0} (p q : X → Bool) → ((x : X) → p x ≡ q x) → (xs : List X) → filter p xs ≡ filter q xs
@@ -56,9 +63,25 @@ shown_rises shown low (x ∷ xs) first up = (
   shown_rises shown (shown x).at xs (λ d some. up 0 1 d (omega arith) (omega arith)) (λ i j d le within. up (suc i) (suc j) d (omega arith) (omega arith)),
 )
 
-pub by_point_from_sort : {X : Type 0} (shown : X → Stamp) (xs ys : List X) (stamps : List Stamp) → map shown xs ≡ stamps → IsNonDecreasingBy (λ x. (shown x).at) ys → IsStableByKey (λ x. (shown x).at) nat_cmp xs ys
+by_point_from_sort : {X : Type 0} (shown : X → Stamp) (xs ys : List X) (stamps : List Stamp) → map shown xs ≡ stamps → IsNonDecreasingBy (λ x. (shown x).at) ys → IsStableByKey (λ x. (shown x).at) nat_cmp xs ys
     → IsByPoint stamps (map shown ys)
 by_point_from_sort shown xs ys stamps is up stable = record {
   rises = shown_rises shown 0 ys (λ d some. omega arith) up;
   stable = λ at. shown_filter shown at ys ∙ ap (map shown) (stable_everywhere (λ x. (shown x).at) xs ys stable at) ∙ sym (shown_filter shown at xs) ∙ ap (filter (λ s. s.at == at)) is;
 }
+
+same_items : (phased was now : List Phased) → was ≡ phased → IsPermutation was now → SameItems phased now
+same_items phased was now is shuffled = λ one. (
+  λ in_was. Contains-permutation was now one shuffled (subst (λ (ps : List Phased). Contains ps one) (sym is) in_was),
+  λ in_now. subst (λ (ps : List Phased). Contains ps one) is (Contains-permutation now was one (IsPermutation-sym was now shuffled) in_now),
+)
+
+-- stamps with their phases, once they are sorted
+pub sorted_are : (phases : List ℕ) (stamps : List Stamp) (was now : List rust_numbered.Numbered) → all_phased was ≡ with_phases phases stamps → IsPermutation was now
+    → IsNonDecreasingBy (λ (n : rust_numbered.Numbered). (numbered_of n).at) now → IsStableByKey (λ (n : rust_numbered.Numbered). (numbered_of n).at) nat_cmp was now → AreByPoint phases stamps now
+sorted_are phases stamps was now is shuffled up stable =
+    let bare : all_numbered was ≡ stamps = sym (map-map (λ (p : Phased). p.stamp) phased_of was) ∙ ap (map (λ p. p.stamp)) is ∙ stamps_with phases stamps in
+    record {
+      by_point = by_point_from_sort numbered_of was now stamps bare up stable;
+      phased = same_items (with_phases phases stamps) (all_phased was) (all_phased now) is (IsPermutation-map phased_of was now shuffled);
+    }

@@ -9,8 +9,8 @@ use Rattle.dc_check.specs.declared.judge.Judge as rust_judge
 use Rattle.dc_check.specs.declared.stamp.Numbered as rust_numbered
 use Rattle.dc_check.specs.Stamps.{stamp_of}
 use Rattle.dc_check.specs.declared.stamp.Mark as rust_mark
-use Rattle.dc_check.specs.Judging.{Judge}
-use Rattle.dc_check.specs.Phases.{Phased}
+use Rattle.dc_check.specs.Judging.{IsByPoint, Judge}
+use Rattle.dc_check.specs.Phases.{Phased, SameItems, with_phases}
 
 -- a stamp without its line
 abbrev pub numbered_of : rust_numbered.Numbered → Stamp
@@ -35,6 +35,11 @@ phased_of numbered = record { phase = numbered.phase; stamp = numbered_of number
 
 abbrev pub all_phased : List rust_numbered.Numbered → List Phased
 all_phased numbered = map phased_of numbered
+
+-- these are the stamps by their points, each with the phase of its call
+pub record AreByPoint (phases : List ℕ) (stamps : List Stamp) (sorted : List rust_numbered.Numbered) : Type 0 where
+  pub by_point : IsByPoint stamps (all_numbered sorted)
+  pub phased : SameItems (with_phases phases stamps) (all_phased sorted)
 
 -- the least point of a call that comes after a marked one
 abbrev pub end_of : rust_mark.Mark → ℕ

@@ -5,12 +5,16 @@ use Rattle.dc_lang.specs.Commands.{Order, Meaning, order_of, request_from}
 use Rattle.dc_lang.specs.Inputs.{AllSay, AllTell, IsFirstBad, IsFirstUnread}
 use Rattle.dc_lang.specs.Lines.{lines_of, whole_lines}
 use Rattle.dc_lang.specs.Phases.{in_order, phases}
-use Rattle.dc_lang.specs.Responses.{Response, Tells}
+use Rattle.dc_lang.specs.Responses.{Response, Tells, response_of}
 use Rattle.dc_lang.specs.declared.TheConstants.{SESSIONS}
 use Rattle.dc_lang.specs.declared.fault.InputFault.{InputFault}
 use Rattle.dc_lang.specs.declared.fault.InputFault.TheVariants as inputs
 use Rattle.dc_lang.specs.declared.input.Served.{Served}
+use Rattle.dc_lang.specs.declared.line.Command.{Command}
+use Rattle.dc_plain.specs.declared.call.Stamped.{Stamped}
 use Rattle.dc_plain.specs.Legal.{Stamp}
+use Rattle.dc_check.specs.Stamps.{stamp_of, stamps_of}
+use Rattle.dc_check.specs.declared.stamp.Stamp as rust_stamp
 use Rattle.dc_check.specs.declared.record.RecordFault.{RecordFault}
 use Rattle.dc_check.specs.declared.record.RecordFault.TheVariants.{BadLine, Unpaired, NoMemory}
 
@@ -98,3 +102,11 @@ IsPairFault orders told NoMemory = Unit {0}
 -- the orders of commands as they are served
 abbrev pub served_orders : List Served → List Order
 served_orders served = map (λ one. order_of one.command.now) served
+
+-- the stamp of a command whose session starts here, with its reply
+abbrev pub IsStampOf : ℕ → Command → Stamped → rust_stamp.Stamp → Type 0
+IsStampOf base command stamped stamp = stamp_of stamp ≡ stamp_from base (order_of command) (response_of (command.session, stamped))
+
+-- the stamps of served commands with replies
+abbrev pub AreStampsOf : List Served → List (ℕ × Stamped) → List rust_stamp.Stamp → Type 0
+AreStampsOf served replies stamps = AreStamped (served_orders served) (map response_of replies) (stamps_of stamps)

@@ -1,14 +1,12 @@
 //! Whether stamps are what one plain tree answers, and whether phase by phase.
 
 ghost use Rattle.std.specs.Prelude.{◌≡◌, ◌≢◌, ◌≤◌, ◌↔◌, IfOk, OnOk, IfErr, length};
-ghost use Rattle.dc_lang.specs.Spans.{InPhases};
 ghost use Rattle.dc_plain.specs.Legal.{IsLegal};
 ghost use Rattle.dc_names.specs.declared.limits.TheConstants.{MOST_INODES};
-ghost use Rattle.dc_check.specs.Phases.{spans_of};
 ghost use Rattle.dc_check.specs.Stamps.{stamps_of};
 ghost use Rattle.dc_check.specs.Judges.{all_numbered, all_phased, all_spans, Blames};
 ghost use Rattle.dc_check.specs.Judging.{opening, Passes, spans_in};
-ghost use Rattle.dc_check.specs.Verdicts.{IsJudged};
+ghost use Rattle.dc_check.specs.Verdicts.{AreExplained, IsJudged};
 
 use crate::fault::Fault;
 use crate::judge::Judge;
@@ -109,9 +107,8 @@ pub fn check_phases(
     requires most { max_inodes ≤ MOST_INODES }
     requires phases { length phases.now ≡ length stamps.now }
     // `Legal` exactly of legal stamps that keep the order of the phases.
-    ensures { IfOk result (λ verdict. (verdict ≡ PhasedVerdict.Legal)
-        ↔ IsLegal max_inodes (stamps_of stamps.now)
-        × InPhases (spans_of max_inodes phases.now (stamps_of stamps.now))) }
+    ensures { IfOk result (λ said.
+        (said ≡ PhasedVerdict.Legal) ↔ AreExplained max_inodes phases.now stamps.now) }
 {
     match judge_stamps(alloc, max_inodes, stamps, phases)? {
         Judged::Legal(marks) => match first_behind(&marks) {

@@ -2,9 +2,9 @@
 
 ghost use Rattle.std.specs.Prelude.{◌≡◌, ◌↔◌, None, IfOk, slice_index};
 ghost use Rattle.dc_check.specs.Stamps.{stamps_of};
-ghost use Rattle.dc_check.specs.Judges.{all_numbered, all_phased};
-ghost use Rattle.dc_check.specs.Phases.{SameItems, with_phases};
-ghost use Rattle.dc_check.specs.Judging.{RisesByActor, IsByPoint};
+ghost use Rattle.dc_check.specs.Judges.{AreByPoint, all_phased};
+ghost use Rattle.dc_check.specs.Phases.{with_phases};
+ghost use Rattle.dc_check.specs.Judging.{RisesByActor};
 
 use crate::stamp::{Numbered, Stamp};
 use dc_names::NoMemory;
@@ -62,10 +62,8 @@ pub fn by_point<'a>(
     stamps: &'a [Stamp],
     phases: &[u64],
 ) -> Result<Vec<Numbered<'a>>, NoMemory>
-    ensures stamps { IfOk result (λ sorted.
-        IsByPoint (stamps_of stamps.now) (all_numbered sorted.items)) }
-    ensures phased { IfOk result (λ sorted.
-        SameItems (with_phases phases.now (stamps_of stamps.now)) (all_phased sorted.items)) }
+    ensures { IfOk result (λ sorted.
+        AreByPoint phases.now (stamps_of stamps.now) sorted.items) }
 {
     let mut sorted = numbered(alloc, stamps, phases)?;
     sorted.sort_by_key(|numbered| numbered.stamp.at)?;

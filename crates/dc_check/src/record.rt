@@ -1,17 +1,17 @@
 //! A server's input and output as stamps.
 
 ghost use Rattle.std.specs.Prelude.{◌≡◌, IfOk, IfErr, map};
-ghost use Rattle.dc_lang.specs.Commands.{order_of};
 ghost use Rattle.dc_lang.specs.Inputs.{AllTell};
 ghost use Rattle.dc_lang.specs.Lines.{whole_lines};
 ghost use Rattle.dc_lang.specs.Responses.{response_of};
-ghost use Rattle.dc_check.specs.Records.{AreSessions, AreStamped, IsOutputFault, IsPairFault, IsRecord, IsRecordFault, from_input, served_orders, stamp_from};
-ghost use Rattle.dc_check.specs.Stamps.{stamp_of, stamps_of};
+ghost use Rattle.dc_check.specs.Records.{AreSessions, AreStampsOf, IsOutputFault, IsPairFault, IsRecord, IsRecordFault, IsStampOf, from_input, served_orders};
+ghost use Rattle.dc_check.specs.Stamps.{stamps_of};
 ghost use Rattle.dc_check.specs.declared.record.RecordFault.TheVariants.{NoMemory as NoMemoryFault};
 
 use crate::Stamp;
 use dc_lang::{
-    Command, InputFault, Served, base_after, call, read_lines, read_replies, serving_order,
+    Command, InputFault, SESSION_COUNT, Served, base_after, call, read_lines, read_replies,
+    serving_order,
 };
 use dc_names::NoMemory;
 use dc_plain::{OwnCall, Stamped};
@@ -102,8 +102,7 @@ fn read_output(
 
 /// The stamp of a command whose session starts at `base`.
 fn stamp(alloc: Global, command: &Command, base: u64, stamped: Stamped) -> Result<Stamp, NoMemory>
-    ensures { IfOk result (λ stamp. stamp_of stamp
-        ≡ stamp_from base (order_of command.now) (response_of (command.now.session, stamped))) }
+    ensures { IfOk result (IsStampOf base command.now stamped) }
 {
     let own = OwnCall::of(alloc, &call(command, base))?;
     let Stamped { reply, at } = stamped;
@@ -123,12 +122,11 @@ fn stamps_in(
     replies: Vec<(u64, Stamped)>,
 ) -> Result<Vec<Stamp>, RecordFault>
     requires { AreSessions (map response_of replies.items) }
-    ensures ok { IfOk result (λ stamps. AreStamped (served_orders served.now)
-        (map response_of replies.items) (stamps_of stamps.items)) }
+    ensures ok { IfOk result (λ stamps. AreStampsOf served.now replies.items stamps.items) }
     ensures err { IfErr result (IsPairFault (served_orders served.now)
         (map response_of replies.items)) }
 {
-    let mut bases = [1u64; 16];
+    let mut bases = [1u64; SESSION_COUNT];
     let mut left = VecDeque::from_vec(replies);
     let mut stamps = Vec::new(alloc);
     for one in served {

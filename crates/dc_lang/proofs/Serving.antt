@@ -1,8 +1,7 @@
 -- The commands of lines in the order in which they are served, one after the other.
-use Rattle.std.proofs.Common.{◌≡◌, ℕ, suc, ◌+◌, ◌<◌, Bool, true, false, cond, List, [], ◌∷◌, ◌++◌, ◌==◌, get_or, length, map, drop, take, refl, ap, sym, ◌∙◌, append_assoc, append-nil, drop-cons, add-one}
+use Rattle.std.proofs.Common.{◌≡◌, ℕ, suc, ◌+◌, ◌<◌, List, [], ◌∷◌, ◌++◌, ◌==◌, get_or, length, map, drop, take, refl, ap, sym, ◌∙◌, append_assoc, drop-cons, add-one}
 use Rattle.std.proofs.lemmas.List.{map-append, take_more}
 use Rattle.std.proofs.lemmas.List.Elements.{filter-append}
-use Rattle.std.specs.Borrow.{Bor}
 use Rattle.dc_lang.specs.declared.line.Line.{Line}
 use Rattle.dc_lang.specs.Commands.{Meaning, Order, meaning_of}
 use Rattle.dc_lang.specs.Commands.Meaning.{Sync, Orders}

@@ -1,6 +1,6 @@
 -- The lines of commands, and the calls that they ask for.
 use Rattle.std.specs.Prelude.{◌≡◌, ℕ, ◌<◌, Bool, true, false, if◌then◌else◌, is_some, unwrap_or, IsTrue, Option, List, [], ◌∷◌, map, length, slice_get, codes, decimal, Some, None}
-use Rattle.dc_lang.specs.Words.{spelled, spaced}
+use Rattle.dc_lang.specs.Words.{bytes_of, spelled, spaced}
 use Rattle.dc_lang.specs.declared.TheConstants.{SESSIONS}
 use Rattle.dc_lang.specs.declared.line.Verb.{Verb}
 use Rattle.dc_lang.specs.declared.line.Verb.TheVariants as verbs
@@ -125,8 +125,11 @@ request_from base order = asked base order order.verb
 
 -- what a command of the program stands for
 abbrev pub order_of : rust_command.Command → Order
-order_of command = record { session = command.session; verb = command.verb; words = map (λ word. word.items) command.words.items }
+order_of command = record { session = command.session; verb = command.verb; words = bytes_of command.words.items }
 
 abbrev pub meaning_of : rust_line.Line → Meaning
 meaning_of lines.Sync = Sync
 meaning_of (lines.Command command) = Orders (order_of command)
+
+abbrev pub said_by : List rust_line.Line → List Meaning
+said_by all = map meaning_of all

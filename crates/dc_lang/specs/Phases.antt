@@ -1,7 +1,8 @@
 -- The order in which commands are served: phase by phase, and in a phase session by session.
 use Rattle.std.specs.Prelude.{ℕ, zero, suc, ◌+◌, List, [], ◌∷◌, ◌++◌, Bool, true, false, ◌==◌, filter, map}
+use Rattle.std.specs.Borrow.{Bor}
 use Rattle.std.specs.List.{flat_map, slice_split}
-use Rattle.dc_lang.specs.Commands.{Order, Meaning, meaning_of}
+use Rattle.dc_lang.specs.Commands.{Order, Meaning, said_by}
 use Rattle.dc_lang.specs.Commands.Meaning.{Sync, Orders}
 use Rattle.dc_lang.specs.declared.TheConstants.{SESSIONS}
 use Rattle.dc_lang.specs.declared.line.Line.{Line}
@@ -26,10 +27,14 @@ of_session session orders = filter (λ order. order.session == session) orders
 
 -- the orders that lines have, and those of one session
 abbrev pub ordered : List Line → List Order
-ordered lines = orders_in (map meaning_of lines)
+ordered lines = orders_in (said_by lines)
 
 abbrev pub ordered_by : ℕ → List Line → List Order
 ordered_by session lines = of_session session (ordered lines)
+
+-- the orders that each of some parts has
+abbrev pub all_ordered : List (Bor (List Line)) → List (List Order)
+all_ordered parts = map (λ part. ordered part.now) parts
 
 -- the orders of the sessions below this one, by their sessions
 unfoldable pub of_sessions : ℕ → List Order → List Order

@@ -1,5 +1,5 @@
 -- Commands of the program as they are served.
-use Rattle.std.specs.Prelude.{ℕ, List, map}
+use Rattle.std.specs.Prelude.{◌≡◌, ℕ, List, ◌++◌, map}
 use Rattle.dc_lang.specs.Commands.{Order, order_of}
 use Rattle.dc_lang.specs.declared.input.Served as rust_served
 
@@ -13,3 +13,7 @@ served_of served = (served.phase, order_of served.command.now)
 
 abbrev pub all_served : List rust_served.Served → List (ℕ × Order)
 all_served served = map served_of served
+
+-- orders of a phase were added to what is served
+abbrev pub AddsServed : ℕ → List Order → (old new : List rust_served.Served) → Type 0
+AddsServed phase orders old new = all_served new ≡ all_served old ++ in_phase phase orders

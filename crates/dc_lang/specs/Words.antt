@@ -1,6 +1,10 @@
 -- How a word of a line is spelled, and words one after the other.
-use Rattle.std.specs.Prelude.{ℕ, List, [], ◌∷◌, ◌==◌, codes, if◌then◌else◌}
+use Rattle.std.specs.Prelude.{ℕ, List, [], ◌∷◌, ◌==◌, codes, if◌then◌else◌, map, Vec}
 use Rattle.std.specs.List.{flat_map, join_with_byte}
+
+-- the bytes of each of some words
+abbrev pub bytes_of : {Z : Type 0} → List (Vec ℕ Z) → List (List ℕ)
+bytes_of words = map (λ word. word.items) words
 
 -- a space, a newline and a backslash are written \s, \n and \\, every other byte stands for itself
 abbrev pub spelled_byte : ℕ → List ℕ

@@ -2,7 +2,7 @@
 
 ghost use Rattle.std.specs.Prelude.{◌≡◌};
 ghost use Rattle.dc_plain.specs.Requests.{request_of};
-ghost use Rattle.dc_plain.specs.Requests.Request.{Look};
+ghost use Rattle.dc_plain.specs.Requests.Request.{Look, Rename};
 ghost use Rattle.dc_lang.specs.Commands.{order_of, word_at, request_from};
 
 use crate::verb::flags_in;
@@ -31,6 +31,17 @@ fn look(base: u64, path: &[u8], follow: Follow) -> Call<'_>
     Call::Look { base, path, follow }
 }
 
+fn rename<'a>(base: u64, old: &'a [u8], new: &'a [u8], flags: Flags) -> Call<'a>
+    ensures { request_of result ≡ Rename base old.now new.now flags }
+{
+    Call::Rename {
+        base,
+        old,
+        new,
+        flags,
+    }
+}
+
 /// The call that a command makes from the directory with the number `base`.
 pub fn call(command: &Command, base: u64) -> Call<'_>
     ensures { request_of result ≡ request_from base (order_of command.now) }
@@ -54,18 +65,11 @@ pub fn call(command: &Command, base: u64) -> Call<'_>
         },
         Verb::Unlink => Call::Unlink { base, path },
         Verb::Rmdir => Call::Rmdir { base, path },
-        Verb::Rename => Call::Rename {
-            base,
-            old,
-            new,
-            flags: NEITHER,
-        },
-        Verb::Rename2 => Call::Rename {
-            base,
-            old: new,
-            new: word_at(command, 2),
+        Verb::Rename => rename(base, old, new, NEITHER),
+        Verb::Rename2 => {
             // A line that was read has one of the four.
-            flags: flags_in(old).unwrap_or(NEITHER),
-        },
+            let flags = flags_in(path).unwrap_or(NEITHER);
+            rename(base, new, word_at(command, 2), flags)
+        }
     }
 }

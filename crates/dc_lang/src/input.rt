@@ -1,14 +1,14 @@
 //! A whole input: its lines, the phases between those that say `sync`, the order in which its commands
 //! are served, and where a session starts.
 
-ghost use Rattle.std.specs.Prelude.{◌≡◌, ◌<◌, [], ◌∷◌, ◌++◌, IfOk, OnOk, IfErr, map, length};
+ghost use Rattle.std.specs.Prelude.{◌≡◌, ◌<◌, [], ◌∷◌, IfOk, OnOk, IfErr, map, length};
 ghost use Rattle.dc_plain.specs.Requests.{answer_of};
 ghost use Rattle.dc_lang.specs.Bases.{base_after};
-ghost use Rattle.dc_lang.specs.Commands.{Means, meaning_of};
+ghost use Rattle.dc_lang.specs.Commands.{Means, meaning_of, said_by};
 ghost use Rattle.dc_lang.specs.Inputs.{AllSay, IsLineFault, IsLinesFault};
 ghost use Rattle.dc_lang.specs.Lines.{lines_of, line_length};
-ghost use Rattle.dc_lang.specs.Phases.{by_session, is_sync, ordered, ordered_by, phases, served_from};
-ghost use Rattle.dc_lang.specs.Served.{all_served, in_phase};
+ghost use Rattle.dc_lang.specs.Phases.{all_ordered, by_session, is_sync, ordered, ordered_by, phases, served_from};
+ghost use Rattle.dc_lang.specs.Served.{AddsServed, all_served};
 
 use crate::{Command, InputFault, Line, LineFault, SESSIONS, Verb, read_line};
 use dc_names::NoMemory;
@@ -69,7 +69,7 @@ fn read_numbered(alloc: Global, number: u64, line: &[u8]) -> Result<Line, InputF
 /// What lines say.
 fn said_by_all(alloc: Global, lines: &[&[u8]]) -> Result<Vec<Line>, InputFault>
     ensures ok { IfOk result (λ said.
-        AllSay (map (λ line. line.now) lines.now) (map meaning_of said.items)) }
+        AllSay (map (λ line. line.now) lines.now) (said_by said.items)) }
     ensures err { IfErr result (IsLinesFault Means (map (λ line. line.now) lines.now)) }
 {
     let mut said = Vec::new(alloc);
@@ -81,7 +81,7 @@ fn said_by_all(alloc: Global, lines: &[&[u8]]) -> Result<Vec<Line>, InputFault>
 
 /// What the lines of an input say, of which the last may lack its newline.
 pub fn read_lines(alloc: Global, input: &[u8]) -> Result<Vec<Line>, InputFault>
-    ensures ok { IfOk result (λ said. AllSay (lines_of input.now) (map meaning_of said.items)) }
+    ensures ok { IfOk result (λ said. AllSay (lines_of input.now) (said_by said.items)) }
     // `BadLine` of the first line that says nothing.
     ensures err { IfErr result (IsLinesFault Means (lines_of input.now)) }
 {
@@ -98,7 +98,7 @@ fn is_sync(line: &Line) -> bool
 /// The lines between those that say `sync`.
 pub fn phases(alloc: Global, lines: &[Line]) -> Result<Vec<&[Line]>, AllocError>
     ensures { IfOk result (λ parts.
-        map (λ part. ordered part.now) parts.items ≡ phases (map meaning_of lines.now)) }
+        all_ordered parts.items ≡ phases (said_by lines.now)) }
 {
     lines.split(|line| is_sync(line)).collect(alloc)
 }
@@ -119,8 +119,8 @@ fn add_line<'a>(
     session: u64,
     line: &'a Line,
 ) -> Result<(), AllocError>
-    ensures { OnOk result (all_served out.new.items
-        ≡ all_served out.old.items ++ in_phase phase (ordered_by session (line.now ∷ []))) }
+    ensures { OnOk result (AddsServed phase (ordered_by session (line.now ∷ []))
+        out.old.items out.new.items) }
 {
     match line {
         Line::Command(command) if command.session == session => {
@@ -138,8 +138,8 @@ fn add_session<'a>(
     session: u64,
     lines: &'a [Line],
 ) -> Result<(), AllocError>
-    ensures { OnOk result (all_served out.new.items
-        ≡ all_served out.old.items ++ in_phase phase (ordered_by session lines.now)) }
+    ensures { OnOk result (AddsServed phase (ordered_by session lines.now)
+        out.old.items out.new.items) }
 {
     for line in lines {
         add_line(out, phase, session, line)?;
@@ -149,8 +149,8 @@ fn add_session<'a>(
 
 /// Adds the commands of a phase, session by session.
 fn add_phase<'a>(out: &mut Vec<Served<'a>>, phase: u64, lines: &'a [Line]) -> Result<(), AllocError>
-    ensures { OnOk result (all_served out.new.items
-        ≡ all_served out.old.items ++ in_phase phase (by_session (ordered lines.now))) }
+    ensures { OnOk result (AddsServed phase (by_session (ordered lines.now))
+        out.old.items out.new.items) }
 {
     for session in 0..SESSIONS {
         add_session(out, phase, session, lines)?;
@@ -162,7 +162,7 @@ fn add_phase<'a>(out: &mut Vec<Served<'a>>, phase: u64, lines: &'a [Line]) -> Re
 /// and line.
 pub fn serving_order(alloc: Global, lines: &[Line]) -> Result<Vec<Served<'_>>, NoMemory>
     ensures { IfOk result (λ served.
-        all_served served.items ≡ served_from 0 (phases (map meaning_of lines.now))) }
+        all_served served.items ≡ served_from 0 (phases (said_by lines.now))) }
 {
     let parts = phases(alloc, lines)?;
     let mut served = Vec::new(alloc);

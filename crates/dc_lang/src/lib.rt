@@ -28,5 +28,8 @@ pub use write::{write_command, write_line, write_reply};
 /// How many sessions there are: they are numbered from 0.
 pub const SESSIONS: u64 = 16;
 
+/// The same, as the length of an array.
+pub const SESSION_COUNT: usize = SESSIONS as usize;
+
 #[cfg(test)]
 mod tests;

@@ -3,6 +3,7 @@
 ghost use Rattle.std.specs.Prelude.{◌≡◌, ◌<◌, Some, None, IfOk, IfSome, IfNone, IsErrOf, map, length};
 ghost use Rattle.dc_lang.specs.Commands.{Meaning, Means, meaning_of, order_of};
 ghost use Rattle.dc_lang.specs.Reading.{Reads, escaped, with_first, bytes_in, word_in, words_in, session_in, order_in, parts, meaning_in};
+ghost use Rattle.dc_lang.specs.Words.{bytes_of};
 
 use crate::verb::{flags_stand, verb_in};
 use crate::{Command, Line, LineFault};
@@ -64,7 +65,7 @@ pub(crate) fn word_in(alloc: Global, text: &[u8]) -> Result<Vec<u8>, LineFault>
 }
 
 pub(crate) fn words_in(alloc: Global, texts: &[&[u8]]) -> Result<Vec<Vec<u8>>, LineFault>
-    ensures { Reads (λ words. map (λ word. word.items) words.items) result
+    ensures { Reads (λ words. bytes_of words.items) result
         (words_in (map (λ text. text.now) texts.now)) }
 {
     let mut words = Vec::new(alloc);

@@ -1,8 +1,9 @@
 //! The texts of verbs, and how many words follow each.
 
-ghost use Rattle.std.specs.Prelude.{◌≡◌, map};
+ghost use Rattle.std.specs.Prelude.{◌≡◌};
 ghost use Rattle.dc_lang.specs.Commands.{flags_in, flags_stand, verb_text, word_count};
 ghost use Rattle.dc_lang.specs.Reading.{verb_in};
+ghost use Rattle.dc_lang.specs.Words.{bytes_of};
 
 use crate::Verb;
 use dc_plain::Flags;
@@ -94,7 +95,7 @@ pub(crate) fn flags_in(word: &[u8]) -> Option<Flags>
 
 /// Whether the first word is flags, where the verb takes them.
 pub(crate) fn flags_stand(verb: Verb, words: &[Vec<u8>]) -> bool
-    ensures { result ≡ flags_stand verb (map (λ word. word.items) words.now) }
+    ensures { result ≡ flags_stand verb (bytes_of words.now) }
 {
     if verb != Verb::Rename2 {
         return true;

@@ -3,11 +3,11 @@
 ghost use Rattle.std.specs.Prelude.{◌≡◌, ◌∷◌, ◌++◌, IfOk, OnOk, map};
 ghost use Rattle.dc_plain.specs.Requests.{answer_of};
 ghost use Rattle.dc_plain.specs.Requests.Answer.{Bytes, Names};
-ghost use Rattle.dc_lang.specs.Words.{spelled, spelled_byte};
+ghost use Rattle.dc_lang.specs.Words.{bytes_of, spelled, spelled_byte};
 ghost use Rattle.dc_lang.specs.Commands.{order_of, line_text, meaning_of};
 ghost use Rattle.dc_lang.specs.Commands.Meaning.{Orders};
-ghost use Rattle.dc_lang.specs.Replies.{kind_text, answer_words, reply_text};
-ghost use Rattle.dc_lang.specs.Writing.{behind_spaces};
+ghost use Rattle.dc_lang.specs.Replies.{kind_text, reply_text};
+ghost use Rattle.dc_lang.specs.Writing.{answer_text, behind_spaces};
 
 use crate::{Command, Line};
 use dc_names::{Kind, NoMemory};
@@ -52,7 +52,7 @@ fn push_word(out: &mut Vec<u8>, word: &[u8]) -> Result<(), AllocError>
 /// Adds words, each behind a space.
 fn push_words(out: &mut Vec<u8>, words: &[Vec<u8>]) -> Result<(), AllocError>
     ensures { OnOk result (out.new.items
-        ≡ out.old.items ++ behind_spaces (map spelled (map (λ word. word.items) words.now))) }
+        ≡ out.old.items ++ behind_spaces (map spelled (bytes_of words.now))) }
 {
     for word in words {
         push_word(out, word)?;
@@ -62,8 +62,7 @@ fn push_words(out: &mut Vec<u8>, words: &[Vec<u8>]) -> Result<(), AllocError>
 
 fn push_names(out: &mut Vec<u8>, names: &[Vec<u8>]) -> Result<(), AllocError>
     ensures { OnOk result (out.new.items
-        ≡ out.old.items
-        ++ behind_spaces (answer_words (Names (map (λ name. name.items) names.now)))) }
+        ≡ out.old.items ++ answer_text (Names (bytes_of names.now))) }
 {
     out.extend_from_slice(b" names")?;
     push_words(out, names)
@@ -71,7 +70,7 @@ fn push_names(out: &mut Vec<u8>, names: &[Vec<u8>]) -> Result<(), AllocError>
 
 fn push_text(out: &mut Vec<u8>, text: &[u8]) -> Result<(), AllocError>
     ensures { OnOk result (out.new.items
-        ≡ out.old.items ++ behind_spaces (answer_words (Bytes text.now))) }
+        ≡ out.old.items ++ answer_text (Bytes text.now)) }
 {
     out.extend_from_slice(b" text")?;
     push_word(out, text)
@@ -80,7 +79,7 @@ fn push_text(out: &mut Vec<u8>, text: &[u8]) -> Result<(), AllocError>
 /// Adds the words of a reply, each behind a space.
 fn push_answer(alloc: Global, out: &mut Vec<u8>, reply: &Reply) -> Result<(), AllocError>
     ensures { OnOk result (out.new.items
-        ≡ out.old.items ++ behind_spaces (answer_words (answer_of reply.now))) }
+        ≡ out.old.items ++ answer_text (answer_of reply.now)) }
 {
     let text = match reply {
         Reply::Text(text) => return push_text(out, text),

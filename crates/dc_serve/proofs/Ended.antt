@@ -1,5 +1,5 @@
 -- How serving ends.
-use Rattle.std.proofs.Common.{ap, arith, ◌≡◌, ◌≢◌, ℕ, zero, suc, List, [], ◌∷◌, ◌++◌, length, take, take_all, le_refl, Option, Some, None, refl, sym, subst, inr, true≢false}
+use Rattle.std.proofs.Common.{ap, arith, ◌≡◌, ◌∙◌, Bool, true, false, ℕ, zero, suc, List, [], ◌∷◌, ◌++◌, length, take, take_all, le_refl, Option, Some, None, refl, sym, subst, inr, true≢false}
 use Rattle.std.specs.Prelude.{Result, Ok, Err, IfErr, IfSome, IsSome, OnOk}
 use mathlib.Core.Option.{some, some-injective, some-ne-none}
 use lib.ListN.{get_elem?}
@@ -13,17 +13,18 @@ use Rattle.dc_lang.specs.Commands.{Order, Meaning}
 use Rattle.dc_lang.specs.declared.TheConstants.{SESSIONS}
 use Rattle.dc_plain.specs.Trees.{Tree}
 use Rattle.dc_table.specs.Ends.{Ends}
-use Rattle.dc_table.specs.Shares.{IsWhole, Known}
+use Rattle.dc_table.specs.Shares.{IsWhole, Known, first_known}
 use Rattle.dc_events.specs.declared.sizes.MakeFault.{MakeFault}
 use Rattle.dc_events.specs.declared.sizes.MakeFault.TheVariants as makings
 use Rattle.dc_serve.specs.Bytes.{AppendsFront}
-use Rattle.dc_serve.specs.Endings.{Answers, AnswersPlainly, EndsBy, Serves, ServesFront, Streams, Understood}
+use Rattle.dc_serve.specs.Endings.{Answers, AnswersFront, AnswersPlainly, EndsBy, Serves, ServesFront, Streams, Understood}
 use Rattle.dc_serve.specs.Faults.{from_making}
 use Rattle.dc_lang.specs.Phases.{phases}
 use Rattle.dc_serve.specs.Rounds.{StopsBy, Wrote}
 use Rattle.dc_serve.specs.Turns.{IsRun, strands}
 use Rattle.dc_serve.specs.declared.fault.ServeFault.{ServeFault}
 use Rattle.dc_serve.specs.declared.fault.ServeFault.TheVariants.{BadSize, Read, BadLine, NoMemory, Spent, Write}
+use Rattle.dc_serve.proofs.BytesLemmas.{front_whole}
 use Rattle.dc_serve.proofs.Clocks.{never_spent}
 use Rattle.dc_serve.proofs.Counts.{history_short}
 use Rattle.dc_serve.proofs.Legals.{found, is_run}
@@ -87,15 +88,16 @@ serving_ends limit streams said Spent good is = never_spent good.input said good
 serving_ends limit streams said Write good is = record { said = said; understood = good; count = is.0; served = is.1 }
 
 -- where sizes are right, a cache isn't made for want of memory alone
-pub not_made : (P : ServeFault → Type 0) (why : MakeFault) (fault : ServeFault) → why ≢ makings.BadSize → fault ≡ from_making why → P NoMemory → P fault
-not_made P makings.BadSize fault right is none = absurd (right refl)
-not_made P makings.NoMemory fault right is none = subst P (sym is) none
+pub unmade : {A : Type 0} (limit : ℕ) (phases : List (List Order)) (old : Option (List ℕ)) (right : Bool) (made : Result A MakeFault) (why : MakeFault) → right ≡ true → (made ≡ Err makings.BadSize → right ≡ false)
+    → made ≡ Err why → (fault : ServeFault) → fault ≡ from_making why → ServesFront limit phases old old fault
+unmade limit phases old right made makings.BadSize is wrong was fault from = absurd (true≢false (sym is ∙ wrong was))
+unmade limit phases old right made makings.NoMemory is wrong was fault from = subst (ServesFront limit phases old old) (sym from) (nothing_served limit phases old)
 
 -- a pass with the whole share closes the cache
 abbrev pub Closes : Known → Option Ended → Type 0
 Closes k ended = IfSome ended (λ e. Ends k.share.limit k e.store e.clock) × (IsWhole k.share → IsSome ended)
 
-pub closed_ok : RecordsAreLegal → (limit : ℕ) (phases : List (List Order)) (old new : Option (List ℕ)) (k : Known) (result : Result (Unit {0}) ServeFault) (ended : Option Ended) → Closes k ended
+closed_ok : RecordsAreLegal → (limit : ℕ) (phases : List (List Order)) (old new : Option (List ℕ)) (k : Known) (result : Result (Unit {0}) ServeFault) (ended : Option Ended) → Closes k ended
     → OnOk result (Wrote limit phases (Appends old new) k) → OnOk result (Serves limit phases (Appends old new))
 closed_ok legal limit phases old new k (Err fault) ended closes wrote = tt
 closed_ok legal limit phases old new k (Ok x) (Some e) closes wrote = served legal limit phases (Appends old new) k closes.0 wrote
@@ -109,13 +111,29 @@ stops_whole limit phases old new k NoMemory stops = stops.1.holds.whole
 stops_whole limit phases old new k Spent stops = stops.whole
 stops_whole limit phases old new k Write stops = stops.1.holds.whole
 
-pub closed_err : RecordsAreLegal → (limit : ℕ) (phases : List (List Order)) (old new : Option (List ℕ)) (k : Known) (result : Result (Unit {0}) ServeFault) (ended : Option Ended) → Closes k ended
+closed_err : RecordsAreLegal → (limit : ℕ) (phases : List (List Order)) (old new : Option (List ℕ)) (k : Known) (result : Result (Unit {0}) ServeFault) (ended : Option Ended) → Closes k ended
     → IfErr result (StopsBy limit phases old new k) → IfErr result (ServesFront limit phases old new)
 closed_err legal limit phases old new k (Ok x) ended closes stops = tt
 closed_err legal limit phases old new k (Err fault) (Some e) closes stops = front_served legal limit phases old new k fault closes.0 stops
 closed_err legal limit phases old new k (Err fault) None closes stops = absurd (true≢false (sym (closes.1 (stops_whole limit phases old new k fault stops))))
 
-pub take_every : (phases : List (List Order)) → take (length phases) phases ≡ phases
+-- what is known of phases that were served once the cache is closed
+pub record Closed (limit : ℕ) (phases : List (List Order)) (old new : Option (List ℕ)) (result : Result (Unit {0}) ServeFault) : Type 0 where
+  pub ok : OnOk result (Serves limit phases (Appends old new))
+  pub err : IfErr result (ServesFront limit phases old new)
+
+pub closed : RecordsAreLegal → (limit rows : ℕ) (phases parts : List (List Order)) (old new : Option (List ℕ)) (first last : Known) (result : Result (Unit {0}) ServeFault) (ended : Option Ended) → first ≡ first_known limit rows
+    → parts ≡ phases → Closes last ended → OnOk result (Wrote first.share.limit parts (Appends old new) last) → IfErr result (StopsBy first.share.limit parts old new last) → Closed limit phases old new result
+closed legal limit rows phases parts old new first last result ended made are closes wrote stops =
+    let is : first.share.limit ≡ limit = ap (λ (k : Known). k.share.limit) made in
+    record {
+      ok = closed_ok legal limit phases old new last result ended closes
+          (subst (λ (n : ℕ). OnOk result (Wrote n phases (Appends old new) last)) is (subst (λ (l : List (List Order)). OnOk result (Wrote first.share.limit l (Appends old new) last)) are wrote));
+      err = closed_err legal limit phases old new last result ended closes
+          (subst (λ (n : ℕ). IfErr result (StopsBy n phases old new last)) is (subst (λ (l : List (List Order)). IfErr result (StopsBy first.share.limit l old new last)) are stops));
+    }
+
+take_every : (phases : List (List Order)) → take (length phases) phases ≡ phases
 take_every phases = take_all (length phases) phases (le_refl (length phases))
 
 -- phases in which sessions take turns are answered plainly
@@ -125,3 +143,14 @@ plainly limit streams a = record {
   understood = a.understood;
   plain = λ wise. subst (Appends streams.old streams.new) (a.served.plain wise) a.served.written;
 }
+
+-- all was written, and then the flush failed
+pub unflushed : (limit : ℕ) (streams : Streams) → Answers limit streams → AnswersFront limit streams
+unflushed limit streams a =
+    let front : Serves limit (phases a.said) (AppendsFront streams.old streams.new) = record { turns = a.served.turns; run = a.served.run; plain = a.served.plain; written = front_whole _ _ _ a.served.written } in
+    record {
+      said = a.said;
+      understood = a.understood;
+      count = length (phases a.said);
+      served = subst (λ (l : List (List Order)). Serves limit l (AppendsFront streams.old streams.new)) (sym (take_every (phases a.said))) front;
+    }

@@ -1,5 +1,5 @@
 -- The items of lists.
-use Rattle.std.proofs.Common.{◌≡◌, ℕ, zero, suc, ◌<◌, List, [], ◌∷◌, ◌++◌, length, map, inl, inr, arith, refl}
+use Rattle.std.proofs.Common.{◌≡◌, zero, suc, List, [], ◌∷◌, ◌++◌, map, inl, inr, arith, refl}
 use Rattle.std.specs.Prelude.{Contains, ◌⊎◌}
 
 abbrev pub Has : {A : Type 0} → List A → A → Type 0

@@ -6,6 +6,7 @@ pub mod Ended
 pub mod Forks
 pub mod Hits
 pub mod Legals
+pub mod LineByLine
 pub mod Orders
 pub mod Phased
 pub mod Rounds

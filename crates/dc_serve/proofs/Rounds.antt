@@ -1,5 +1,5 @@
 -- One more phase.
-use Rattle.std.proofs.Common.{drop, ◌≡◌, ℕ, ◌+◌, ◌<◌, ◌≤◌, List, [], ◌∷◌, ◌++◌, get_or, length, map, take, Option, Some, None, ap, ap₂, sym, ◌∙◌, subst, arith, le_refl}
+use Rattle.std.proofs.Common.{drop, ◌≡◌, ℕ, ◌+◌, ◌<◌, ◌≤◌, List, [], ◌∷◌, ◌++◌, get_or, length, take, Option, Some, None, ap, ap₂, sym, ◌∙◌, subst, arith, le_refl}
 use Rattle.std.proofs.lemmas.List.{append-nil, get_or-map, length-append, length-map, map-append, take-append-drop, take_more}
 use Rattle.std.proofs.lemmas.List.Concat.{flat_map-append}
 use Rattle.std.specs.Borrow.{Bor}
@@ -11,7 +11,7 @@ use Rattle.dc_lang.specs.declared.line.Line.{Line}
 use Rattle.dc_lang.specs.Commands.{Order}
 use Rattle.dc_table.specs.Shares.{Known}
 use Rattle.dc_serve.specs.Bytes.{AppendsFront, IsServiceFault, WritesFront}
-use Rattle.dc_lang.specs.Phases.{by_session, in_order, ordered}
+use Rattle.dc_lang.specs.Phases.{all_ordered, by_session, in_order, ordered}
 use Rattle.dc_serve.specs.Rounds.{Goes, Holds, Rounds, StopsBy}
 use Rattle.dc_lang.specs.Bases.{first_bases}
 use Rattle.dc_serve.specs.Sessions.{Between, ObeyedBelow, SameShare, TookInSome, outcome, present, size}
@@ -69,15 +69,15 @@ holds_past limit phases turns k l holds same took =
       whole = whole_same k.share l.share holds.whole same;
     }
 
--- the orders of a borrowed phase
-abbrev pub phase_orders : Bor (List Line) → List Order
+abbrev phase_orders : Bor (List Line) → List Order
 phase_orders phase = ordered phase.now
 
-pub next_phase : (phases : List (Bor (List Line))) (i : ℕ) (phase : Bor (List Line)) → i < length phases → phase ≡ get_or phases i phase
-    → take (i + 1) (map phase_orders phases) ≡ take i (map phase_orders phases) ++ phase_orders phase ∷ []
+-- the parts so far, and one more
+next_phase : (phases : List (Bor (List Line))) (i : ℕ) (phase : Bor (List Line)) → i < length phases → phase ≡ get_or phases i phase
+    → take (i + 1) (all_ordered phases) ≡ take i (all_ordered phases) ++ ordered phase.now ∷ []
 next_phase phases i phase within is =
-    take_more (map phase_orders phases) i [] (subst (λ (n : ℕ). i < n) (sym (length-map phases phase_orders)) within)
-    ∙ ap (λ o. take i (map phase_orders phases) ++ o ∷ []) (get_or-map phase_orders phases i phase [] within ∙ ap phase_orders (sym is))
+    take_more (all_ordered phases) i [] (subst (λ (n : ℕ). i < n) (sym (length-map phases phase_orders)) within)
+    ∙ ap (λ o. take i (all_ordered phases) ++ o ∷ []) (get_or-map phase_orders phases i phase [] within ∙ ap phase_orders (sym is))
 
 pub none_written : (old : Option (List ℕ)) → Appends old old []
 none_written None = tt
@@ -111,7 +111,7 @@ pub record Phase (k l : Known) (orders : List Order) : Type 0 where
   pub same : SameShare k.share l.share
   pub took : TookInSome (length (by_session orders)) k.view.book l.view.book
 
-pub goes_more : (limit : ℕ) (bases bases' : List ℕ) (phases : List (List Order)) (orders : List Order) (old mid new : Option (List ℕ)) (k l : Known) (text : List ℕ) → Goes limit bases phases old mid k
+goes_more : (limit : ℕ) (bases bases' : List ℕ) (phases : List (List Order)) (orders : List Order) (old mid new : Option (List ℕ)) (k l : Known) (text : List ℕ) → Goes limit bases phases old mid k
     → Phase k l orders → ObeyedBelow k.view.book bases SESSIONS orders (outcome text bases') l.view.book → Appends mid new text → Goes limit bases' (phases ++ orders ∷ []) old new l
 goes_more limit bases bases' phases orders old mid new k l text so_far phase f appends =
     let next = holds_more limit bases bases' phases orders so_far.turns k l text so_far.holds so_far.last phase.same phase.took f in
@@ -123,7 +123,7 @@ goes_more limit bases bases' phases orders old mid new k l text so_far phase f a
       written = subst (Appends old new) (sym (text_next so_far.turns f.turns)) (appends_both old mid new (text_of (all_of so_far.turns)) (text_of f.turns) so_far.written (subst (Appends mid new) f.told appends));
     }
 
-pub goes_stops : (limit : ℕ) (bases : List ℕ) (phases : List (List Order)) (i : ℕ) (orders : List Order) (old new : Option (List ℕ)) (k l : Known) (fault : ServeFault) → Goes limit bases (take i phases) old new k
+goes_stops : (limit : ℕ) (bases : List ℕ) (phases : List (List Order)) (i : ℕ) (orders : List Order) (old new : Option (List ℕ)) (k l : Known) (fault : ServeFault) → Goes limit bases (take i phases) old new k
     → Phase k l orders → take (i + 1) phases ≡ take i phases ++ orders ∷ [] → IsServiceFault l.view.book.seen fault → StopsBy limit phases old new l fault
 goes_stops limit bases phases i orders old new k l BadSize g phase next is = absurd is
 goes_stops limit bases phases i orders old new k l Read g phase next is = absurd is
@@ -145,7 +145,7 @@ goes_stops limit bases phases i orders old new k l Spent g phase next is =
     }
 goes_stops limit bases phases i orders old new k l Write g phase next is = absurd is
 
-pub goes_fails : (limit : ℕ) (bases bases' : List ℕ) (phases : List (List Order)) (i : ℕ) (orders : List Order) (old mid new : Option (List ℕ)) (k l : Known) (text : List ℕ) (fault : ServeFault)
+goes_fails : (limit : ℕ) (bases bases' : List ℕ) (phases : List (List Order)) (i : ℕ) (orders : List Order) (old mid new : Option (List ℕ)) (k l : Known) (text : List ℕ) (fault : ServeFault)
     → Goes limit bases (take i phases) old mid k → Phase k l orders → ObeyedBelow k.view.book bases SESSIONS orders (outcome text bases') l.view.book → take (i + 1) phases ≡ take i phases ++ orders ∷ []
     → WritesFront mid new text fault → StopsBy limit phases old new l fault
 goes_fails limit bases bases' phases i orders old mid new k l text BadSize g phase f next fails = absurd fails
@@ -166,3 +166,27 @@ goes_fails limit bases bases' phases i orders old mid new k l text Write g phase
             subst (AppendsFront old new) (ap (λ t. text_of (all_of g.turns) ++ t) (append-nil (text_of f.turns)) ∙ sym (text_next g.turns f.turns)) front;
       },
     )
+
+-- a phase is the next of the parts of an input
+pub record IsNext (parts : List (Bor (List Line))) (i : ℕ) (part : Bor (List Line)) : Type 0 where
+  pub within : i < length parts
+  pub is : part ≡ get_or parts i part
+
+-- the parts so far were served, and the next one, whose replies were written
+pub part_more : (limit : ℕ) (bases bases' : List ℕ) (parts : List (Bor (List Line))) (i : ℕ) (part : Bor (List Line)) (old mid new : Option (List ℕ)) (k l : Known) (text : List ℕ) → IsNext parts i part → Goes limit bases (take i (all_ordered parts)) old mid k
+    → Phase k l (ordered part.now) → ObeyedBelow k.view.book bases SESSIONS (ordered part.now) (outcome text bases') l.view.book → Appends mid new text → Goes limit bases' (take (i + 1) (all_ordered parts)) old new l
+part_more limit bases bases' parts i part old mid new k l text next so_far phase f appends =
+    subst (λ (os : List (List Order)). Goes limit bases' os old new l) (sym (next_phase parts i part next.within next.is))
+    (goes_more limit bases bases' (take i (all_ordered parts)) (ordered part.now) old mid new k l text so_far phase f appends)
+
+-- and of the next one some calls were made before a fault
+pub part_stops : (limit : ℕ) (bases : List ℕ) (parts : List (Bor (List Line))) (i : ℕ) (part : Bor (List Line)) (old new : Option (List ℕ)) (k l : Known) (fault : ServeFault) → IsNext parts i part → Goes limit bases (take i (all_ordered parts)) old new k
+    → Phase k l (ordered part.now) → IsServiceFault l.view.book.seen fault → StopsBy limit (all_ordered parts) old new l fault
+part_stops limit bases parts i part old new k l fault next so_far phase is =
+    goes_stops limit bases (all_ordered parts) i (ordered part.now) old new k l fault so_far phase (next_phase parts i part next.within next.is) is
+
+-- and the next one, of whose replies a front was written
+pub part_fails : (limit : ℕ) (bases bases' : List ℕ) (parts : List (Bor (List Line))) (i : ℕ) (part : Bor (List Line)) (old mid new : Option (List ℕ)) (k l : Known) (text : List ℕ) (fault : ServeFault) → IsNext parts i part → Goes limit bases (take i (all_ordered parts)) old mid k
+    → Phase k l (ordered part.now) → ObeyedBelow k.view.book bases SESSIONS (ordered part.now) (outcome text bases') l.view.book → WritesFront mid new text fault → StopsBy limit (all_ordered parts) old new l fault
+part_fails limit bases bases' parts i part old mid new k l text fault next so_far phase f fails =
+    goes_fails limit bases bases' (all_ordered parts) i (ordered part.now) old mid new k l text fault so_far phase f (next_phase parts i part next.within next.is) fails

@@ -4,6 +4,7 @@ pub mod CommandLine
 pub mod Endings
 pub mod Faults
 pub mod Rounds
+pub mod Served
 pub mod Serving
 pub mod Sessions
 pub mod Statuses

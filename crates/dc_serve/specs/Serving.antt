@@ -1,8 +1,8 @@
 -- The plain server: it answers commands one after the other, with no cache and no threads.
-use Rattle.std.specs.Prelude.{ℕ, List, [], ◌∷◌, ◌++◌, slice_index}
+use Rattle.std.specs.Prelude.{◌≡◌, ℕ, List, [], ◌∷◌, ◌++◌, slice_index}
 use Rattle.dc_plain.specs.Trees.{Tree, empty_tree}
 use Rattle.dc_plain.specs.Requests.{Request, Answer}
-use Rattle.dc_plain.specs.Runs.{reply_of, tree_after, clock_after}
+use Rattle.dc_plain.specs.Runs.{reply_of, replies_of, tree_after, tree_after_all, clock_after}
 use Rattle.dc_lang.specs.Bases.{bases_after, first_bases}
 use Rattle.dc_lang.specs.Commands.{Order, request_from}
 use Rattle.dc_lang.specs.Replies.{reply_text}
@@ -61,3 +61,10 @@ answers_in state (order ∷ orders) = answer_in state order ∷ answers_in (afte
 abbrev pub after_all : State → List Order → State
 after_all state [] = state
 after_all state (order ∷ orders) = after_all (after state order) orders
+
+-- the answers are those of a run of the plain tree, and it leaves the same tree
+abbrev pub AnswersAreOfARun : Type 0
+AnswersAreOfARun = (state : State) (orders : List Order) → answers_in state orders ≡ replies_of state.limit state.tree (requests_in state orders)
+
+abbrev pub TreeIsOfARun : Type 0
+TreeIsOfARun = (state : State) (orders : List Order) → (after_all state orders).tree ≡ tree_after_all state.limit state.tree (requests_in state orders)

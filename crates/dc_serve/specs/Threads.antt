@@ -1,5 +1,5 @@
 -- What a session's thread gives back.
-use Rattle.std.specs.Prelude.{◌≡◌, ℕ, Bool, false, List, [], ◌++◌, ◌==◌, length, map, slice_set, IfOk, IfErr, Result}
+use Rattle.std.specs.Prelude.{◌≡◌, ℕ, Bool, false, List, [], ◌++◌, ◌==◌, length, slice_set, IfOk, IfErr, Result}
 use Rattle.dc_cache.specs.Passes.{Fits, share, view}
 use Rattle.dc_cache.specs.declared.cache.Dcache.{Dcache}
 use Rattle.dc_cache.specs.declared.cache.Pass.{Pass}
@@ -9,9 +9,7 @@ use Rattle.dc_lang.specs.Commands.Meaning.{Sync, Orders}
 use Rattle.dc_serve.specs.Bytes.{IsServiceFault}
 use Rattle.dc_serve.specs.Sessions.{Obeyed, Outcome, Progress, RecordedSome, outcome, progress}
 use Rattle.dc_serve.specs.declared.fault.ServeFault.{ServeFault}
-use Rattle.std.specs.Borrow.{Bor}
-use Rattle.dc_lang.specs.declared.line.Line.{Line}
-use Rattle.dc_lang.specs.Phases.{ordered, ordered_by}
+use Rattle.dc_lang.specs.Phases.{ordered_by}
 use Rattle.dc_serve.specs.declared.phase.Handed.{Handed}
 use Rattle.dc_serve.specs.declared.phase.PhaseReplies.{PhaseReplies}
 use Rattle.dc_serve.specs.declared.session.SessionReplies.{SessionReplies}
@@ -20,20 +18,24 @@ use Rattle.dc_serve.specs.declared.session.SessionReplies.{SessionReplies}
 abbrev pub book : Pass → Book
 book p = (view p).book
 
+-- what the program holds of a session and of a phase
+abbrev pub progress_of : SessionReplies → Progress
+progress_of replies = progress replies.text.items replies.base
+
+abbrev pub outcome_of : PhaseReplies → Outcome
+outcome_of replies = outcome replies.text.items replies.bases
+
 -- the pass that was handed over, with the answers to the session's orders, or to some and then a fault
 pub record GaveBack (cache : Dcache) (p : Pass) (base : ℕ) (orders : List Order) (q : Pass) (replies : Result SessionReplies ServeFault) : Type 0 where
   pub fits : Fits cache q
   pub same_share : share q ≡ share p
   pub recorded : RecordedSome (length orders) (book p) (book q)
-  pub ok : IfOk replies (λ r. Obeyed (book p) (progress [] base) orders (progress r.text.items r.base) (book q))
+  pub ok : IfOk replies (λ r. Obeyed (book p) (progress [] base) orders (progress_of r) (book q))
   pub err : IfErr replies (IsServiceFault (book q).seen)
 
--- what a thread was handed is this
-pub record IsHanded (cache : Dcache) (p : Pass) (base : ℕ) (orders : List Order) (h : Handed) : Type 0 where
-  pub cache_is : h.cache.now ≡ cache
-  pub pass_is : h.pass.value ≡ p
-  pub base_is : h.base ≡ base
-  pub orders_are : ordered_by h.session h.lines.now ≡ orders
+-- what comes back for what a thread was handed
+abbrev pub Returns : Handed → Pass × Result SessionReplies ServeFault → Type 0
+Returns handed back = GaveBack handed.cache.now handed.pass.value handed.base (ordered_by handed.session handed.lines.now) back.0 back.1
 
 -- the replies of some sessions with those of one more
 pub record Adds (front : PhaseReplies) (session : ℕ) (last : SessionReplies) (all : PhaseReplies) : Type 0 where
@@ -44,14 +46,3 @@ pub record Adds (front : PhaseReplies) (session : ℕ) (last : SessionReplies) (
 abbrev pub is_order_of : ℕ → Meaning → Bool
 is_order_of session Sync = false
 is_order_of session (Orders order) = order.session == session
-
--- what the program holds of a session and of a phase
-abbrev pub progress_of : SessionReplies → Progress
-progress_of replies = progress replies.text.items replies.base
-
-abbrev pub outcome_of : PhaseReplies → Outcome
-outcome_of replies = outcome replies.text.items replies.bases
-
--- the orders of each phase
-abbrev pub all_ordered : List (Bor (List Line)) → List (List Order)
-all_ordered phases = map (λ phase. ordered phase.now) phases

@@ -1,20 +1,21 @@
 //! How a phase is served: each session that has lines in a thread of its own, with a pass of its own.
 
-ghost use Rattle.std.specs.Prelude.{◌≡◌, ◌≤◌, ◌<◌, ◌⊎◌, true, false, [], length, IfOk, IfErr, IsOkAnd, IsErrOf};
+ghost use Rattle.std.specs.Prelude.{◌≡◌, ◌≤◌, ◌<◌, ◌⊎◌, true, false, [], length, IfOk, IfErr, IsErrOf};
 ghost use Rattle.std.specs.Thread.{IsSync};
 ghost use Rattle.dc_cache.specs.Passes.{known, share, Fits};
 ghost use Rattle.dc_lang.specs.Commands.{meaning_of};
 ghost use Rattle.dc_serve.specs.Bytes.{IsServiceFault};
 ghost use Rattle.dc_lang.specs.Phases.{by_session, of_sessions, ordered, ordered_by};
-ghost use Rattle.dc_serve.specs.Sessions.{ObeyedBelow, SameShare, TookInSome};
-ghost use Rattle.dc_serve.specs.Threads.{Adds, GaveBack, IsHanded, book, is_order_of, outcome_of};
+ghost use Rattle.dc_serve.specs.Served.{AddsBoth, ObeysBelow};
+ghost use Rattle.dc_serve.specs.Sessions.{SameShare, TookInSome};
+ghost use Rattle.dc_serve.specs.Threads.{GaveBack, Returns, book, is_order_of};
 ghost use Rattle.dc_table.specs.Shares.{both};
 ghost use Rattle.dc_serve.specs.declared.fault.ServeFault.TheVariants.{NoMemory};
 
 use crate::session::{Phase, SessionReplies};
 use crate::{Gate, ServeFault};
 use dc_cache::{Dcache, Pass};
-use dc_lang::{Line, SESSIONS};
+use dc_lang::{Line, SESSION_COUNT, SESSIONS};
 use std::alloc::Global;
 use std::snapshot::Snapshot;
 use std::sync::Wait;
@@ -26,13 +27,13 @@ use std::thread::{Promise, PromisedHandle, Scope, Threads};
 #[derive(Drop)]
 pub struct PhaseReplies {
     pub text: Vec<u8>,
-    pub bases: [u64; 16],
+    pub bases: [u64; SESSION_COUNT],
 }
 
 /// The pass that a session was served with, and what the session was answered.
 type Back = (Pass, Result<SessionReplies, ServeFault>);
 
-/// What a session's thread is handed, and so what it gives back.
+/// What a session's thread is handed: it serves these lines of the session, which starts at `base`.
 #[derive(Drop)]
 pub struct Handed<'a> {
     pub cache: &'a Dcache,
@@ -43,8 +44,7 @@ pub struct Handed<'a> {
 }
 
 impl<'a> Promise<Back> for Handed<'a> {
-    ghost kept_by = { λ p r. GaveBack p.cache.now p.pass.value p.base
-        (ordered_by p.session p.lines.now) r.0 r.1 };
+    ghost kept_by = { Returns };
 }
 
 fn is_of(session: u64, line: &Line) -> bool
@@ -76,8 +76,7 @@ fn with_session(
     told: Result<SessionReplies, ServeFault>,
 ) -> Result<PhaseReplies, ServeFault>
     requires { session < SESSIONS }
-    ensures ok { IfOk result (λ all. IsOkAnd others (λ front.
-        IsOkAnd told (λ last. Adds front session last all))) }
+    ensures ok { IfOk result (AddsBoth others session told) }
     ensures err { IfErr result (λ fault.
         (fault ≡ NoMemory) ⊎ (IsErrOf others fault ⊎ IsErrOf told fault)) }
 {
@@ -100,8 +99,7 @@ fn take_in(
     requires session { session < SESSIONS }
     ensures pass { Fits cache.now result.0
         × (known result.0 ≡ both (known pass) (known back.0)) }
-    ensures ok { IfOk result.1 (λ all. IsOkAnd others (λ front.
-        IsOkAnd back.1 (λ last. Adds front session last all))) }
+    ensures ok { IfOk result.1 (AddsBoth others session back.1) }
     ensures err { IfErr result.1 (λ fault.
         (fault ≡ NoMemory) ⊎ (IsErrOf others fault ⊎ IsErrOf back.1 fault)) }
 {
@@ -110,31 +108,21 @@ fn take_in(
     (pass, with_session(others, session, told))
 }
 
-/// Starts a session's thread, which serves the session with the pass and gives the pass back. Where
-/// none can be started, the session is refused, and its pass comes back at once.
+/// Starts a session's thread, which serves what it is handed with the pass and gives the pass back.
+/// Where none can be started, the session is refused, and its pass comes back at once.
 fn start<'s, E, R: Wait + Sync, G: Gate>(
     rt: &'s R,
     scope: &'s Scope<'s, E>,
     phase: &Phase<'s, G>,
+    handed: Handed<'s>,
     child: Pass,
-    session: u64,
-    base: u64,
 ) -> Result<PromisedHandle<Back, Handed<'s>>, Back>
-    requires { Fits phase.now.cache.now child }
-    ensures started { IfOk result (λ handle. IsHanded phase.now.cache.now child base
-        (ordered_by session phase.now.lines.now) handle.promise) }
-    ensures refused { IfErr result (λ back. GaveBack phase.now.cache.now child base
-        (ordered_by session phase.now.lines.now) back.0 back.1) }
+    requires { Fits handed.cache.now child × (handed.pass.value ≡ child) }
+    ensures started { IfOk result (λ handle. handle.promise ≡ handed.entry) }
+    ensures refused { IfErr result (Returns handed.entry) }
 {
-    let (cache, lines, gate) = (phase.cache, phase.lines, phase.gate);
-    let (alloc, first, refused) = (phase.alloc, phase.first, phase.refused);
-    let handed = Handed {
-        cache,
-        pass: Snapshot::of(&child),
-        session,
-        base,
-        lines,
-    };
+    let (cache, lines, session, base) = (handed.cache, handed.lines, handed.session, handed.base);
+    let (alloc, first, gate, refused) = (phase.alloc, phase.first, phase.gate, phase.refused);
     let started = scope.spawn_with(
         handed,
         move || -> Back
@@ -173,16 +161,14 @@ fn serve_sessions<'s, E, R: Threads + Wait + Sync, G: Gate>(
     phase: &Phase<'s, G>,
     mut pass: Pass,
     count: u64,
-    bases: [u64; 16],
+    bases: [u64; SESSION_COUNT],
 ) -> (Pass, Result<PhaseReplies, ServeFault>)
     requires pass { Fits phase.now.cache.now pass }
     requires count { count ≤ SESSIONS }
     ensures pass { Fits phase.now.cache.now result.0 × SameShare (share pass) (share result.0) }
     ensures took_in { TookInSome (length (of_sessions count (ordered phase.now.lines.now)))
         (book pass) (book result.0) }
-    ensures ok { IfOk result.1 (λ replies. ObeyedBelow (book pass) bases count
-        (ordered phase.now.lines.now) (outcome_of replies)
-        (book result.0)) }
+    ensures ok { IfOk result.1 (ObeysBelow count phase.now.lines.now bases pass result.0) }
     ensures err { IfErr result.1 (IsServiceFault (book result.0).seen) }
 {
     if count == 0 {
@@ -194,7 +180,14 @@ fn serve_sessions<'s, E, R: Threads + Wait + Sync, G: Gate>(
         return serve_sessions(rt, scope, phase, pass, session, bases);
     }
     let child = phase.cache.split(&mut pass);
-    let started = start(rt, scope, phase, child, session, bases[session as usize]);
+    let handed = Handed {
+        cache: phase.cache,
+        pass: Snapshot::of(&child),
+        session,
+        base: bases[session as usize],
+        lines: phase.lines,
+    };
+    let started = start(rt, scope, phase, handed, child);
     let (pass, others) = serve_sessions(rt, scope, phase, pass, session, bases);
     let back = match started {
         Ok(handle) => handle.join(rt),
@@ -208,15 +201,13 @@ pub fn serve_phase<R: Threads + Wait + Sync, G: Gate>(
     rt: &R,
     phase: &Phase<'_, G>,
     pass: Pass,
-    bases: [u64; 16],
+    bases: [u64; SESSION_COUNT],
 ) -> (Pass, Result<PhaseReplies, ServeFault>)
     requires { Fits phase.now.cache.now pass }
     ensures pass { Fits phase.now.cache.now result.0 × SameShare (share pass) (share result.0) }
     ensures took_in { TookInSome (length (by_session (ordered phase.now.lines.now)))
         (book pass) (book result.0) }
-    ensures ok { IfOk result.1 (λ replies. ObeyedBelow (book pass) bases SESSIONS
-        (ordered phase.now.lines.now) (outcome_of replies)
-        (book result.0)) }
+    ensures ok { IfOk result.1 (ObeysBelow SESSIONS phase.now.lines.now bases pass result.0) }
     ensures err { IfErr result.1 (IsServiceFault (book result.0).seen) }
 {
     let (cache, lines, gate) = (phase.cache, phase.lines, phase.gate);
@@ -229,9 +220,7 @@ pub fn serve_phase<R: Threads + Wait + Sync, G: Gate>(
             ensures pass { Fits cache.entry.now result.0 × SameShare (share pass) (share result.0) }
             ensures took_in { TookInSome (length (by_session (ordered lines.entry.now)))
                 (book pass) (book result.0) }
-            ensures ok { IfOk result.1 (λ replies. ObeyedBelow (book pass) bases SESSIONS
-                (ordered lines.entry.now) (outcome_of replies)
-                (book result.0)) }
+            ensures ok { IfOk result.1 (ObeysBelow SESSIONS lines.entry.now bases pass result.0) }
             ensures err { IfErr result.1 (IsServiceFault (book result.0).seen) }
         {
             let phase = Phase {

@@ -1,8 +1,8 @@
 //! From bytes to bytes.
 
-ghost use Rattle.std.specs.Prelude.{◌≡◌, ◌↔◌, true, false, Err, IsOk, OnOk, IfOk, IfErr, IsErrOf, map};
+ghost use Rattle.std.specs.Prelude.{◌≡◌, ◌↔◌, true, false, Err, IsOk, OnOk, IfOk, IfErr, IsErrOf};
 ghost use Rattle.dc_events.specs.Sizes.{are_right};
-ghost use Rattle.dc_lang.specs.Commands.{meaning_of};
+ghost use Rattle.dc_lang.specs.Commands.{said_by};
 ghost use Rattle.dc_serve.specs.Endings.{Answers, AnswersPlainly, EndsBy, IsInputFault, Reads, streams};
 
 use crate::bytes::read_whole;
@@ -25,7 +25,7 @@ pub fn understand<R: Read>(
     options: Options,
 ) -> Result<Vec<Line>, ServeFault>
     ensures ok { IfOk result (λ lines. Reads (R.remaining reader.old) (R.remaining reader.new)
-        (map meaning_of lines.items)) }
+        (said_by lines.items)) }
     ensures err { IfErr result (IsInputFault (R.remaining reader.old) (R.remaining reader.new)) }
     ensures size { IsErrOf result ServeFault.BadSize
         ↔ (are_right options.buckets options.inodes ≡ false) }

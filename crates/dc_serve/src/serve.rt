@@ -1,14 +1,9 @@
 //! How phases are served, one after the other.
 
-ghost use Rattle.std.specs.Prelude.{◌≡◌, true, OnOk, IfErr, map};
-ghost use Rattle.std.specs.Io.KnownBytes.{Appends};
+ghost use Rattle.std.specs.Prelude.{◌≡◌, true, OnOk, IfErr};
 ghost use Rattle.dc_cache.specs.Passes.{known, share, Fits};
 ghost use Rattle.dc_events.specs.Sizes.{are_right};
-ghost use Rattle.dc_lang.specs.Commands.{meaning_of};
-ghost use Rattle.dc_serve.specs.Endings.{Serves, ServesFront};
-ghost use Rattle.dc_lang.specs.Phases.{phases};
-ghost use Rattle.dc_serve.specs.Rounds.{StopsBy, Wrote};
-ghost use Rattle.dc_serve.specs.Threads.{all_ordered};
+ghost use Rattle.dc_serve.specs.Served.{ServesLines, ServesUntil, WroteAll, WroteUntil};
 ghost use Rattle.dc_table.specs.Shares.{first_known};
 
 use crate::bytes::write_whole;
@@ -17,7 +12,7 @@ use crate::session::Phase;
 use crate::{Gate, Options, ServeFault};
 use dc_cache::{Dcache, Pass};
 use dc_events::records_are_legal;
-use dc_lang::{Line, SESSIONS, phases};
+use dc_lang::{Line, SESSION_COUNT, SESSIONS, phases};
 use std::alloc::Global;
 use std::io::Write;
 use std::sync::Wait;
@@ -38,15 +33,13 @@ fn serve_phases<R: Threads + Wait + Sync, G: Gate, W: Write>(
     requires pass { Fits cache.now pass }
     requires first { known pass ≡ first_known (share pass).limit (share pass).rows }
     ensures pass { Fits cache.now result.0 }
-    ensures ok { OnOk result.1 (Wrote (share pass).limit
-        (all_ordered phases.now)
-        (Appends (W.contents writer.old) (W.contents writer.new)) (known result.0)) }
-    ensures err { IfErr result.1 (StopsBy (share pass).limit
-        (all_ordered phases.now)
-        (W.contents writer.old) (W.contents writer.new) (known result.0)) }
+    ensures ok { OnOk result.1 (WroteAll pass phases.now
+        (W.contents writer.old) (W.contents writer.new) result.0) }
+    ensures err { IfErr result.1 (WroteUntil pass phases.now
+        (W.contents writer.old) (W.contents writer.new) result.0) }
 {
     let mut first = 1u64;
-    let mut bases = [1; 16];
+    let mut bases = [1; SESSION_COUNT];
     for lines in phases {
         let phase = Phase {
             cache,
@@ -83,9 +76,9 @@ pub fn serve<R: Threads + Wait + Sync, G: Gate, W: Write>(
     writer: &mut W,
 ) -> Result<(), ServeFault>
     requires { are_right options.buckets options.inodes ≡ true }
-    ensures ok { OnOk result (Serves options.inodes (phases (map meaning_of lines.now))
-        (Appends (W.contents writer.old) (W.contents writer.new))) }
-    ensures err { IfErr result (ServesFront options.inodes (phases (map meaning_of lines.now))
+    ensures ok { OnOk result (ServesLines options.inodes lines.now
+        (W.contents writer.old) (W.contents writer.new)) }
+    ensures err { IfErr result (ServesUntil options.inodes lines.now
         (W.contents writer.old) (W.contents writer.new)) }
 {
     records_are_legal();

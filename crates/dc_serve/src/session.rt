@@ -5,8 +5,9 @@ ghost use Rattle.dc_cache.specs.Passes.{share, Fits};
 ghost use Rattle.dc_lang.specs.Commands.{order_of};
 ghost use Rattle.dc_serve.specs.Bytes.{IsServiceFault};
 ghost use Rattle.dc_lang.specs.Phases.{ordered_by};
-ghost use Rattle.dc_serve.specs.Sessions.{Obeyed, RecordedSome, progress};
-ghost use Rattle.dc_serve.specs.Threads.{GaveBack, book, progress_of};
+ghost use Rattle.dc_serve.specs.Served.{Obeys, ObeysFrom};
+ghost use Rattle.dc_serve.specs.Sessions.{RecordedSome};
+ghost use Rattle.dc_serve.specs.Threads.{GaveBack, book};
 
 use crate::calls::answer;
 use crate::{Gate, ServeFault};
@@ -48,9 +49,8 @@ fn obey<R: Wait>(
     requires { Fits cache.now pass.old }
     ensures same { Fits cache.now pass.new × (share pass.new ≡ share pass.old) }
     ensures recorded { RecordedSome 1 (book pass.old) (book pass.new) }
-    ensures ok { OnOk result (Obeyed (book pass.old)
-        (progress_of replies.old) (order_of command.now ∷ [])
-        (progress_of replies.new) (book pass.new)) }
+    ensures ok { OnOk result (Obeys pass.old replies.old (order_of command.now ∷ [])
+        replies.new pass.new) }
     ensures err { IfErr result (IsServiceFault (book pass.new).seen) }
 {
     let stamped = answer(rt, cache, alloc, pass, &call(command, replies.base))?;
@@ -75,10 +75,8 @@ impl<'a, G: Gate> Phase<'a, G> {
         ensures same { Fits self.now.cache.now pass.new × (share pass.new ≡ share pass.old) }
         ensures recorded { RecordedSome (length (ordered_by session (line.now ∷ [])))
             (book pass.old) (book pass.new) }
-        ensures ok { OnOk result (Obeyed (book pass.old)
-            (progress_of replies.old)
-            (ordered_by session (line.now ∷ []))
-            (progress_of replies.new) (book pass.new)) }
+        ensures ok { OnOk result (Obeys pass.old replies.old
+            (ordered_by session (line.now ∷ [])) replies.new pass.new) }
         ensures err { IfErr result (IsServiceFault (book pass.new).seen) }
     {
         let Line::Command(command) = line else {
@@ -105,9 +103,8 @@ impl<'a, G: Gate> Phase<'a, G> {
         ensures same { Fits self.now.cache.now pass.new × (share pass.new ≡ share pass.old) }
         ensures recorded { RecordedSome (length (ordered_by session self.now.lines.now))
             (book pass.old) (book pass.new) }
-        ensures ok { IfOk result (λ replies. Obeyed (book pass.old) (progress [] base)
-            (ordered_by session self.now.lines.now)
-            (progress_of replies) (book pass.new)) }
+        ensures ok { IfOk result (ObeysFrom pass.old base
+            (ordered_by session self.now.lines.now) pass.new) }
         ensures err { IfErr result (IsServiceFault (book pass.new).seen) }
     {
         let mut replies = SessionReplies {

@@ -185,36 +185,48 @@ fn both<R: Threads + Wait + Sync>(
     )
 }
 
+/// Four threads at work, each with a pass that is cut off this one, and is taken in again.
+fn four<R: Threads + Wait + Sync>(
+    rt: &R,
+    alloc: Global,
+    cache: &Dcache,
+    pass: &mut Pass,
+) -> [Stamps; 4]
+    requires fits { Fits cache.now pass.old }
+    requires sync { IsSync R.row }
+    ensures { Fits cache.now pass.new }
+{
+    let a = cache.split(pass);
+    let b = cache.split(pass);
+    let c = cache.split(pass);
+    let d = cache.split(pass);
+    let (((a, first), (b, second)), ((c, third), (d, fourth))) = join(
+        rt,
+        move || -> ((Pass, Stamps), (Pass, Stamps))
+            requires { IsSync R.row × Fits cache.now a × Fits cache.now b }
+            ensures a { Fits cache.entry.now result.0.0 }
+            ensures b { Fits cache.entry.now result.1.0 }
+        { both(rt, alloc, cache, a, b, 1, 2) },
+        move || -> ((Pass, Stamps), (Pass, Stamps))
+            requires { IsSync R.row × Fits cache.now c × Fits cache.now d }
+            ensures c { Fits cache.entry.now result.0.0 }
+            ensures d { Fits cache.entry.now result.1.0 }
+        { both(rt, alloc, cache, c, d, 3, 4) },
+    );
+    cache.join(pass, a);
+    cache.join(pass, b);
+    cache.join(pass, c);
+    cache.join(pass, d);
+    [first, second, third, fourth]
+}
+
 #[test]
 fn four_threads_change_what_one_plain_tree_explains(rt: HostRuntime) -> Result<(), Fail> {
     let (shared, mut p) = Dcache::new(rt.alloc(), 4, 64).expect(&rt, "memory");
     let alloc = rt.alloc();
     let made = prepare(&rt, alloc, &shared, &mut p).expect(&rt, "memory");
-    let a = shared.split(&mut p);
-    let b = shared.split(&mut p);
-    let c = shared.split(&mut p);
-    let d = shared.split(&mut p);
-    let cache = &shared;
-    let (((a, first), (b, second)), ((c, third), (d, fourth))) = join(
-        &rt,
-        move || -> ((Pass, Stamps), (Pass, Stamps))
-            requires a { Fits cache.now a }
-            requires b { Fits cache.now b }
-            ensures a { Fits cache.entry.now result.0.0 }
-            ensures b { Fits cache.entry.now result.1.0 }
-        { both(&rt, alloc, cache, a, b, 1, 2) },
-        move || -> ((Pass, Stamps), (Pass, Stamps))
-            requires c { Fits cache.now c }
-            requires d { Fits cache.now d }
-            ensures c { Fits cache.entry.now result.0.0 }
-            ensures d { Fits cache.entry.now result.1.0 }
-        { both(&rt, alloc, cache, c, d, 3, 4) },
-    );
-    shared.join(&mut p, a);
-    shared.join(&mut p, b);
-    shared.join(&mut p, c);
-    shared.join(&mut p, d);
-    let stamps = gathered(made, [first, second, third, fourth]).expect(&rt, "memory");
+    let more = four(&rt, alloc, &shared, &mut p);
+    let stamps = gathered(made, more).expect(&rt, "memory");
     assert!(rt; stamps.len() == 4 + 4 * CALLS as usize);
     let verdict = check(alloc, 64, stamps.as_slice());
     assert!(rt; verdict == Ok(Verdict::Legal));

@@ -175,12 +175,12 @@ struct GateCall {
 
 /// Writes down how it is called.
 #[derive(Drop)]
-struct Recorder<'a, R: Wait + Sync> {
+struct Recorder<'a, R: Wait> {
     rt: &'a R,
     calls: Mutex<Vec<GateCall>>,
 }
 
-impl<'a, R: Wait + Sync> Recorder<'a, R> {
+impl<'a, R: Wait> Recorder<'a, R> {
     fn new(rt: &'a R, alloc: Global) -> Recorder<'a, R> {
         Recorder {
             rt,

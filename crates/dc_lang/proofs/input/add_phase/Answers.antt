@@ -1,4 +1,4 @@
-use Rattle.std.proofs.Common.{◌≡◌, ◌∙◌, ◌++◌, ap, sym, append-nil}
+use Rattle.std.proofs.Common.{◌∙◌, ◌++◌, ap, sym, append-nil}
 use Rattle.dc_lang.specs.Phases.{ordered}
 use Rattle.dc_lang.specs.Served.{all_served}
 use Rattle.dc_lang.proofs.Serving.{grown, sessions_more, sessions_none}

@@ -1,5 +1,5 @@
-use Rattle.dc_table.specs.Passes.{Fits, IsIdle}
+use Rattle.dc_cache.specs.Passes.{Fits}
 use Rattle.dc_trials.proofs.changes.work.Given as goal
 
 abbrev pub invariant-loop : goal.invariant-loop
-invariant-loop g l = Fits l.shared l.pass × IsIdle l.pass
+invariant-loop g l = Fits l.cache l.pass

@@ -1,0 +1,48 @@
+-- What was answered and written, said of the passes, lines and replies of the program.
+use Rattle.std.specs.Prelude.{ℕ, List, [], Option, Result, IsOkAnd}
+use Rattle.std.specs.Borrow.{Bor}
+use Rattle.std.specs.Io.KnownBytes.{Appends}
+use Rattle.dc_cache.specs.Passes.{known, share}
+use Rattle.dc_cache.specs.declared.cache.Pass.{Pass}
+use Rattle.dc_lang.specs.Commands.{Order, said_by}
+use Rattle.dc_lang.specs.Phases.{all_ordered, ordered, phases}
+use Rattle.dc_lang.specs.declared.line.Line.{Line}
+use Rattle.dc_serve.specs.Endings.{Serves, ServesFront}
+use Rattle.dc_serve.specs.Rounds.{StopsBy, Wrote}
+use Rattle.dc_serve.specs.Sessions.{Obeyed, ObeyedBelow, progress}
+use Rattle.dc_serve.specs.Threads.{Adds, book, outcome_of, progress_of}
+use Rattle.dc_serve.specs.declared.fault.ServeFault.{ServeFault}
+use Rattle.dc_serve.specs.declared.phase.PhaseReplies.{PhaseReplies}
+use Rattle.dc_serve.specs.declared.session.SessionReplies.{SessionReplies}
+
+-- these orders were answered with the pass, and their lines added to the replies
+abbrev pub Obeys : (p : Pass) (before : SessionReplies) → List Order → (after : SessionReplies) (q : Pass) → Type 0
+Obeys p before orders after q = Obeyed (book p) (progress_of before) orders (progress_of after) (book q)
+
+-- the replies are those to these orders of a session that starts here
+abbrev pub ObeysFrom : (p : Pass) (base : ℕ) → List Order → (q : Pass) → SessionReplies → Type 0
+ObeysFrom p base orders q replies = Obeyed (book p) (progress [] base) orders (progress_of replies) (book q)
+
+-- the replies are those to the orders of the sessions below a number, which start here
+abbrev pub ObeysBelow : (count : ℕ) → List Line → (bases : List ℕ) (p q : Pass) → PhaseReplies → Type 0
+ObeysBelow count lines bases p q replies = ObeyedBelow (book p) bases count (ordered lines) (outcome_of replies) (book q)
+
+-- these are the replies of some sessions with those of one more, which both have some
+abbrev pub AddsBoth : Result PhaseReplies ServeFault → (session : ℕ) → Result SessionReplies ServeFault → PhaseReplies → Type 0
+AddsBoth others session told all = IsOkAnd others (λ front. IsOkAnd told (λ last. Adds front session last all))
+
+-- with the first pass of a cache these phases were served, and the replies to them written
+abbrev pub WroteAll : (p : Pass) → List (Bor (List Line)) → (old new : Option (List ℕ)) (q : Pass) → Type 0
+WroteAll p parts old new q = Wrote (share p).limit (all_ordered parts) (Appends old new) (known q)
+
+-- with the first pass of a cache these phases were served until a fault
+abbrev pub WroteUntil : (p : Pass) → List (Bor (List Line)) → (old new : Option (List ℕ)) (q : Pass) → ServeFault → Type 0
+WroteUntil p parts old new q fault = StopsBy (share p).limit (all_ordered parts) old new (known q) fault
+
+-- what lines say was served, and the replies to it written
+abbrev pub ServesLines : (limit : ℕ) → List Line → (old new : Option (List ℕ)) → Type 0
+ServesLines limit lines old new = Serves limit (phases (said_by lines)) (Appends old new)
+
+-- what lines say was served until a fault
+abbrev pub ServesUntil : (limit : ℕ) → List Line → (old new : Option (List ℕ)) → ServeFault → Type 0
+ServesUntil limit lines old new fault = ServesFront limit (phases (said_by lines)) old new fault
