@@ -51,7 +51,7 @@ mod table;
 mod tests;
 mod walking;
 
-pub use dc_events::MakeFault;
+pub use dc_names::MakeFault;
 pub use holder::{Holder, Reader};
 pub use shared::Shared;
 pub use sheet::Sheet;

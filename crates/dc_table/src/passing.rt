@@ -1,8 +1,8 @@
 //! How a table begins and ends, and how passes are cut and put together.
 
 ghost use Rattle.std.specs.Prelude.{◌≡◌, ◌*◌, ◌/◌, ◌≤◌, ◌↔◌, false, Err, IfOk, IfSome, IsSome};
-ghost use Rattle.dc_events.specs.Sizes.{are_right};
-ghost use Rattle.dc_events.specs.declared.sizes.MakeFault.TheVariants.{BadSize};
+ghost use Rattle.dc_names.specs.Sizes.{are_right};
+ghost use Rattle.dc_names.specs.declared.sizes.MakeFault.TheVariants.{BadSize};
 ghost use Rattle.dc_table.specs.Ends.{Ends};
 ghost use Rattle.dc_table.specs.Kept.{IsNew};
 ghost use Rattle.dc_table.specs.Passes.{known, share, Fits, IsIdle};
@@ -13,11 +13,9 @@ use crate::shared::Shared;
 use crate::table::{Guarded, Limits, Pass};
 use crate::{BUCKET_ROWS, FIRST_ROW, FREE, LOCK};
 use atomic_table::{Refused, Table};
-use dc_events::{
-    MakeFault, are_right, new_tables_have_the_rule, passes_keep_the_rule, records_are_legal,
-};
+use dc_events::{new_tables_have_the_rule, passes_keep_the_rule, records_are_legal};
 use dc_index::Index;
-use dc_names::NoMemory;
+use dc_names::{MakeFault, NoMemory, are_right};
 use dc_row::{ROW_WORDS, empty_row_spells_nothing};
 use dc_shrink::Shrinker;
 use dc_store::SlabStore;
