@@ -7,6 +7,7 @@ use std::io::{Read, Write};
 use std::sync::atomic::{AtomicBool, AtomicU64, Ordering};
 use std::sync::{Mutex, Wait};
 use std::test::Fail;
+use std::thread::Threads;
 use std::time::Duration;
 use std::{io, thread};
 
@@ -66,15 +67,20 @@ impl Read for ByteByByte {
 }
 
 /// What a run makes of a reader of bytes one by one, and how often it reads.
-fn read_from(rt: &HostRuntime, left: u32, turn: Turn) -> (Result<(), ServeFault>, u32, bool) {
+fn read_from<R: Threads + Wait + Sync>(
+    rt: &R,
+    alloc: Global,
+    left: u32,
+    turn: Turn,
+) -> (Result<(), ServeFault>, u32, bool) {
     let mut reader = ByteByByte {
         given: 0,
         left,
         turn: Some(turn),
         reads: 0,
     };
-    let mut output = Vec::new(rt.alloc());
-    let result = run(rt, rt.alloc(), &mut reader, &mut output, USUAL, &FreeGate);
+    let mut output = Vec::new(alloc);
+    let result = run(rt, alloc, &mut reader, &mut output, USUAL, &FreeGate);
     (result, reader.reads, output.is_empty())
 }
 
@@ -86,13 +92,13 @@ fn inputs_that_end_badly(rt: HostRuntime) {
         (18, Turn::PausesOnce, Ok(()), 19),
         (u32::MAX, Turn::Ends, Err(ServeFault::Read), 1_048_577),
     ] {
-        let (result, made, _) = read_from(&rt, left, turn);
+        let (result, made, _) = read_from(&rt, rt.alloc(), left, turn);
         assert_eq!(rt; result, want, "{left}");
         assert_eq!(rt; made, reads, "{left}");
     }
     for left in 0..19 {
         for turn in [Turn::Fails, Turn::FailsOnce] {
-            let (result, reads, nothing) = read_from(&rt, left, turn);
+            let (result, reads, nothing) = read_from(&rt, rt.alloc(), left, turn);
             assert_eq!(rt; result, Err(ServeFault::Read), "{left}");
             assert!(rt; nothing && reads == left.saturating_add(1), "{left}");
         }
@@ -140,21 +146,22 @@ const INPUT: &[u8] = b"0 mkdir /a\nsync\n0 look /a\n";
 const OUTPUT: &[u8] = b"0 ok 2 @0\n0 is 2 dir @1\n";
 
 /// What a run makes of a writer that takes bytes one by one.
-fn write_to(
-    rt: &HostRuntime,
+fn write_to<R: Threads + Wait + Sync>(
+    rt: &R,
+    alloc: Global,
     room: usize,
     turn: Turn,
     refuses_flush: bool,
 ) -> (Result<(), ServeFault>, Taker) {
     let mut writer = Taker {
-        taken: Vec::new(rt.alloc()),
+        taken: Vec::new(alloc),
         room,
         turn: Some(turn),
         flushes: 0,
         refuses_flush,
     };
     let mut rest = INPUT;
-    let result = run(rt, rt.alloc(), &mut rest, &mut writer, USUAL, &FreeGate);
+    let result = run(rt, alloc, &mut rest, &mut writer, USUAL, &FreeGate);
     (result, writer)
 }
 
@@ -162,7 +169,7 @@ fn write_to(
 #[test]
 fn outputs_that_are_taken(rt: HostRuntime) {
     for (refuses_flush, want) in [(false, Ok(())), (true, Err(ServeFault::Write))] {
-        let (result, writer) = write_to(&rt, usize::MAX, Turn::Ends, refuses_flush);
+        let (result, writer) = write_to(&rt, rt.alloc(), usize::MAX, Turn::Ends, refuses_flush);
         assert_eq!(rt; result, want);
         assert!(rt; writer.taken.as_slice() == OUTPUT && writer.flushes == 1);
     }
@@ -173,7 +180,7 @@ fn outputs_that_are_taken(rt: HostRuntime) {
 fn outputs_that_end_badly(rt: HostRuntime) {
     for room in 0..OUTPUT.len() {
         for turn in [Turn::Ends, Turn::PausesOnce, Turn::Fails, Turn::FailsOnce] {
-            let (result, writer) = write_to(&rt, room, turn, false);
+            let (result, writer) = write_to(&rt, rt.alloc(), room, turn, false);
             assert_eq!(rt; result, Err(ServeFault::Write), "{room}");
             assert!(rt; writer.taken.as_slice() == &OUTPUT[..room], "{room}");
             assert_eq!(rt; writer.flushes, 0, "{room}");
