@@ -5,3 +5,4 @@ pub mod Alone
 pub mod Passing
 pub mod Following
 pub mod Needed
+pub mod Splits
