@@ -11,13 +11,13 @@ ghost use Rattle.dc_table.specs.Shares.{IsWhole, first_known, kept_half, new_hal
 use crate::plays::Halves;
 use crate::shared::Shared;
 use crate::table::{Guarded, Limits, Pass};
-use crate::{BUCKET_ROWS, FIRST_ROW, FREE, LOCK};
+use crate::{FIRST_ROW, FREE, LOCK};
 use atomic_table::{Refused, Table};
 use dc_events::{
     MakeFault, are_right, new_tables_have_the_rule, passes_keep_the_rule, records_are_legal,
 };
 use dc_index::Index;
-use dc_names::NoMemory;
+use dc_names::{BUCKET_ROWS, NoMemory};
 use dc_row::{ROW_WORDS, empty_row_spells_nothing};
 use dc_shrink::Shrinker;
 use dc_store::SlabStore;
