@@ -1,6 +1,9 @@
 -- What a caller knows of the holder of the lock, and of a reader.
-use Rattle.std.specs.Prelude.{◌≡◌, ◌+◌}
+use Rattle.std.specs.Prelude.{◌≡◌, ℕ, ◌+◌}
 use Rattle.dc_plain.specs.Requests.{Request}
+use Rattle.dc_events.specs.Views.{View}
+use Rattle.dc_events.specs.Rows.{base_of, count}
+use Rattle.dc_events.specs.Effects.{wrote, committed, answered}
 use Rattle.dc_table.specs.RowStates.{RowState}
 use Rattle.dc_table.specs.Shares.{HasNotTried, tried}
 use Rattle.dc_table.specs.Passes.{Pass, known, view, share, IsSamePass, IsIdle, CanAnswer}
@@ -17,6 +20,21 @@ pass_of h = h.pass.now
 -- the table that a reader reads
 abbrev pub table_of : Reader → Shared
 table_of r = r.shared.now
+
+-- the view of a pass that has committed a call, or answered one as it gave the lock back
+abbrev pub committed_by : Pass → Request → View
+committed_by p call = committed (share p).limit (view p) call
+
+abbrev pub answered_by : Pass → Request → View
+answered_by p call = answered (share p).limit (view p) call
+
+-- one more than the count of a row
+abbrev pub next_count : View → ℕ → ℕ
+next_count v row = count v.hold.words row + 1
+
+-- the count of a row is one higher now, and this; the holder has done nothing else
+abbrev pub Raises : Pass → Pass → ℕ → ℕ → Type 0
+Raises p q row now = (now ≡ next_count (view p) row) × (view q ≡ wrote (view p) (base_of row) now)
 
 -- the rows as the holder has them, with what the lock guards
 abbrev pub rows_held : Holder → Guarded → RowState

@@ -3,17 +3,27 @@ use Rattle.std.specs.Prelude.{◌≡◌, ◌≢◌, ℕ, ◌+◌, ◌%◌, ◌<�
 use mathlib.Core.Option.{some}
 use lib.ListN.{get_elem?}
 use Rattle.atomic_table.specs.Table.{Step}
-use Rattle.dc_plain.specs.Requests.{Request}
+use Rattle.dc_plain.specs.Requests.{Request, request_of}
+use Rattle.dc_plain.specs.declared.call.Call.{Call}
 use Rattle.dc_row.specs.declared.TheConstants.{ROW_WORDS}
 use Rattle.dc_events.specs.Views.{View}
 use Rattle.dc_events.specs.Views.Fault.{Busy, Changed}
 use Rattle.dc_events.specs.Rows.{IsWhole}
 use Rattle.dc_events.specs.Walks.{last_of}
 use Rattle.dc_events.specs.Effects.{begins, quit, noted, note_at, read, pivoted, checked, faulted}
+use Rattle.dc_table.specs.Passes.{Pass, view}
 use Rattle.dc_table.specs.Shares.{with_view}
 use Rattle.dc_table.specs.Kept.{sheet_of}
 use Rattle.dc_table.specs.Plays.{Place, known_at}
 use Rattle.dc_table.specs.Boxes.{Boxed}
+
+-- the view in which a step of a pass finds it, which may begin the walk of a call
+abbrev pub started : Bool → Pass → Call → View
+started first p call = begins first (view p) (request_of call)
+
+-- the count of a row is found to be another than was noted, a higher one, which is a fault
+abbrev pub FindsOther : View → View → ℕ → ℕ → ℕ × ℕ → Type 0
+FindsOther v w row noted counts = (counts.0 ≡ noted) × (noted < counts.1) × (w ≡ faulted v (Changed row noted counts.1))
 
 -- a step that may begin the walk of a call finds no pivot in it
 abbrev pub IsFresh : Bool → View → Request → Type 0

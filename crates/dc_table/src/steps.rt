@@ -1,13 +1,13 @@
 //! The steps of the one that gets, has or gives the lock. Each is the event of its name.
 
 ghost use Rattle.std.specs.Prelude.{◌≡◌, ◌+◌, ◌<◌, false, IfSome, IfNone, IfOk, IfErr};
-ghost use Rattle.dc_events.specs.Effects.{wrote, committed, gave, answered};
-ghost use Rattle.dc_events.specs.Rows.{base_of, count};
+ghost use Rattle.dc_events.specs.Effects.{wrote, gave};
+ghost use Rattle.dc_events.specs.Rows.{base_of};
 ghost use Rattle.dc_events.specs.Standing.{tree_of};
 ghost use Rattle.dc_plain.specs.Requests.{request_of};
 ghost use Rattle.dc_plain.specs.Runs.{alters};
 ghost use Rattle.dc_row.specs.declared.TheConstants.{ROW_WORDS as row_words};
-ghost use Rattle.dc_table.specs.Holders.{pass_of, Freed, Locked, MayAnswer, Missed, StaysHeld, TriedOnce};
+ghost use Rattle.dc_table.specs.Holders.{pass_of, answered_by, committed_by, next_count, Freed, Locked, MayAnswer, Missed, Raises, StaysHeld, TriedOnce};
 ghost use Rattle.dc_table.specs.Passes.{known, view, share, Fits, IsSamePass, IsIdle, IsHolder, CanShut, CanPut, CanOpen, CanCommit};
 ghost use Rattle.dc_table.specs.Plays.{Took, Home};
 
@@ -141,8 +141,7 @@ impl<'t> Holder<'t> {
         requires may { MayAnswer self guarded.value (request_of call.now) }
         ensures same_reference { result.ghost_name ≡ self.entry.pass.ghost_name }
         ensures freed { Freed self.entry guarded.value result.now }
-        ensures view { let p = pass_of self.entry in
-            view result.now ≡ answered (share p).limit (view p) (request_of call.now) }
+        ensures view { view result.now ≡ answered_by (pass_of self.entry) (request_of call.now) }
     {
         self.answer_as::<Brand>(guarded, call)
     }
@@ -152,8 +151,7 @@ impl<'t> Holder<'t> {
         requires may { MayAnswer self guarded.value (request_of call.now) }
         ensures same_reference { result.ghost_name ≡ self.entry.pass.ghost_name }
         ensures freed { Freed self.entry guarded.value result.now }
-        ensures view { let p = pass_of self.entry in
-            view result.now ≡ answered (share p).limit (view p) (request_of call.now) }
+        ensures view { view result.now ≡ answered_by (pass_of self.entry) (request_of call.now) }
     {
         events_keep_the_rule();
         let Holder { shared, pass } = self;
@@ -169,8 +167,7 @@ impl<'t> Holder<'t> {
         requires row { let p = pass_of self.old in (row < (share p).rows) × CanShut (view p) row }
         ensures held { StaysHeld self.old self.new }
         ensures same { IsSamePass (pass_of self.old) (pass_of self.new) }
-        ensures shut { let v = view (pass_of self.old) in (result ≡ count v.hold.words row + 1)
-            × (view (pass_of self.new) ≡ wrote v (base_of row) result) }
+        ensures shut { Raises (pass_of self.old) (pass_of self.new) row result }
     {
         events_keep_the_rule();
         let count = self.shared.word_of(row, 0);
@@ -204,7 +201,7 @@ impl<'t> Holder<'t> {
         ensures held { StaysHeld self.old self.new }
         ensures same { IsSamePass (pass_of self.old) (pass_of self.new) }
         ensures view { let v = view (pass_of self.old) in
-            view (pass_of self.new) ≡ wrote v (base_of row) (count v.hold.words row + 1) }
+            view (pass_of self.new) ≡ wrote v (base_of row) (next_count v row) }
     {
         events_keep_the_rule();
         let count = self.shared.word_of(row, 0);
@@ -220,8 +217,8 @@ impl<'t> Holder<'t> {
             CanCommit (share p).limit (share p).rows (view p) (request_of call.now) }
         ensures held { StaysHeld self.old self.new }
         ensures same { IsSamePass (pass_of self.old) (pass_of self.new) }
-        ensures view { let p = pass_of self.old in
-            view (pass_of self.new) ≡ committed (share p).limit (view p) (request_of call.now) }
+        ensures view { view (pass_of self.new)
+            ≡ committed_by (pass_of self.old) (request_of call.now) }
     {
         self.commit_as::<Brand>(call);
     }
@@ -232,8 +229,8 @@ impl<'t> Holder<'t> {
             CanCommit (share p).limit (share p).rows (view p) (request_of call.now) }
         ensures held { StaysHeld self.old self.new }
         ensures same { IsSamePass (pass_of self.old) (pass_of self.new) }
-        ensures view { let p = pass_of self.old in
-            view (pass_of self.new) ≡ committed (share p).limit (view p) (request_of call.now) }
+        ensures view { view (pass_of self.new)
+            ≡ committed_by (pass_of self.old) (request_of call.now) }
     {
         events_keep_the_rule();
         self.shared

@@ -1,12 +1,12 @@
 //! The steps of a walk without the lock. None waits. Each is the event of its name.
 
 ghost use Rattle.std.specs.Prelude.{◌≡◌, ◌≢◌, ◌%◌, ◌/◌, ◌+◌, ◌<◌, ◌≤◌, false, IfOk, IfErr, OnOk};
-ghost use Rattle.dc_events.specs.Effects.{begins, quit, noted, read, pivoted, checked, faulted};
-ghost use Rattle.dc_events.specs.Views.Fault.{Busy, Changed};
+ghost use Rattle.dc_events.specs.Effects.{quit, noted, read, pivoted, checked, faulted};
+ghost use Rattle.dc_events.specs.Views.Fault.{Busy};
 ghost use Rattle.dc_plain.specs.Requests.{request_of};
 ghost use Rattle.dc_table.specs.Holders.{table_of};
 ghost use Rattle.dc_table.specs.Passes.{view, Fits, IsIdle, IsWalker, IsWalkerAt, StaysOut};
-ghost use Rattle.dc_table.specs.Walking.{IsFresh, CanNote, CanRead, CanCheck};
+ghost use Rattle.dc_table.specs.Walking.{started, FindsOther, IsFresh, CanNote, CanRead, CanCheck};
 
 use crate::CLOCK;
 use crate::holder::Reader;
@@ -28,10 +28,10 @@ impl Reader<'_> {
         requires can { IsWalkerAt (table_of self.now) pass.old row
             × CanNote first (view pass.old) (request_of call.now) }
         ensures same { StaysOut pass.old pass.new }
-        ensures noted { IfOk result (λ n. (n % 2 ≡ 0) × (view pass.new
-            ≡ noted (begins first (view pass.old) (request_of call.now)) row n)) }
-        ensures odd { IfErr result (λ n. view pass.new
-            ≡ faulted (begins first (view pass.old) (request_of call.now)) (Busy row)) }
+        ensures noted { IfOk result (λ n.
+            (n % 2 ≡ 0) × (view pass.new ≡ noted (started first pass.old call.now) row n)) }
+        ensures odd { IfErr result (λ n.
+            view pass.new ≡ faulted (started first pass.old call.now) (Busy row)) }
     {
         let found = self.note_as::<Brand>(pass, call, row, first);
         if found % 2 == 0 {
@@ -47,9 +47,9 @@ impl Reader<'_> {
             × CanNote first (view pass.old) (request_of call.now) }
         ensures same { StaysOut pass.old pass.new }
         ensures even { result % 2 ≡ 0 → view pass.new
-            ≡ noted (begins first (view pass.old) (request_of call.now)) row result }
+            ≡ noted (started first pass.old call.now) row result }
         ensures odd { result % 2 ≢ 0 → view pass.new
-            ≡ faulted (begins first (view pass.old) (request_of call.now)) (Busy row) }
+            ≡ faulted (started first pass.old call.now) (Busy row) }
     {
         events_keep_the_rule();
         let count = self.shared.word_of(row, 0);
@@ -72,8 +72,7 @@ impl Reader<'_> {
         requires can { IsWalker (table_of self.now) pass.old
             × IsFresh first (view pass.old) (request_of call.now) }
         ensures same { StaysOut pass.old pass.new }
-        ensures view { view pass.new
-            ≡ pivoted (begins first (view pass.old) (request_of call.now)) result }
+        ensures view { view pass.new ≡ pivoted (started first pass.old call.now) result }
         ensures later { (view pass.old).book.seen ≤ result }
     {
         self.pivot_as::<Brand>(pass, call, first)
@@ -84,8 +83,7 @@ impl Reader<'_> {
         requires can { IsWalker (table_of self.now) pass.old
             × IsFresh first (view pass.old) (request_of call.now) }
         ensures same { StaysOut pass.old pass.new }
-        ensures view { view pass.new
-            ≡ pivoted (begins first (view pass.old) (request_of call.now)) result }
+        ensures view { view pass.new ≡ pivoted (started first pass.old call.now) result }
         ensures later { (view pass.old).book.seen ≤ result }
     {
         events_keep_the_rule();
@@ -101,8 +99,7 @@ impl Reader<'_> {
             × CanCheck (view pass.old) i row noted }
         ensures same { StaysOut pass.old pass.new }
         ensures checked { OnOk result (view pass.new ≡ checked (view pass.old) i) }
-        ensures changed { IfErr result (λ e. (e.0 ≡ noted) × (noted < e.1)
-            × (view pass.new ≡ faulted (view pass.old) (Changed row noted e.1))) }
+        ensures changed { IfErr result (FindsOther (view pass.old) (view pass.new) row noted) }
     {
         let found = self.check_as::<Brand>(pass, i, row, noted);
         if found == noted {
@@ -118,8 +115,8 @@ impl Reader<'_> {
             × CanCheck (view pass.old) i row noted }
         ensures same { StaysOut pass.old pass.new }
         ensures same_count { result ≡ noted → view pass.new ≡ checked (view pass.old) i }
-        ensures other_count { result ≢ noted → (noted < result)
-            × (view pass.new ≡ faulted (view pass.old) (Changed row noted result)) }
+        ensures other_count { result ≢ noted
+            → FindsOther (view pass.old) (view pass.new) row noted (noted, result) }
     {
         events_keep_the_rule();
         let count = self.shared.word_of(row, 0);
