@@ -6,3 +6,4 @@ pub mod Passing
 pub mod Following
 pub mod Needed
 pub mod Splits
+pub mod Walking
