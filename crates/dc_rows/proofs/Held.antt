@@ -1,13 +1,13 @@
 -- What a call knows of its pass from before it got the lock.
-use Rattle.std.proofs.Common.{◌≡◌, ℕ, ◌≤◌, ◌∷◌, [], ◌++◌, sym, ap, ◌∙◌, subst, arith, List}
+use Rattle.std.proofs.Common.{◌≡◌, ℕ, ◌≤◌, ◌∷◌, [], ◌++◌, ap, ◌∙◌, arith, List}
 use Rattle.dc_plain.specs.Requests.{Request, Answer}
-use Rattle.dc_events.specs.Views.{Book, Record, View}
+use Rattle.dc_events.specs.Views.{Record, View}
 use Rattle.dc_table.specs.Changes.{Recorded, NothingNew}
-use Rattle.dc_table.specs.Passes.{Pass, known, view, IsSamePass}
+use Rattle.dc_table.specs.Passes.{Pass, IsSamePass}
 use Rattle.dc_table.specs.Plays.{Took}
 use Rattle.dc_table.specs.Shares.{Known}
 use Rattle.dc_table.specs.declared.table.Guarded.{Guarded}
-use Rattle.dc_rows.specs.Changes.{Failed, KeepsTree}
+use Rattle.dc_rows.specs.Changes.{Failed}
 use Rattle.dc_rows.specs.Guards.{Keeps}
 use Rattle.dc_rows.specs.declared.fault.ChangeFault.{ChangeFault}
 use Rattle.dc_rows.specs.declared.guard.Guard.{Guard}

@@ -2,4 +2,6 @@
 pub mod Rows
 pub mod Changes
 pub mod Filling
+pub mod RowChanges
 pub mod Guards
+pub mod Refills

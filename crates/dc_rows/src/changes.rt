@@ -8,6 +8,7 @@ ghost use Rattle.dc_plain.specs.IsWellFormed.{IsWellFormed};
 ghost use Rattle.dc_plain.specs.Requests.{request_of, answer_of};
 ghost use Rattle.dc_rows.specs.Changes.{Altered, Failed, OnlyWrites};
 ghost use Rattle.dc_rows.specs.Guards.{seat_of};
+ghost use Rattle.dc_rows.specs.Refills.{Retells};
 ghost use Rattle.dc_table.specs.Changes.{IsTaken, Recorded, tree_now};
 ghost use Rattle.dc_table.specs.Holders.{pass_of};
 ghost use Rattle.dc_table.specs.Passes.{known, view, share, IsSamePass, IsIdle};
@@ -46,6 +47,7 @@ fn alter(
     ensures err { OnErr result (OnlyWrites (pass_of holder.old) (pass_of holder.new)) }
     ensures without_memory { CallTakesNoMemory (request_of call.now) → IsOk result }
     ensures home { Home (known (pass_of holder.new)) kept.new }
+    ensures rows { Retells kept.new.store holder.old kept.old holder.new kept.new (request_of call.now) }
 {
     calls_touch_the_listed_keys();
     untouched_facts_stay();

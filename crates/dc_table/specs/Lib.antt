@@ -4,6 +4,7 @@ pub mod ViewCodes
 pub mod Shares
 pub mod Boxes
 pub mod Rows
+pub mod RowStates
 pub mod Kept
 pub mod Plays
 pub mod Passes
