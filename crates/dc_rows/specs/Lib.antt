@@ -5,3 +5,4 @@ pub mod Filling
 pub mod RowChanges
 pub mod Guards
 pub mod Refills
+pub mod Outcomes

@@ -10,11 +10,10 @@ use Rattle.dc_events.specs.Rows.{most, count, row_words}
 use Rattle.dc_table.specs.Rows.{IsOf}
 use Rattle.dc_table.specs.RowStates.{RowState}
 use Rattle.dc_table.specs.Changes.{tree_now}
-use Rattle.dc_table.specs.Holders.{pass_of}
 use Rattle.dc_table.specs.Passes.{share}
 use Rattle.dc_table.specs.declared.table.Guarded.{Guarded}
 use Rattle.dc_table.specs.declared.holder.Holder.{Holder}
-use Rattle.dc_rows.specs.Guards.{rows_in}
+use Rattle.dc_table.specs.Holders.{pass_of, rows_held}
 use Rattle.dc_rows.specs.RowChanges.{KeepsPins, SameRow, IsEmpty, CanTell}
 
 -- the rows with these keys have become so, and all others are as they were; the list has lost only rows without a key
@@ -40,7 +39,7 @@ pub record Retold (tree : Tree) (s t : RowState) (row : ℕ) (key : Key) : Type 
 
 -- the rows of the holder, before and after
 abbrev pub TurnsIn : (RowState → RowState → ℕ → Key → Type 0) → (Key → Type 0) → Holder → Guarded → Holder → Guarded → Type 0
-TurnsIn Become Among h x j y = Turns Become Among (rows_in h x) (rows_in j y)
+TurnsIn Become Among h x j y = Turns Become Among (rows_held h x) (rows_held j y)
 
 -- the rows whose keys the call touches tell what this tree has under them, and all others are as they were
 abbrev pub Retells : Tree → Holder → Guarded → Holder → Guarded → Request → Type 0

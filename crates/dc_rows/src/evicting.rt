@@ -5,11 +5,11 @@ ghost use Rattle.dc_events.specs.Rows.{base_of};
 ghost use Rattle.dc_index.specs.Slots.{slot_of, has_key};
 ghost use Rattle.dc_rows.specs.Changes.{KeepsTree, OnlyWrites, RestAt};
 ghost use Rattle.dc_rows.specs.Filling.{Redone, Emptied};
-ghost use Rattle.dc_rows.specs.Guards.{seat_of, kept_by, rows_in, rows_of, Keeps};
+ghost use Rattle.dc_rows.specs.Guards.{seat_of, kept_by, rows_of, Keeps};
 ghost use Rattle.dc_rows.specs.RowChanges.{EmptiesLast, EmptiesRow};
 ghost use Rattle.dc_rows.specs.Rows.{MayTell};
 ghost use Rattle.dc_table.specs.Changes.{tree_now, words_of};
-ghost use Rattle.dc_table.specs.Holders.{pass_of};
+ghost use Rattle.dc_table.specs.Holders.{pass_of, rows_held};
 ghost use Rattle.dc_table.specs.Passes.{view, share, CanShut};
 
 use crate::guard::Guard;
@@ -65,7 +65,7 @@ fn evict_row(holder: &mut Holder<'_>, kept: &mut Guarded, row: u64)
     ensures pass { OnlyWrites (pass_of holder.old) (pass_of holder.new) }
     ensures tree { KeepsTree kept.old kept.new }
     ensures rest { RestAt (pass_of holder.new) kept.new }
-    ensures rows { EmptiesRow row (rows_in holder.old kept.old) (rows_in holder.new kept.new) }
+    ensures rows { EmptiesRow row (rows_held holder.old kept.old) (rows_held holder.new kept.new) }
 {
     empty_row_spells_nothing();
     empty(holder, kept, row);

@@ -3,11 +3,11 @@
 ghost use Rattle.std.specs.Prelude.{◌≡◌, ◌<◌, IfOk, IfSome, IsTrue, MatchOption, OnErr};
 ghost use Rattle.dc_rows.specs.Changes.{KeepsTree, OnlyWrites, RestAt};
 ghost use Rattle.dc_plain.specs.KeysShown.{key_shown};
-ghost use Rattle.dc_rows.specs.Guards.{seat_of, kept_by, rows_in, rows_of, Keeps};
+ghost use Rattle.dc_rows.specs.Guards.{seat_of, kept_by, rows_of, Keeps};
 ghost use Rattle.dc_rows.specs.RowChanges.{Gets, UnpinsAll, UnpinsRow};
 ghost use Rattle.dc_shrink.specs.Listings.{is_used, pinned_once};
 ghost use Rattle.dc_shrink.specs.Uses.{KeepsUse};
-ghost use Rattle.dc_table.specs.Holders.{pass_of};
+ghost use Rattle.dc_table.specs.Holders.{pass_of, rows_held};
 ghost use Rattle.dc_table.specs.Passes.{share};
 
 use crate::evicting::empty;
@@ -26,7 +26,7 @@ fn unpin_row(holder: &mut Holder<'_>, kept: &mut Guarded, row: u64)
     ensures pass { OnlyWrites (pass_of holder.old) (pass_of holder.new) }
     ensures tree { KeepsTree kept.old kept.new }
     ensures rest { RestAt (pass_of holder.new) kept.new }
-    ensures rows { UnpinsRow row (rows_in holder.old kept.old) (rows_in holder.new kept.new) }
+    ensures rows { UnpinsRow row (rows_held holder.old kept.old) (rows_held holder.new kept.new) }
 {
     empty_row_spells_nothing();
     if kept.shrinker.pins(row) == 0 {

@@ -1,10 +1,11 @@
 -- What the shared table keeps, and what its passes know.
 pub mod Codes
 pub mod ViewCodes
+pub mod RowStates
+pub mod RowCodes
 pub mod Shares
 pub mod Boxes
 pub mod Rows
-pub mod RowStates
 pub mod Kept
 pub mod Plays
 pub mod Passes

@@ -31,7 +31,7 @@ open_with-requires-clause-low c = let here = key_at c.args.keys.now c.args.i c.i
 
 pub returns-then-odd-ge-MOST_COUNT-clause-stage : goal.returns-then-odd-ge-MOST_COUNT-clause-stage
 returns-then-odd-ge-MOST_COUNT-clause-stage c = let here = key_at c.args.keys.now c.args.i c.index-keys-i.result c.requires.place c.index-keys-i.is in let held = (c.in-Some.ensures.row c.in-Some.row).0 refl in let s = c.shut_row-odd in
-    let only = wrote_only c.args.holder.now.pass.now s.new.self.pass.now s.ensures.same s.new.self.has_lock _ _ s.ensures.shut.1 in
+    let only = wrote_only c.args.holder.now.pass.now s.new.self.pass.now s.ensures.same s.ensures.held.untried s.new.self.has_lock _ _ s.ensures.shut.1 in
     on_pass c.args.holder.now.pass.now c.open_with.new.holder.pass.now (then_only c.args.holder.now.pass.now s.new.self.pass.now c.open_with.new.holder.pass.now only c.open_with.ensures.pass) _ _ _ 0 (c.args.i + 1) _
     (retired _ _ _ _ _ c.args.i _ _ here c.requires.stage c.in-Some.row held c.requires.distinct _ (shut_words c.args.holder.now.pass.now s.new.self.pass.now c.in-Some.row s.result s.ensures.shut.0 s.ensures.shut.1)
     (let n = s.ensures.shut.0 in omega arith) _ _ _
@@ -39,7 +39,7 @@ returns-then-odd-ge-MOST_COUNT-clause-stage c = let here = key_at c.args.keys.no
 
 pub returns-else-odd-ge-MOST_COUNT-clause-stage : goal.returns-else-odd-ge-MOST_COUNT-clause-stage
 returns-else-odd-ge-MOST_COUNT-clause-stage c = let here = key_at c.args.keys.now c.args.i c.index-keys-i.result c.requires.place c.index-keys-i.is in let held = (c.in-Some.ensures.row c.in-Some.row).0 refl in let s = c.shut_row-odd in
-    let only = wrote_only c.args.holder.now.pass.now s.new.self.pass.now s.ensures.same s.new.self.has_lock _ _ s.ensures.shut.1 in let n = s.ensures.shut.0 in
+    let only = wrote_only c.args.holder.now.pass.now s.new.self.pass.now s.ensures.same s.ensures.held.untried s.new.self.has_lock _ _ s.ensures.shut.1 in let n = s.ensures.shut.0 in
     on_pass c.args.holder.now.pass.now s.new.self.pass.now only _ _ _ 0 (c.args.i + 1) _
     (shut_more _ _ _ _ _ c.args.i _ _ here c.requires.stage c.in-Some.row held c.requires.distinct _ (shut_words c.args.holder.now.pass.now s.new.self.pass.now c.in-Some.row s.result n s.ensures.shut.1) c.in-Some.ensures.valid (omega arith))
 
