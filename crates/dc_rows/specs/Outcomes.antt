@@ -5,7 +5,7 @@ use Rattle.dc_names.specs.declared.NoMemory.{NoMemory}
 use Rattle.dc_plain.specs.Facts.{Key}
 use Rattle.dc_plain.specs.Requests.{Request, answer_of}
 use Rattle.dc_plain.specs.Runs.{tree_after, Touches}
-use Rattle.dc_plain.specs.declared.reply.Reply.{Reply}
+use Rattle.dc_plain.specs.declared.call.Reply.{Reply}
 use Rattle.dc_events.specs.Rows.{most}
 use Rattle.dc_events.specs.Standing.{tree_of}
 use Rattle.dc_table.specs.Changes.{Recorded}
