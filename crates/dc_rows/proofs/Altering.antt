@@ -35,7 +35,7 @@ use Rattle.dc_rows.proofs.Cells.{row_low}
 use Rattle.dc_rows.proofs.Commits.{among, apart, committed_stage, to_rest}
 use Rattle.dc_rows.proofs.Stages.{tree_same}
 
-after_all-snoc : (limit : ℕ) (t : Tree) (h : List Request) (call : Request) → tree_after_all limit t (h ++ call ∷ []) ≡ tree_after limit (tree_after_all limit t h) call
+pub after_all-snoc : (limit : ℕ) (t : Tree) (h : List Request) (call : Request) → tree_after_all limit t (h ++ call ∷ []) ≡ tree_after limit (tree_after_all limit t h) call
 after_all-snoc limit t [] call = refl
 after_all-snoc limit t (x ∷ xs) call = after_all-snoc limit (tree_after limit t x) xs call
 

@@ -13,3 +13,4 @@ pub mod Turning
 pub mod Retelling
 pub mod Pinning
 pub mod Fills
+pub mod Made

@@ -1,5 +1,4 @@
 -- What a caller knows of the guard of the rows.
-use Rattle.std.specs.Prelude.{◌≡◌}
 use Rattle.dc_table.specs.RowStates.{RowState}
 use Rattle.dc_table.specs.Changes.{words_of}
 use Rattle.dc_table.specs.Holders.{pass_of, rows_held}
