@@ -22,6 +22,7 @@ SettlesCallIf limit t request found = SettlesIf t (change_of limit t request) (l
 abbrev pub SettlesUnlimited : Tree → Request → Result rust_plan.Plan Refusal → Type 0
 SettlesUnlimited t request found = SettlesCall 0 t request found
 
+-- and of one that may come to nothing
 abbrev pub SettlesUnlimitedIf : Tree → Request → Result (Option rust_plan.Plan) Refusal → Type 0
 SettlesUnlimitedIf t request found = SettlesCallIf 0 t request found
 

@@ -28,8 +28,7 @@ fn walk_text<S: Store>(store: &S, base: u64, text: &[u8], follow: Follow) -> Res
 /// Answers `Look` (POSIX.1-2017 XBD 4.13) or `Stat`. It takes no memory.
 pub fn seek<S: Store>(store: &S, call: &Call<'_>) -> Reply
     requires { IsSought call.now }
-    ensures { (limit : ℕ) →
-        DeclinesCall limit (S.tree store.now) call.now result }
+    ensures { (limit : ℕ) → DeclinesCall limit (S.tree store.now) call.now result }
 {
     alters_tells_whether_trees_differ();
     match *call {

@@ -105,8 +105,7 @@ impl PlainTree {
     /// Whether a call would make another fact of a fact's key: the call is made on a copy of the
     /// tree. Memory is taken for the copy and for the call.
     pub fn touches(&self, alloc: Global, call: &Call, fact: &Fact) -> Result<bool, NoMemory>
-        ensures { IfOk result (λ touches.
-            IsTrue touches ↔ TouchesFact self.now call.now fact.now) }
+        ensures { IfOk result (λ touches. IsTrue touches ↔ TouchesFact self.now call.now fact.now) }
     {
         let mut later = self.copy(alloc)?;
         later.apply(alloc, call)?;
