@@ -1,5 +1,5 @@
 -- Rows are given keys and pins, and lose pins.
-use Rattle.std.proofs.Common.{◌≡◌, ◌≢◌, ◌⊎◌, ℕ, ◌+◌, ◌-◌, ◌<◌, ◌==◌, Bool, true, false, not, if◌then◌else◌, List, ◌∷◌, length, take, get_or, slice_set, Option, Some, None, Result, Ok, Err, IfOk, IfSome, OnErr, MatchOption, refl, sym, ap, ◌∙◌, subst, arith, inl, inr, nat_eq}
+use Rattle.std.proofs.Common.{◌≡◌, ◌≢◌, ◌⊎◌, ℕ, ◌+◌, ◌-◌, ◌<◌, ◌==◌, Bool, true, false, not, if◌then◌else◌, List, ◌∷◌, length, take, get_or, slice_set, Option, Some, None, Result, Ok, Err, IfOk, IfSome, refl, sym, ap, ◌∙◌, subst, arith, inl, inr, nat_eq}
 use Rattle.std.specs.List.{filter, count_by}
 use Rattle.std.specs.FinMap as finmap
 use Rattle.std.proofs.lemmas.Bool.{cases_eq, eqb-true, eq-eqb, ne_eqb}
@@ -17,7 +17,7 @@ use Rattle.dc_shrink.specs.Uses.{KeepsUse, SetsUse}
 use Rattle.dc_events.specs.Rows.{row_words}
 use Rattle.dc_table.specs.RowStates.{RowState}
 use Rattle.dc_rows.specs.Filling.{Emptied}
-use Rattle.dc_rows.specs.RowChanges.{SameRow, KeepsWords, OnlyRow, IsEmpty, UnpinsRow, UnpinsAll, IsChosen, HasGot, MayFill, Gets}
+use Rattle.dc_rows.specs.RowChanges.{SameRow, KeepsWords, OnlyRow, IsEmpty, UnpinsRow, UnpinsAll, IsChosen, HasGot, MayFill, Gets, PinsOnce, IsFilled}
 use Rattle.dc_rows.proofs.Lists.{filter_past, without_twice, without_first, pins_dropped, pins_dropped_here, pins_with, pins_with_here}
 use Rattle.dc_rows.proofs.SameRows.{same_row, same_then, empty_still, empties_row, row_dropped}
 
@@ -145,7 +145,7 @@ module _ (key : Key) (s m u : RowState) (row : ℕ) (chosen : IsChosen key s row
   all_only : OnlyRow row s u
   all_only = only_then s m u row (row_dropped s m row below (Held key) slots used sets (λ r ne. ap (λ (ws : List ℕ). row_words ws r) words)) only
 
-  pub gets_chosen : (result : Result (Option ℕ) NoMemory) → IfOk result (λ found. IfSome found (λ r. (r ≡ row) × (slot_of u.slots r ≡ Held key))) → Gets key 0 s u result
+  pub gets_chosen : (result : Result (Option ℕ) NoMemory) → IfOk result (λ found. IfSome found (IsFilled u.slots row key)) → Gets key 0 s u result
   gets_chosen (Ok (Some r)) got = let none : pins_of s.used row ≡ 0 = chosen.may.1 in subst (λ (k : ℕ). HasGot key 0 s u k) (sym got.0) record {
     has = subst (λ (k : ℕ). slot_of u.slots k ≡ Held key) got.0 got.1;
     pins = omega arith;
@@ -180,7 +180,7 @@ module _ (key : Key) (s t u : RowState) (row : ℕ) (got : HasGot key 0 s t row)
         (ap (λ (z : Listing). without row z.listed) is ∙ without_twice row t.used.listed));
   }
 
-  pub gets_pin : (result : Result (Option ℕ) NoMemory) → IfOk result (λ found. IfSome found (λ r. r ≡ row)) → IfOk result (λ found. MatchOption found (u.used ≡ t.used) (λ r. u.used ≡ pinned_once t.used row)) → OnErr result (u.used ≡ t.used) → Gets key 1 s u result
-  gets_pin (Ok (Some r)) same is err = subst (λ (k : ℕ). HasGot key 1 s u k) (sym same) (pinned_too is)
-  gets_pin (Ok None) same is err = unpinned_still is
-  gets_pin (Err fault) same is err = unpinned_still err
+  pub gets_pin : (result : Result (Option ℕ) NoMemory) → IfOk result (λ found. IfSome found (λ r. r ≡ row)) → PinsOnce row t.used u.used result → Gets key 1 s u result
+  gets_pin (Ok (Some r)) same is = subst (λ (k : ℕ). HasGot key 1 s u k) (sym same) (pinned_too is)
+  gets_pin (Ok None) same is = unpinned_still is
+  gets_pin (Err fault) same is = unpinned_still is

@@ -1,6 +1,8 @@
 -- What a change makes of the rows of the keys that it touches, and of all others.
-use Rattle.std.specs.Prelude.{◌≡◌, ◌⊎◌, ℕ, ◌+◌, ◌≤◌, Some, List, filter, slice_get}
+use Rattle.std.specs.Prelude.{◌≡◌, ◌⊎◌, ℕ, ◌+◌, ◌≤◌, Some, List, filter, map, slice_get}
 use Rattle.dc_plain.specs.Facts.{Key}
+use Rattle.dc_plain.specs.KeysShown.{key_shown}
+use Rattle.dc_plain.specs.declared.key.Key as rust_key
 use Rattle.dc_plain.specs.Trees.{Tree}
 use Rattle.dc_plain.specs.Requests.{Request}
 use Rattle.dc_plain.specs.Runs.{Touches}
@@ -14,6 +16,7 @@ use Rattle.dc_table.specs.Passes.{share}
 use Rattle.dc_table.specs.declared.table.Guarded.{Guarded}
 use Rattle.dc_table.specs.declared.holder.Holder.{Holder}
 use Rattle.dc_table.specs.Holders.{pass_of, rows_held}
+use Rattle.dc_rows.specs.Rows.{Between}
 use Rattle.dc_rows.specs.RowChanges.{KeepsPins, SameRow, IsEmpty, CanTell}
 
 -- the rows with these keys have become so, and all others are as they were; the list has lost only rows without a key
@@ -41,6 +44,14 @@ pub record Retold (tree : Tree) (s t : RowState) (row : ℕ) (key : Key) : Type 
 abbrev pub TurnsIn : (RowState → RowState → ℕ → Key → Type 0) → (Key → Type 0) → Holder → Guarded → Holder → Guarded → Type 0
 TurnsIn Become Among h x j y = Turns Become Among (rows_held h x) (rows_held j y)
 
+-- the rows with these keys were shut
+abbrev pub Shuts : (Key → Type 0) → Holder → Guarded → Holder → Guarded → Type 0
+Shuts Among h x j y = TurnsIn Shut Among h x j y
+
+-- the odd rows with these keys were filled with what the store has under them, and opened
+abbrev pub Refills : (Key → Type 0) → Holder → Guarded → Holder → Guarded → Type 0
+Refills Among h x j y = TurnsIn (Refilled x.store) Among h x j y
+
 -- the rows whose keys the call touches tell what this tree has under them, and all others are as they were
 abbrev pub Retells : Tree → Holder → Guarded → Holder → Guarded → Request → Type 0
 Retells tree h x j y call = let p = pass_of h in TurnsIn (Retold tree) (Touches (share p).limit (tree_now p) call) h x j y
@@ -48,3 +59,10 @@ Retells tree h x j y call = let p = pass_of h in TurnsIn (Retold tree) (Touches 
 -- the key at a place of the list
 abbrev pub Place : List Key → ℕ → Key → Type 0
 Place keys i key = slice_get keys i ≡ Some key
+
+-- the same of the program's keys, and of the first so many of them
+abbrev pub KeyAt : ℕ → List rust_key.Key → Key → Type 0
+KeyAt i keys = Place (map key_shown keys) i
+
+abbrev pub FirstKeys : ℕ → List rust_key.Key → Key → Type 0
+FirstKeys n keys = Between 0 n (map key_shown keys)

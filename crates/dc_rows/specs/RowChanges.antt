@@ -6,10 +6,10 @@ use Rattle.dc_names.specs.declared.NoMemory.{NoMemory}
 use Rattle.dc_plain.specs.Facts.{Fact, Key, key_of}
 use Rattle.dc_plain.specs.Trees.{Tree, Holds}
 use Rattle.dc_row.specs.Spelling.{Spells, has_spelling}
-use Rattle.dc_index.specs.Slots.{slot_of, has_key, IsRowOf}
+use Rattle.dc_index.specs.Slots.{Slot, slot_of, has_key, IsRowOf}
 use Rattle.dc_index.specs.Slots.Slot.{Holds as Held}
 use Rattle.dc_index.specs.Choices.{choice, MayTake}
-use Rattle.dc_shrink.specs.Listings.{is_in, is_used, pins_of, without}
+use Rattle.dc_shrink.specs.Listings.{Listing, is_in, is_used, pins_of, pinned_once, without}
 use Rattle.dc_events.specs.Rows.{most, count, row_words}
 use Rattle.dc_table.specs.Rows.{is_retired}
 use Rattle.dc_table.specs.RowStates.{RowState}
@@ -94,6 +94,16 @@ abbrev pub Gets : Key → ℕ → RowState → RowState → Result (Option ℕ) 
 Gets key more s t (Ok (Some row)) = HasGot key more s t row
 Gets key more s t (Ok None) = MayFill key s t
 Gets key more s t (Err fault) = MayFill key s t
+
+-- one row's pins where a row is answered: one more; else all is as it was
+abbrev pub PinsOnce : ℕ → Listing → Listing → Result (Option ℕ) NoMemory → Type 0
+PinsOnce row was s (Ok (Some pinned)) = s ≡ pinned_once was row
+PinsOnce row was s (Ok None) = s ≡ was
+PinsOnce row was s (Err fault) = s ≡ was
+
+-- this very row was found, and has the key
+abbrev pub IsFilled : List Slot → ℕ → Key → ℕ → Type 0
+IsFilled slots row key found = (found ≡ row) × (slot_of slots found ≡ Held key)
 
 -- there is a row that tells what the tree has under the key
 abbrev pub CanTell : Tree → Key → Type 0

@@ -7,7 +7,7 @@ ghost use Rattle.dc_plain.specs.KeysShown.{key_shown};
 ghost use Rattle.dc_rows.specs.Changes.{KeepsTree, OnlyWrites, RestAt};
 ghost use Rattle.dc_rows.specs.Filling.{GivenAt};
 ghost use Rattle.dc_rows.specs.Guards.{kept_by, rows_of, Keeps};
-ghost use Rattle.dc_rows.specs.RowChanges.{Gets, OnlyRow};
+ghost use Rattle.dc_rows.specs.RowChanges.{Gets, IsFilled, OnlyRow};
 ghost use Rattle.dc_shrink.specs.Listings.{pins_of};
 ghost use Rattle.dc_table.specs.Changes.{tree_now};
 ghost use Rattle.dc_table.specs.Holders.{pass_of, rows_held};
@@ -37,8 +37,8 @@ fn fill_given(
     ensures pass { OnlyWrites (pass_of holder.old) (pass_of holder.new) }
     ensures tree { KeepsTree kept.old kept.new }
     ensures rest { RestAt (pass_of holder.new) kept.new }
-    ensures filled { IfOk result (λ found. IfSome found (λ filled.
-        (filled ≡ row) × (slot_of kept.new.index filled ≡ Held (key_shown key.now)))) }
+    ensures filled { IfOk result (λ found. IfSome found
+        (IsFilled kept.new.index row (key_shown key.now))) }
     ensures rows { OnlyRow row (rows_held holder.old kept.old) (rows_held holder.new kept.new) }
     ensures unpinned { pins_of kept.new.shrinker row ≡ 0 }
 {

@@ -1,11 +1,11 @@
 //! Rows are pinned while a walk reads them, so that no other key gets them meanwhile.
 
-ghost use Rattle.std.specs.Prelude.{◌≡◌, ◌<◌, IfOk, IfSome, IsTrue, MatchOption, OnErr};
+ghost use Rattle.std.specs.Prelude.{◌≡◌, ◌<◌, IfOk, IfSome, IsTrue};
 ghost use Rattle.dc_rows.specs.Changes.{KeepsTree, OnlyWrites, RestAt};
 ghost use Rattle.dc_plain.specs.KeysShown.{key_shown};
 ghost use Rattle.dc_rows.specs.Guards.{seat_of, kept_by, rows_of, Keeps};
-ghost use Rattle.dc_rows.specs.RowChanges.{Gets, UnpinsAll, UnpinsRow};
-ghost use Rattle.dc_shrink.specs.Listings.{is_used, pinned_once};
+ghost use Rattle.dc_rows.specs.RowChanges.{Gets, PinsOnce, UnpinsAll, UnpinsRow};
+ghost use Rattle.dc_shrink.specs.Listings.{is_used};
 ghost use Rattle.dc_shrink.specs.Uses.{KeepsUse};
 ghost use Rattle.dc_table.specs.Holders.{pass_of, rows_held};
 ghost use Rattle.dc_table.specs.Passes.{share};
@@ -43,9 +43,7 @@ fn pin_row(kept: &mut Guarded, row: u64) -> Result<Option<u64>, NoMemory>
     ensures same_use { KeepsUse kept.old.shrinker kept.new.shrinker × (kept.new.shrinker.rows ≡ kept.old.shrinker.rows) }
     ensures tree { KeepsTree kept.old kept.new × (kept.new.index ≡ kept.old.index) }
     ensures row { IfOk result (λ found. IfSome found (λ r. r ≡ row)) }
-    ensures pinned { IfOk result (λ found. MatchOption found (kept.new.shrinker ≡ kept.old.shrinker)
-        (λ r. kept.new.shrinker ≡ pinned_once kept.old.shrinker row)) }
-    ensures err { OnErr result (kept.new.shrinker ≡ kept.old.shrinker) }
+    ensures pinned { PinsOnce row kept.old.shrinker kept.new.shrinker result }
 {
     match kept.shrinker.pin(row) {
         Ok(()) => Ok(Some(row)),
