@@ -1,0 +1,73 @@
+//! Threads, each with a pass of its own, that do one job together.
+
+ghost use Rattle.dc_cache.specs.Passes.{Fits};
+ghost use Rattle.std.specs.Thread.{IsSync};
+
+use crate::change::Changes;
+use crate::look::Looks;
+use crate::race::Race;
+use crate::tally::Tally;
+use dc_cache::{Dcache, Pass};
+use std::rt::Clock;
+use std::sync::Wait;
+use std::thread::{Threads, join};
+
+/// What the threads do.
+#[derive(Drop)]
+pub enum Job<'a> {
+    Look(Looks<'a>),
+    Change(Changes<'a>),
+    Race(Race<'a>),
+}
+
+/// What one thread does, which hands its pass back.
+fn work<R: Wait + Clock>(
+    rt: &R,
+    cache: &Dcache,
+    job: &Job<'_>,
+    mut pass: Pass,
+    thread: u64,
+) -> (Pass, Tally)
+    requires { Fits cache.now pass }
+    ensures { Fits cache.now result.0 }
+{
+    let tally = match job {
+        Job::Look(looks) => looks.run(rt, cache, &mut pass, thread),
+        Job::Change(changes) => changes.run(rt, cache, &mut pass, thread),
+        Job::Race(race) => race.run(rt, cache, &mut pass, thread),
+    };
+    (pass, tally)
+}
+
+/// Does a job in a thread, and in so many others at the same time.
+pub fn spread<R: Threads + Wait + Clock + Sync>(
+    rt: &R,
+    cache: &Dcache,
+    job: &Job<'_>,
+    mut pass: Pass,
+    thread: u64,
+    others: u64,
+) -> (Pass, Tally)
+    requires sync { IsSync R.row }
+    requires pass { Fits cache.now pass }
+    ensures { Fits cache.now result.0 }
+{
+    if others == 0 {
+        return work(rt, cache, job, pass, thread);
+    }
+    let other = cache.split(&mut pass);
+    let ((mut pass, mut tally), (other, more)) = join(
+        rt,
+        move || -> (Pass, Tally)
+            requires { Fits cache.now pass }
+            ensures { Fits cache.entry.now result.0 }
+        { work(rt, cache, job, pass, thread) },
+        move || -> (Pass, Tally)
+            requires { IsSync R.row × Fits cache.now other }
+            ensures { Fits cache.entry.now result.0 }
+        { spread(rt, cache, job, other, thread.saturating_add(1), others - 1) },
+    );
+    cache.join(&mut pass, other);
+    tally.take_in(more);
+    (pass, tally)
+}
