@@ -1,11 +1,11 @@
 -- What a caller knows of its pass.
-use Rattle.std.specs.Prelude.{ℕ}
+use Rattle.std.specs.Prelude.{◌≡◌, ℕ}
 use Rattle.dc_events.specs.Views.{View}
 use Rattle.dc_table.specs.Passes as seats
 use Rattle.dc_ops.specs.Asked as asked
 use Rattle.dc_plain.specs.declared.call.Call.{Call}
 use Rattle.dc_table.specs.Shares as shares
-use Rattle.dc_table.specs.Shares.{Known, Share}
+use Rattle.dc_table.specs.Shares.{Known, Share, tried}
 use Rattle.dc_walk.specs.Findings as walks
 use Rattle.dc_cache.specs.declared.cache.Dcache.{Dcache}
 use Rattle.dc_cache.specs.declared.cache.Pass.{Pass}
@@ -26,6 +26,10 @@ buckets_of p = walks.buckets_of p.seat
 -- the pass is one of the cache, which has a bucket, and has not the lock
 abbrev pub Fits : Dcache → Pass → Type 0
 Fits cache p = walks.CanWalk cache.shared p.seat
+
+-- another pass has the lock: this one has tried for it once, and has done and seen nothing
+abbrev pub Missed : Pass → Pass → Type 0
+Missed p q = known q ≡ tried (known p)
 
 -- a share that is the whole, as that of the first pass
 abbrev pub IsWhole : Share → Type 0

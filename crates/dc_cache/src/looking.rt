@@ -2,10 +2,11 @@
 
 ghost use Rattle.std.specs.Prelude.{◌≡◌, ◌≤◌, ◌+◌, [], true, None, Some};
 ghost use Rattle.dc_cache.specs.Answers.{Answered};
-ghost use Rattle.dc_cache.specs.Passes.{buckets_of, view, share, Fits};
+ghost use Rattle.dc_cache.specs.Passes.{buckets_of, known, view, share, Fits};
 ghost use Rattle.dc_names.specs.Paths.{fault_of};
 ghost use Rattle.dc_plain.specs.Facts.{told_by};
 ghost use Rattle.dc_plain.specs.Requests.Request.{Look};
+ghost use Rattle.dc_table.specs.Shares.{HasNotTried};
 ghost use Rattle.dc_walk.specs.Fasts.{Keeps, IfAgain, IsLongAgain, Tried};
 ghost use Rattle.dc_walk.specs.Looks.{outcome_by};
 ghost use Rattle.dc_walk.specs.Long.{has_long_name};
@@ -29,6 +30,7 @@ impl Dcache {
             (view pass.old) (view pass.new) result }
         ensures asks { IfAgain result (outcome_by base path.entry.bytes.now follow (told_by []) ≡ None) }
         ensures long { has_long_name path.entry.bytes.now ≡ true → IsLongAgain result }
+        ensures untried { HasNotTried (known pass.old) (known pass.new) }
         ensures loads { (view pass.new).loads ≤ (view pass.old).loads + MOST_LOADS }
     {
         let look = dc_walk::Look { base, path, follow };

@@ -3,8 +3,8 @@
 ghost use Rattle.std.specs.Prelude.{◌≡◌, ◌*◌, ◌≤◌, ◌↔◌, false, Err, IsOk, IfOk, IfErr, IfSome, IsSome};
 ghost use Rattle.dc_cache.specs.Answers.{Loaded};
 ghost use Rattle.dc_cache.specs.Passes.{known, view, share, Fits};
-ghost use Rattle.dc_events.specs.Sizes.{are_right};
-ghost use Rattle.dc_events.specs.declared.sizes.MakeFault.TheVariants.{BadSize};
+ghost use Rattle.dc_names.specs.Sizes.{are_right};
+ghost use Rattle.dc_names.specs.declared.sizes.MakeFault.TheVariants.{BadSize};
 ghost use Rattle.dc_table.specs.Changes.{NothingNew};
 ghost use Rattle.dc_table.specs.Ends.{Ends};
 ghost use Rattle.dc_table.specs.Shares.{IsWhole, first_known, kept_half, new_half, both};

@@ -1,6 +1,7 @@
 //! One thread and two, with values that come from the rules of POSIX.
 
 mod races;
+mod storms;
 mod trying;
 
 ghost use Rattle.std.specs.Thread.{IsSync};

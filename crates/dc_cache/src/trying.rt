@@ -2,7 +2,7 @@
 
 ghost use Rattle.std.specs.Prelude.{◌≡◌, ◌≤◌, IfSome, IfNone};
 ghost use Rattle.dc_cache.specs.Answers.{Answered, Made, Told};
-ghost use Rattle.dc_cache.specs.Passes.{view, share, Fits};
+ghost use Rattle.dc_cache.specs.Passes.{view, share, Fits, Missed};
 ghost use Rattle.dc_events.specs.Rows.{most};
 ghost use Rattle.dc_ops.specs.Asked.{IsChange, IsSought, IsToldAtLength};
 ghost use Rattle.dc_plain.specs.Requests.{request_of};
@@ -68,7 +68,7 @@ impl Dcache {
         ensures same { Fits self.now pass.new × (share pass.new ≡ share pass.old) }
         ensures made { IfSome result (Made pass.old pass.new (request_of call.now)) }
         ensures within { IfSome result (λ _. (view pass.new).book.seen ≤ most) }
-        ensures held { IfNone result (view pass.new ≡ view pass.old) }
+        ensures held { IfNone result (Missed pass.old pass.new) }
     {
         match Guard::try_lock(&self.shared, &mut pass.seat) {
             Ok(guard) => {
@@ -91,7 +91,7 @@ impl Dcache {
         ensures same { Fits self.now pass.new × (share pass.new ≡ share pass.old) }
         ensures nothing { NothingNew (view pass.old) (view pass.new) }
         ensures few { IfSome result (λ emptied. emptied ≤ most) }
-        ensures held { IfNone result (view pass.new ≡ view pass.old) }
+        ensures held { IfNone result (Missed pass.old pass.new) }
     {
         match Guard::try_lock(&self.shared, &mut pass.seat) {
             Ok(mut guard) => {
@@ -110,7 +110,7 @@ impl Dcache {
         requires pass { Fits self.now pass.old }
         ensures same { Fits self.now pass.new × (share pass.new ≡ share pass.old) }
         ensures answered { IfSome result (Answered pass.old pass.new (Stat base path.now)) }
-        ensures held { IfNone result (view pass.new ≡ view pass.old) }
+        ensures held { IfNone result (Missed pass.old pass.new) }
     {
         match Guard::try_lock(&self.shared, &mut pass.seat) {
             Ok(guard) => {
@@ -135,7 +135,7 @@ impl Dcache {
         requires pass { Fits self.now pass.old }
         ensures same { Fits self.now pass.new × (share pass.new ≡ share pass.old) }
         ensures told { IfSome result (Told pass.old pass.new (Readlink base path.now)) }
-        ensures held { IfNone result (view pass.new ≡ view pass.old) }
+        ensures held { IfNone result (Missed pass.old pass.new) }
     {
         self.try_tell(alloc, pass, &Call::Readlink { base, path })
     }
@@ -153,7 +153,7 @@ impl Dcache {
         requires pass { Fits self.now pass.old }
         ensures same { Fits self.now pass.new × (share pass.new ≡ share pass.old) }
         ensures told { IfSome result (Told pass.old pass.new (List_names base path.now)) }
-        ensures held { IfNone result (view pass.new ≡ view pass.old) }
+        ensures held { IfNone result (Missed pass.old pass.new) }
     {
         self.try_tell(alloc, pass, &Call::List { base, path })
     }
@@ -169,7 +169,7 @@ impl Dcache {
         requires call { IsToldAtLength call.now }
         ensures same { Fits self.now pass.new × (share pass.new ≡ share pass.old) }
         ensures told { IfSome result (Told pass.old pass.new (request_of call.now)) }
-        ensures held { IfNone result (view pass.new ≡ view pass.old) }
+        ensures held { IfNone result (Missed pass.old pass.new) }
     {
         match Guard::try_lock(&self.shared, &mut pass.seat) {
             Ok(guard) => {

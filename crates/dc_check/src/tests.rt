@@ -1,5 +1,7 @@
 //! Records that are read and judged.
 
+mod hostile;
+
 use crate::{PhasedVerdict, RecordFault, Stamp, Verdict, check, check_phases, record_of};
 use dc_lang::{read_lines, serving_order};
 use dc_names::{Kind, NoMemory};

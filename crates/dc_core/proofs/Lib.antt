@@ -22,3 +22,4 @@ pub mod Spelled
 pub mod Recorded
 pub mod NotesRead
 pub mod Made
+pub mod Ready

@@ -19,7 +19,7 @@ mod tests;
 mod truths;
 mod walk;
 
-pub use dc_events::MakeFault;
+pub use dc_names::MakeFault;
 pub use event::{Act, Event};
 pub use laws::events_are_steps_of_the_table;
 pub use machine::Core;

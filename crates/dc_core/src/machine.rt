@@ -7,16 +7,15 @@ ghost use Rattle.dc_core.specs.Lives.{Lives, AreLegal};
 ghost use Rattle.dc_core.specs.Memory.{AnsweredAs};
 ghost use Rattle.dc_core.specs.Shown.{event_shown, finished_shown};
 ghost use Rattle.dc_events.specs.Rows.{count};
-ghost use Rattle.dc_events.specs.Sizes.{are_right};
-ghost use Rattle.dc_events.specs.declared.sizes.MakeFault.TheVariants.{BadSize};
+ghost use Rattle.dc_names.specs.Sizes.{are_right};
+ghost use Rattle.dc_names.specs.declared.sizes.MakeFault.TheVariants.{BadSize};
 
 use crate::state::{Finished, State};
 use crate::{Event, Refused};
 use dc_events::{
-    MakeFault, are_right, events_keep_the_rule, loads_tell_nothing, new_tables_have_the_rule,
-    records_are_legal,
+    events_keep_the_rule, loads_tell_nothing, new_tables_have_the_rule, records_are_legal,
 };
-use dc_names::BUCKET_ROWS;
+use dc_names::{BUCKET_ROWS, MakeFault, are_right};
 use std::alloc::Global;
 use std::marker::Model;
 

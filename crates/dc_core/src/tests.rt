@@ -1,3 +1,5 @@
+//! Lists of events, done or refused.
+
 use crate::{Act, Core, Event, Finished, MakeFault, Refused};
 use dc_names::Kind;
 use dc_plain::{Call, Flags, Follow, Reply};

@@ -1,4 +1,4 @@
--- The rule of the shared words, the views of the actors, what each event does to them, and the sizes of a table.
+-- The rule of the shared words, the views of the actors, what each event does to them.
 pub mod Views
 pub mod Standing
 pub mod Rows
@@ -9,4 +9,3 @@ pub mod Effects
 pub mod Legal
 pub mod Passes
 pub mod Laws
-pub mod Sizes

@@ -1,16 +1,17 @@
 -- The shared words: word 0 is the clock, word 1 the lock, and each row has ROW_WORDS words from 2 on, of which the first is its count.
-use Rattle.std.specs.Prelude.{◌≡◌, ℕ, zero, suc, ◌+◌, ◌*◌, ◌^◌, ◌%◌, List, [], ◌∷◌, length, get_or, replicate, Option, Some, None}
+use Rattle.std.specs.Prelude.{◌≡◌, ℕ, zero, suc, ◌+◌, ◌*◌, ◌%◌, List, [], ◌∷◌, length, get_or, replicate, Option, Some, None}
 use Rattle.dc_plain.specs.Facts.{Fact}
 use Rattle.dc_plain.specs.Requests.{Request}
 use Rattle.dc_plain.specs.Trees.{Tree, Holds as IsTrueIn}
 use Rattle.dc_plain.specs.Runs.{Touches}
 use Rattle.dc_plain.specs.Facts.{key_of}
+use Rattle.dc_names.specs.declared.limits.TheConstants.{MOST_COUNT}
 use Rattle.dc_row.specs.Spelling.{Spells}
 use Rattle.dc_row.specs.declared.TheConstants.{ROW_WORDS}
 use Rattle.dc_events.specs.Views.{Note}
 
 abbrev pub most : ℕ
-most = 2 ^ 62
+most = MOST_COUNT
 
 abbrev pub base_of : ℕ → ℕ
 base_of row = 2 + row * ROW_WORDS

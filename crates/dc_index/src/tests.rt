@@ -1,3 +1,5 @@
+//! Rows with keys, call by call.
+
 ghost use Rattle.std.specs.Prelude.{◌≡◌, ◌≢◌, ◌*◌, ◌/◌, ℕ, ◌<◌, ◌≤◌, IfOk, OnOk, IsTrue, length, not, true, slice_set};
 ghost use Rattle.dc_names.specs.declared.limits.TheConstants.{MOST_BUCKETS};
 ghost use Rattle.dc_plain.specs.KeysShown.{key_shown};

@@ -1,3 +1,5 @@
+//! Paths, names, hashes and words, with values from outside.
+
 ghost use Rattle.std.specs.Prelude.{◌≡◌, IfOk, map};
 ghost use Rattle.dc_names.specs.Names.{part_shown};
 ghost use Rattle.dc_names.specs.Paths.{parts_of};

@@ -1,12 +1,13 @@
 -- The keys of a rename.
 use Rattle.std.proofs.lemmas.Bool.{eq-eqb, ne_eqb}
-use Rattle.std.proofs.Common.{◌≡◌, ◌≢◌, subst, true, IfSome, IsTrue, Ok, Err, ℕ, ◌==◌, ◌&&◌, not, List, [], ◌∷◌, ◌++◌, Bool, false, Option, Some, None, refl, ap, sym, ◌∙◌, option_map, if◌then◌else◌}
+use Rattle.std.proofs.Common.{◌≡◌, ◌≢◌, subst, true, IfSome, IsTrue, Ok, Err, ℕ, ◌==◌, ◌&&◌, not, List, [], ◌∷◌, ◌++◌, Bool, false, Option, Some, None, Result, length, refl, ap, sym, ◌∙◌, option_map, if◌then◌else◌}
 use Rattle.dc_plain.specs.Facts.{Target, Key}
 use Rattle.dc_names.specs.Bytes.{is_empty}
+use Rattle.dc_names.specs.declared.refusal.Refusal.{Refusal}
 use Rattle.dc_names.specs.declared.refusal.Refusal.TheVariants.{NotDirectory, IsDirectory, NotEmpty}
 use Rattle.dc_plain.specs.Refusals.{refuse}
-use Rattle.dc_plain.specs.Conditions.{is_full_directory}
-use Rattle.dc_plain.specs.Operations.{same_inode, replaceable}
+use Rattle.dc_plain.specs.Conditions.{CanStandAt, is_full_directory}
+use Rattle.dc_plain.specs.Operations.{Change, is_beneath, same_inode, replaceable}
 use Rattle.dc_plain.specs.Resolution.{is_directory}
 use Rattle.dc_plain.specs.TouchedKeys.{entry_key, keys_gone, keys_moved, keys_renamed, keys_swapped, keys_taken, parent_key, lead_to_one, with_number}
 use Rattle.dc_plain.specs.Trees.{Tree, Inode, entry_number, names_in, target_at, inode_of, is_live_directory, is_directory_inode}
@@ -15,6 +16,8 @@ use Rattle.dc_plain.specs.Spots.{spot_at}
 use Rattle.dc_plain.specs.KeysShown.{keys_in}
 use Rattle.dc_plain.specs.declared.key.Key as rust_key
 use Rattle.dc_ops.specs.Keys.{keys_reparented}
+use Rattle.dc_ops.specs.Plans.{SettlesIf}
+use Rattle.dc_ops.specs.declared.plans.Plan.{Plan}
 use Rattle.dc_ops.proofs.Goes.{by_inode}
 
 same_by : (moved : Target) (there : Option Target) → lead_to_one (Some moved.0) (option_map (λ place. place.0) there) ≡ same_inode moved there
@@ -82,3 +85,18 @@ swapped_keys t from old to new moved there first second source lives target stan
     let going = reparented t from to moved a first source lives first_turns in
     let coming = reparented t to from there b second target stands second_turns in
     sym (whole ∙ (λ i. entry_key from old ∷ entry_key to new ∷ (going i ++ coming i)))
+
+-- by the tests that a move passes
+pub may_stand : (t : Tree) (to : ℕ) (new : List ℕ) (moved : Target) (there : Option Target) {inside : Bool} → IsTrue (is_live_directory t to) → target_at t moved.0 ≡ Some moved
+    → inside ≡ (is_directory moved && is_beneath (length t.inodes) t to moved.0) → inside ≡ false → same_inode moved there ≡ false → option_map (λ place. place.0) there ≡ entry_number t (spot_at to new)
+    → IfSome there (λ place. target_at t place.0 ≡ Some place) → replaceable t moved there ≡ Ok true → CanStandAt t to new moved.0
+may_stand t to new moved there held lives tested passed apart target live_there may = record {
+  directory = held;
+  apart = ap (λ b. b && is_beneath (length t.inodes) t to moved.0) (sym (live_by t moved lives)) ∙ sym tested ∙ passed;
+  other = other_there moved there _ apart target;
+  gives_way = gives_way t moved there _ target live_there may;
+}
+
+-- another change and other keys that are these
+pub settles_so : (t : Tree) (change other : Change) (keys others : List Key) (found : Result (Option Plan) Refusal) → SettlesIf t other others found → change ≡ other → keys ≡ others → SettlesIf t change keys found
+settles_so t change other keys others found settled is same = subst (λ c. SettlesIf t c keys found) (sym is) (subst (λ ks. SettlesIf t other ks found) (sym same) settled)

@@ -1,5 +1,5 @@
 -- Where an entry may be added, there is room for it.
-use Rattle.std.proofs.Common.{◌≡◌, ℕ, ◌<◌, ◌≤◌, ◌||◌, ◌==◌, nat_le, length, Bool, true, false, Option, Some, None, is_some, option_map, IsTrue, refl, ap, ◌∙◌, arith}
+use Rattle.std.proofs.Common.{◌≡◌, ℕ, ◌<◌, ◌≤◌, ◌||◌, ◌==◌, nat_le, length, Bool, true, false, Option, Some, None, is_some, option_map, IsTrue, refl, ap, sym, ◌∙◌, arith}
 use Rattle.std.proofs.lemmas.Bool.Decides.{nat_tests}
 use Rattle.dc_names.specs.declared.kind.Kind.TheVariants.{Dir}
 use Rattle.dc_plain.specs.Facts.{Target}
@@ -53,3 +53,7 @@ pub may_be_named : (t : Tree) (place : Target) → target_at t place.0 ≡ Some 
 may_be_named t place lives file few =
     let by = lives_by t place.0 (inode_of t place.0) place lives file in
     record { lives = by.0; no_directory = by.1; few = few_by (names_of t place.0) few }
+
+-- by the tests that a link passes
+pub may_link : (t : Tree) (place : Target) {directory many : Bool} → target_at t place.0 ≡ Some place → directory ≡ is_directory place → directory ≡ false → many ≡ nat_le MOST_NAMES (names_of t place.0) → many ≡ false → CanBeNamed t place.0
+may_link t place lives kind file count few = may_be_named t place lives (sym kind ∙ file) (sym count ∙ few)

@@ -1,14 +1,24 @@
 -- The keys whose facts a plan alters.
-use Rattle.std.specs.Prelude.{◌≡◌, ℕ, List, [], ◌∷◌, ◌++◌, Bool, Some, slice_get, if◌then◌else◌}
+use Rattle.std.specs.Prelude.{◌≡◌, ℕ, List, [], ◌∷◌, ◌++◌, Bool, Some, map, slice_get, if◌then◌else◌}
 use Rattle.dc_names.specs.declared.kind.Kind.TheVariants.{Dir, File, Link}
 use Rattle.dc_plain.specs.Facts.{Key}
-use Rattle.dc_plain.specs.KeysShown.{keys_in}
+use Rattle.dc_plain.specs.KeysShown.{key_shown, keys_in}
+use Rattle.dc_plain.specs.declared.key.Key as rust_key
+use Rattle.dc_plain.specs.declared.spot.Spot as rust_spot
 use Rattle.dc_plain.specs.Spots.{spot_shown}
 use Rattle.dc_plain.specs.TouchedKeys.{entry_key, own_keys, parent_key, spot_key}
 use Rattle.dc_store.specs.declared.store.New as rust_new
 use Rattle.dc_store.specs.declared.store.New.TheVariants as news
 use Rattle.dc_ops.specs.declared.plans.Plan as rust_plan
 use Rattle.dc_ops.specs.declared.plans.Plan.TheVariants as plans
+
+-- keys without where their bytes lie
+abbrev pub keys_shown : List rust_key.Key → List Key
+keys_shown keys = map key_shown keys
+
+-- the keys of two names
+abbrev pub keys_at : rust_spot.Spot → rust_spot.Spot → List Key
+keys_at from to = spot_key (spot_shown from) ∷ spot_key (spot_shown to) ∷ []
 
 -- the key of its own that what is added has, where that is new
 abbrev pub keys_made : ℕ → rust_new.New → List Key

@@ -6,3 +6,5 @@ pub mod Reads
 pub mod Renames
 pub mod Makes
 pub mod Same
+pub mod Settled
+pub mod Found

@@ -1,10 +1,15 @@
 -- Changes that make a new inode.
-use Rattle.std.specs.Prelude.{ℕ, List, Bool, true, false}
+use Rattle.std.specs.Prelude.{ℕ, ◌∷◌, List, Bool, true, false, Result}
+use Rattle.dc_names.specs.declared.refusal.Refusal.{Refusal}
 use Rattle.dc_plain.specs.Trees.{Tree, Inode}
 use Rattle.dc_plain.specs.Trees.Inode.{Directory, Regular, Symbolic}
 use Rattle.dc_plain.specs.Operations.{Change, make}
+use Rattle.dc_plain.specs.TouchedKeys.{at_name, entry_key}
 use Rattle.dc_store.specs.declared.store.New as rust_new
 use Rattle.dc_store.specs.declared.store.New.TheVariants as news
+use Rattle.dc_ops.specs.Keys.{keys_made}
+use Rattle.dc_ops.specs.Plans.{Settles}
+use Rattle.dc_ops.specs.declared.plans.Plan as rust_plan
 
 abbrev pub MakesInode : rust_new.New → Type 0
 MakesInode news.Dir = Unit {0}
@@ -28,3 +33,8 @@ may_end_in_slash (news.Same n) = false
 
 abbrev pub made_for : ℕ → Tree → ℕ → List ℕ → rust_new.New → Change
 made_for limit t base text new = make limit t base text (may_end_in_slash new) (inode_made new)
+
+-- an entry for a new inode comes to a plan, with the keys of the name and of the inode's own, or to its refusal
+abbrev pub SettlesMade : ℕ → Tree → ℕ → List ℕ → rust_new.New → Result rust_plan.Plan Refusal → Type 0
+SettlesMade limit t base text new found =
+    Settles t (made_for limit t base text new) (at_name t base text (λ d name. entry_key d name ∷ keys_made t.next new)) found

@@ -8,8 +8,9 @@ ghost use Rattle.dc_names.specs.declared.refusal.Refusal.TheVariants.{NotFound};
 ghost use Rattle.dc_plain.specs.Facts.Label.{Entry};
 ghost use Rattle.dc_plain.specs.IsWellFormed.{IsWellFormed};
 ghost use Rattle.dc_plain.specs.Refusals.{is_full, present, where_on};
-ghost use Rattle.dc_plain.specs.Spots.{spot_at, where_shown};
-ghost use Rattle.dc_plain.specs.Trees.{entry_of, entry_number, target_at, names_of};
+ghost use Rattle.dc_plain.specs.Spots.{where_shown};
+ghost use Rattle.dc_plain.specs.Trees.{entry_of, target_at, names_of};
+ghost use Rattle.dc_ops.specs.Found.{number_at};
 
 use crate::finder::entry;
 use crate::paths::{path_of, place_path};
@@ -64,7 +65,7 @@ pub(crate) fn present<S: Store>(store: &S, dir: u64, name: Name<'_>) -> Result<T
     ensures found { result
         ≡ present NotFound (entry_of (S.tree store.now) dir (Entry name.entry.bytes.now)) }
     ensures target { IfOk result (λ target.
-        entry_number (S.tree store.now) (spot_at dir name.entry.bytes.now) ≡ Some target.0) }
+        number_at (S.tree store.now) dir name.entry ≡ Some target.0) }
     ensures lives { IfOk result (λ target. target_at (S.tree store.now) target.0 ≡ Some target) }
     ensures named { IfOk result (λ target. 1 ≤ names_of (S.tree store.now) target.0) }
     ensures well { IsWellFormed (S.tree store.now) }
@@ -84,8 +85,7 @@ pub(crate) fn is_full<S: Store>(store: &S, max_inodes: u64) -> bool
 pub(crate) fn is_there<S: Store>(store: &S, dir: u64, name: Name<'_>) -> bool
     ensures there { result
         ≡ is_some (entry_of (S.tree store.now) dir (Entry name.entry.bytes.now)) }
-    ensures free { result ≡ false →
-        entry_number (S.tree store.now) (spot_at dir name.entry.bytes.now) ≡ None }
+    ensures free { result ≡ false → number_at (S.tree store.now) dir name.entry ≡ None }
     ensures well { IsWellFormed (S.tree store.now) }
 {
     entry(store, dir, name).is_some()

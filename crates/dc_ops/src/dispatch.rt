@@ -1,11 +1,10 @@
 //! Plans of all changes.
 
-ghost use Rattle.std.specs.Prelude.{IfOk, IfErr, IfSome};
-ghost use Rattle.dc_plain.specs.Operations.{change_of};
-ghost use Rattle.dc_plain.specs.Requests.{answer_of, request_of};
-ghost use Rattle.dc_plain.specs.TouchedKeys.{listed};
+ghost use Rattle.std.specs.Prelude.{IfOk, IfErr};
+ghost use Rattle.dc_plain.specs.Requests.{request_of};
 ghost use Rattle.dc_ops.specs.Asked.{IsChange};
-ghost use Rattle.dc_ops.specs.Plans.{Plans, Declines, SettlesIf, CallTakesNoMemory, PlanTakesNoMemory};
+ghost use Rattle.dc_ops.specs.Plans.{Plans, CallTakesNoMemory};
+ghost use Rattle.dc_ops.specs.Settled.{DeclinesCall, FoundTakesNoMemory, SettlesCallIf};
 
 use crate::Plan;
 use crate::makes::{plan_link, plan_make, plan_symlink};
@@ -23,7 +22,7 @@ pub fn plan<'a, S: Store>(store: &S, call: &Call<'a>, max_inodes: u64) -> Result
     requires { IsChange call.now }
     ensures planned { IfOk result (Plans max_inodes (S.tree store.now) (request_of call.now)) }
     ensures declined { IfErr result (λ reply.
-        Declines max_inodes (S.tree store.now) (request_of call.now) (answer_of reply)) }
+        DeclinesCall max_inodes (S.tree store.now) call.now reply) }
 {
     alters_tells_whether_trees_differ();
     names_in_directories_are_in_order();
@@ -41,11 +40,8 @@ fn found<'a, S: Store>(
     max_inodes: u64,
 ) -> Result<Option<Plan<'a>>, Refusal>
     requires { IsChange call.now }
-    ensures settled { SettlesIf (S.tree store.now)
-        (change_of max_inodes (S.tree store.now) (request_of call.now))
-        (listed (S.tree store.now) (request_of call.now)) result }
-    ensures without_memory { CallTakesNoMemory (request_of call.now) →
-        IfOk result (λ plan. IfSome plan (λ plan. PlanTakesNoMemory plan)) }
+    ensures settled { SettlesCallIf max_inodes (S.tree store.now) (request_of call.now) result }
+    ensures without_memory { CallTakesNoMemory (request_of call.now) → FoundTakesNoMemory result }
 {
     Ok(match *call {
         Call::Mkdir { base, path } => Some(plan_make(store, base, path, New::Dir, max_inodes)?),

@@ -3,10 +3,10 @@
 ghost use Rattle.std.specs.Prelude.{◌≡◌, ◌≤◌, false, refl, Some, option_map, IfSome, IsTrue};
 ghost use Rattle.dc_plain.specs.Facts.Label.{Entry, Parent};
 ghost use Rattle.dc_plain.specs.IsWellFormed.{IsWellFormed};
-ghost use Rattle.dc_plain.specs.Trees.{told_of, entry_of, entry_number, target_at, names_of};
-ghost use Rattle.dc_plain.specs.Spots.{spot_at};
+ghost use Rattle.dc_plain.specs.Trees.{told_of, entry_of, target_at, names_of};
 ghost use Rattle.dc_names.specs.Paths.Part.{DotDot};
 ghost use Rattle.dc_resolve.specs.Asked.{may_be_found};
+ghost use Rattle.dc_ops.specs.Found.{number_at};
 ghost use Rattle.dc_ops.specs.Same.{one_after, same_tells};
 
 use dc_names::{Kind, Name, Part};
@@ -23,7 +23,7 @@ pub struct StoreFinder<'a, S: Store> {
 pub(crate) fn entry<S: Store>(store: &S, dir: u64, name: Name<'_>) -> Option<Target>
     ensures found { result ≡ entry_of (S.tree store.now) dir (Entry name.entry.bytes.now) }
     ensures target { option_map (λ target. target.0) result
-        ≡ entry_number (S.tree store.now) (spot_at dir name.entry.bytes.now) }
+        ≡ number_at (S.tree store.now) dir name.entry }
     ensures lives { IfSome result (λ target. target_at (S.tree store.now) target.0 ≡ Some target) }
     ensures named { IfSome result (λ target. 1 ≤ names_of (S.tree store.now) target.0) }
     ensures well { IsWellFormed (S.tree store.now) }

@@ -1,12 +1,12 @@
 //! The keys that a plan touches.
 
-ghost use Rattle.std.specs.Prelude.{◌≡◌, ◌<◌, ◌≤◌, ◌+◌, ◌∷◌, ◌++◌, map};
+ghost use Rattle.std.specs.Prelude.{◌≡◌, ◌<◌, ◌≤◌, ◌+◌, ◌∷◌, ◌++◌};
 ghost use Rattle.dc_plain.specs.Spots.{spot_shown};
 ghost use Rattle.dc_plain.specs.TouchedKeys.{spot_key};
 ghost use Rattle.std.specs.Option.{option_to_list};
 ghost use Rattle.arrayvec.specs.ArrayVec.{array_vec_len};
-ghost use Rattle.dc_plain.specs.KeysShown.{key_shown, keys_in};
-ghost use Rattle.dc_ops.specs.Keys.{keys_made, keys_of, keys_reparented};
+ghost use Rattle.dc_plain.specs.KeysShown.{keys_in};
+ghost use Rattle.dc_ops.specs.Keys.{keys_at, keys_made, keys_of, keys_reparented, keys_shown};
 
 use crate::{Moved, Plan};
 use arrayvec::ArrayVec;
@@ -19,7 +19,7 @@ impl<'a> Plan<'a> {
     /// comes, goes or gets another parent, and the text of a link that comes or goes.
     #[must_use]
     pub fn keys(&self) -> ArrayVec<Key<'a>, 4>
-        ensures { map key_shown result.items ≡ keys_of self.now }
+        ensures { keys_shown result.items ≡ keys_of self.now }
     {
         match *self {
             Plan::Add {
@@ -53,7 +53,7 @@ impl<'a> Plan<'a> {
 
 /// The keys of a name and of an inode's own, if there is one.
 fn one_name<'a>(name: Spot<'a>, own: Option<Key<'a>>) -> ArrayVec<Key<'a>, 4>
-    ensures { map key_shown result.items ≡ spot_key (spot_shown name.entry) ∷ keys_in own.entry }
+    ensures { keys_shown result.items ≡ spot_key (spot_shown name.entry) ∷ keys_in own.entry }
 {
     let mut keys = ArrayVec::new();
     keys.push(Key::from(name));
@@ -68,8 +68,8 @@ fn two_names<'a>(
     own: Option<Key<'a>>,
     other: Option<Key<'a>>,
 ) -> ArrayVec<Key<'a>, 4>
-    ensures { map key_shown result.items ≡ spot_key (spot_shown from.entry)
-        ∷ spot_key (spot_shown to.entry) ∷ keys_in own.entry ++ keys_in other.entry }
+    ensures { keys_shown result.items
+        ≡ keys_at from.entry to.entry ++ keys_in own.entry ++ keys_in other.entry }
 {
     let mut keys = ArrayVec::new();
     keys.push(Key::from(from));

@@ -1,15 +1,12 @@
 //! Plans of entries that come.
 
-ghost use Rattle.std.specs.Prelude.{◌≡◌, ◌∷◌, [], true, nat_le, false, Some};
-ghost use Rattle.dc_names.specs.declared.kind.Kind.TheVariants.{Link as LinkKind};
-ghost use Rattle.dc_plain.specs.Operations.{link, symlink};
+ghost use Rattle.std.specs.Prelude.{◌≡◌, nat_le, false, Some};
+ghost use Rattle.dc_plain.specs.Requests.Request.{Hard_link, Symlink};
 ghost use Rattle.dc_plain.specs.Resolution.{is_directory};
-ghost use Rattle.dc_plain.specs.TouchedKeys.{at_name, entry_key, own_keys};
 ghost use Rattle.dc_plain.specs.Trees.{names_of, target_at};
 ghost use Rattle.dc_names.specs.declared.limits.TheConstants.{MOST_NAMES};
-ghost use Rattle.dc_ops.specs.Keys.{keys_made};
-ghost use Rattle.dc_ops.specs.Makes.{MakesInode, made_for, may_end_in_slash};
-ghost use Rattle.dc_ops.specs.Plans.{Settles};
+ghost use Rattle.dc_ops.specs.Makes.{MakesInode, SettlesMade, may_end_in_slash};
+ghost use Rattle.dc_ops.specs.Settled.{SettlesCall, SettlesUnlimited};
 
 use crate::Plan;
 use crate::conditions::{is_full, is_there, name_or, place_text, present, refuse};
@@ -27,10 +24,7 @@ pub(crate) fn plan_make<'a, S: Store>(
     max_inodes: u64,
 ) -> Result<Plan<'a>, Refusal>
     requires { MakesInode new }
-    ensures { Settles (S.tree store.now)
-        (made_for max_inodes (S.tree store.now) base path.now new.entry)
-        (at_name (S.tree store.now) base path.now
-        (λ d name. entry_key d name ∷ keys_made (S.tree store.now).next new.entry)) result }
+    ensures { SettlesMade max_inodes (S.tree store.now) base path.now new.entry result }
 {
     paths_lead_to_the_living();
     let at = place_text(store, base, path)?;
@@ -61,10 +55,7 @@ pub(crate) fn plan_symlink<'a, S: Store>(
     path: &'a [u8],
     max_inodes: u64,
 ) -> Result<Plan<'a>, Refusal>
-    ensures { Settles (S.tree store.now)
-        (symlink max_inodes (S.tree store.now) base text.now path.now)
-        (at_name (S.tree store.now) base path.now
-        (λ d name. entry_key d name ∷ own_keys (S.tree store.now).next LinkKind)) result }
+    ensures { SettlesCall max_inodes (S.tree store.now) (Symlink base text.now path.now) result }
 {
     // The text's fault is refused before the path is looked at.
     let text = path_of(text)?;
@@ -78,8 +69,7 @@ pub(crate) fn plan_link<'a, S: Store>(
     old: &'a [u8],
     new: &'a [u8],
 ) -> Result<Plan<'a>, Refusal>
-    ensures { Settles (S.tree store.now) (link (S.tree store.now) base old.now new.now)
-        (at_name (S.tree store.now) base new.now (λ d name. entry_key d name ∷ [])) result }
+    ensures { SettlesUnlimited (S.tree store.now) (Hard_link base old.now new.now) result }
 {
     paths_lead_to_the_living();
     let old_path = path_of(old)?;

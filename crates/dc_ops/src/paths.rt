@@ -3,11 +3,9 @@
 ghost use Rattle.std.specs.Prelude.{◌≡◌, IfOk};
 ghost use Rattle.dc_names.specs.Paths.{path_in};
 ghost use Rattle.dc_names.specs.Refusals.{Gives};
-ghost use Rattle.dc_plain.specs.Places.{walk};
-ghost use Rattle.dc_plain.specs.Refusals.{ended, path_or_fault, place_on};
-ghost use Rattle.dc_plain.specs.Resolution.{settled_walk};
+ghost use Rattle.dc_plain.specs.Ends.{end_on};
+ghost use Rattle.dc_plain.specs.Refusals.{path_or_fault, place_on};
 ghost use Rattle.dc_plain.specs.Spots.{where_shown};
-ghost use Rattle.dc_plain.specs.Trees.{told_of};
 
 use crate::finder::StoreFinder;
 use dc_names::{PathText, Refusal, parse};
@@ -30,8 +28,8 @@ pub(crate) fn walk_path<S: Store>(
     path: PathText<'_>,
     follow: Follow,
 ) -> Result<Target, Refusal>
-    ensures { Gives result (λ target. target) (ended (settled_walk
-        (walk (told_of (S.tree store.now)) base (path_in path.entry.bytes.now) follow))) }
+    ensures { Gives result (λ target. target)
+        (end_on (S.tree store.now) base path.entry.bytes.now follow) }
 {
     let mut finder = StoreFinder { store };
     let walked = walk(&mut finder, base, path, follow);

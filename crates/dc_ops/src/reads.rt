@@ -6,9 +6,9 @@ ghost use Rattle.dc_plain.specs.Reads.{look, stat, readlink, list_names};
 ghost use Rattle.dc_plain.specs.Requests.{answer_of, request_of};
 ghost use Rattle.dc_plain.specs.Refusals.{walk_on};
 ghost use Rattle.dc_ops.specs.Asked.{IsSought, IsToldAtLength};
-ghost use Rattle.dc_ops.specs.Plans.{Declines};
 ghost use Rattle.dc_plain.specs.Runs.{reply_of};
 ghost use Rattle.dc_ops.specs.Reads.{answered, IsAtLength};
+ghost use Rattle.dc_ops.specs.Settled.{DeclinesCall};
 
 use crate::paths::{path_of, walk_path};
 use dc_names::{NoMemory, Refusal};
@@ -28,8 +28,7 @@ fn walk_text<S: Store>(store: &S, base: u64, text: &[u8], follow: Follow) -> Res
 /// Answers `Look` (POSIX.1-2017 XBD 4.13) or `Stat`. It takes no memory.
 pub fn seek<S: Store>(store: &S, call: &Call<'_>) -> Reply
     requires { IsSought call.now }
-    ensures { (limit : ℕ) →
-        Declines limit (S.tree store.now) (request_of call.now) (answer_of result) }
+    ensures { (limit : ℕ) → DeclinesCall limit (S.tree store.now) call.now result }
 {
     alters_tells_whether_trees_differ();
     match *call {
@@ -72,7 +71,7 @@ fn stat<S: Store>(store: &S, base: u64, path: &[u8]) -> Reply
 pub fn ask<S: Store>(alloc: Global, store: &S, call: &Call<'_>) -> Result<Reply, NoMemory>
     requires { IsToldAtLength call.now }
     ensures ok { IfOk result (λ reply. (limit : ℕ) →
-        Declines limit (S.tree store.now) (request_of call.now) (answer_of reply)) }
+        DeclinesCall limit (S.tree store.now) call.now reply) }
     ensures err { OnErr result ((limit : ℕ) →
         IsAtLength (reply_of limit (S.tree store.now) (request_of call.now))) }
 {

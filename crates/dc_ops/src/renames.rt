@@ -1,16 +1,16 @@
 //! Plans of entries that move.
 
-ghost use Rattle.std.specs.Prelude.{◌≡◌, ◌≤◌, ◌==◌, ◌&&◌, not, true, length, option_map, Some, IfErr, IfOk, IfSome, Ok, Err, OnOk, IsTrue};
+ghost use Rattle.std.specs.Prelude.{◌≡◌, ◌≤◌, ◌==◌, ◌&&◌, not, true, option_map, Some, IfErr, IfSome, Ok, Err, OnOk, IsTrue};
 ghost use Rattle.dc_plain.specs.IsWellFormed.{IsWellFormed};
 ghost use Rattle.dc_plain.specs.KeysShown.{keys_in};
-ghost use Rattle.dc_plain.specs.Operations.{rename, swap_names, is_beneath, replaceable, same_inode};
+ghost use Rattle.dc_plain.specs.Operations.{replaceable, same_inode};
 ghost use Rattle.dc_plain.specs.Requests.Request.{Rename};
 ghost use Rattle.dc_plain.specs.Resolution.{is_directory};
-ghost use Rattle.dc_plain.specs.Spots.{spot_at, spot_shown, where_shown};
-ghost use Rattle.dc_plain.specs.TouchedKeys.{keys_gone, keys_swapped, listed, with_number};
+ghost use Rattle.dc_plain.specs.Spots.{spot_at, spot_shown};
+ghost use Rattle.dc_plain.specs.TouchedKeys.{keys_gone, with_number};
 ghost use Rattle.dc_plain.specs.Trees.{is_live_directory, names_of, target_at, entry_number};
-ghost use Rattle.dc_ops.specs.Plans.{PlanTakesNoMemory, SettlesIf};
-ghost use Rattle.dc_ops.specs.Renames.{keys_of_move, move_to};
+ghost use Rattle.dc_ops.specs.Renames.{lies_beneath, SettlesMove, SettlesSwap};
+ghost use Rattle.dc_ops.specs.Settled.{FoundTakesNoMemory, SettlesUnlimitedIf};
 
 use crate::conditions::{name_or_each, present, refuse};
 use crate::finder::entry;
@@ -32,11 +32,9 @@ pub(crate) fn plan_rename<'a, S: Store>(
     new: &'a [u8],
     flags: Flags,
 ) -> Result<Option<Plan<'a>>, Refusal>
-    ensures settled { SettlesIf (S.tree store.now)
-        (rename (S.tree store.now) base old.now new.now flags)
-        (listed (S.tree store.now) (Rename base old.now new.now flags)) result }
-    ensures without_memory { IsTrue flags.exchange →
-        IfOk result (λ plan. IfSome plan (λ plan. PlanTakesNoMemory plan)) }
+    ensures settled { SettlesUnlimitedIf (S.tree store.now)
+        (Rename base old.now new.now flags) result }
+    ensures without_memory { IsTrue flags.exchange → FoundTakesNoMemory result }
 {
     paths_lead_to_the_living();
     refuse(flags.no_replace && flags.exchange, Refusal::Invalid)?;
@@ -74,9 +72,7 @@ fn plan_move<'a, S: Store>(
     requires source { entry_number (S.tree store.now) (spot_shown from) ≡ Some moved.0 }
     requires lives { target_at (S.tree store.now) moved.0 ≡ Some moved }
     requires held { IsTrue (is_live_directory (S.tree store.now) to.dir) }
-    ensures { SettlesIf (S.tree store.now)
-        (move_to (S.tree store.now) (spot_shown from.entry) (spot_shown to.entry) moved no_replace)
-        (keys_of_move (S.tree store.now) (spot_shown from.entry) (spot_shown to.entry)) result }
+    ensures { SettlesMove (S.tree store.now) from.entry to.entry moved no_replace result }
 {
     let there = entry(store, to.dir, to.name);
     refuse(no_replace && there.is_some(), Refusal::Exists)?;
@@ -108,12 +104,9 @@ fn plan_swap<'a, S: Store>(
     requires lives { target_at (S.tree store.now) moved.0 ≡ Some moved }
     requires old_held { IsTrue (is_live_directory (S.tree store.now) from.dir) }
     requires new_held { IsTrue (is_live_directory (S.tree store.now) to.dir) }
-    ensures settled { SettlesIf (S.tree store.now)
-        (swap_names (S.tree store.now) (where_shown from.entry) old.entry.bytes.now
-        (where_shown to.entry) new.entry.bytes.now moved)
-        (keys_swapped (S.tree store.now) from.entry.dir old.entry.bytes.now
-        to.entry.dir new.entry.bytes.now) result }
-    ensures without_memory { IfOk result (λ plan. IfSome plan (λ plan. PlanTakesNoMemory plan)) }
+    ensures settled { SettlesSwap (S.tree store.now)
+        from.entry old.entry to.entry new.entry moved result }
+    ensures without_memory { FoundTakesNoMemory result }
 {
     let there = present(store, to.dir, new)?;
     refuse(!is_directory(moved) && from.slash, Refusal::NotDirectory)?;
@@ -196,8 +189,7 @@ fn lost_there<'a, S: Store>(store: &S, there: Option<Target>) -> Option<Key<'a>>
 /// Whether an inode is a directory that is this one or above it.
 fn is_inside<S: Store>(store: &S, dir: u64, target: Target) -> bool
     requires { IsTrue (is_live_directory (S.tree store.now) dir) }
-    ensures { result ≡ (is_directory target
-        && is_beneath (length (S.tree store.now).inodes) (S.tree store.now) dir target.0) }
+    ensures { result ≡ (is_directory target && lies_beneath (S.tree store.now) dir target.0) }
 {
     is_directory(target) && is_beneath(store, dir, target.0)
 }
@@ -205,7 +197,7 @@ fn is_inside<S: Store>(store: &S, dir: u64, target: Target) -> bool
 /// Whether going up from a directory one meets an inode.
 fn is_beneath<S: Store>(store: &S, dir: u64, number: u64) -> bool
     requires { IsTrue (is_live_directory (S.tree store.now) dir) }
-    ensures { result ≡ is_beneath (length (S.tree store.now).inodes) (S.tree store.now) dir number }
+    ensures { result ≡ lies_beneath (S.tree store.now) dir number }
 {
     directories_have_one_holder();
     names_lead_to_the_living();

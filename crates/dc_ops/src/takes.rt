@@ -1,14 +1,15 @@
 //! Plans of entries that go.
 
-ghost use Rattle.std.specs.Prelude.{◌≡◌, ◌==◌, ◌≤◌, ◌∷◌, true, Some, IfOk};
+ghost use Rattle.std.specs.Prelude.{◌≡◌, ◌==◌, ◌≤◌, true, Some, IfOk};
 ghost use Rattle.dc_names.specs.Bytes.{is_empty};
 ghost use Rattle.dc_plain.specs.IsWellFormed.{IsWellFormed};
 ghost use Rattle.dc_plain.specs.KeysShown.{keys_in};
-ghost use Rattle.dc_plain.specs.Operations.{unlink, rmdir};
+ghost use Rattle.dc_plain.specs.Requests.Request.{Rmdir, Unlink};
 ghost use Rattle.dc_plain.specs.Resolution.{is_directory};
-ghost use Rattle.dc_plain.specs.TouchedKeys.{at_name, entry_key, keys_taken, keys_gone};
+ghost use Rattle.dc_plain.specs.TouchedKeys.{keys_gone};
 ghost use Rattle.dc_plain.specs.Trees.{names_in, names_of, target_at};
-ghost use Rattle.dc_ops.specs.Plans.{PlanTakesNoMemory, Settles};
+ghost use Rattle.dc_ops.specs.Plans.{PlanTakesNoMemory};
+ghost use Rattle.dc_ops.specs.Settled.{SettlesUnlimited};
 
 use crate::Plan;
 use crate::conditions::{name_or, name_or_each, place_text, present, refuse};
@@ -22,9 +23,7 @@ pub(crate) fn plan_unlink<'a, S: Store>(
     base: u64,
     path: &'a [u8],
 ) -> Result<Plan<'a>, Refusal>
-    ensures settled { Settles (S.tree store.now) (unlink (S.tree store.now) base path.now)
-        (at_name (S.tree store.now) base path.now
-        (λ d name. entry_key d name ∷ keys_taken (S.tree store.now) d name)) result }
+    ensures settled { SettlesUnlimited (S.tree store.now) (Unlink base path.now) result }
     ensures without_memory { IfOk result PlanTakesNoMemory }
 {
     let at = place_text(store, base, path)?;
@@ -46,9 +45,7 @@ pub(crate) fn plan_rmdir<'a, S: Store>(
     base: u64,
     path: &'a [u8],
 ) -> Result<Plan<'a>, Refusal>
-    ensures settled { Settles (S.tree store.now) (rmdir (S.tree store.now) base path.now)
-        (at_name (S.tree store.now) base path.now
-        (λ d name. entry_key d name ∷ keys_taken (S.tree store.now) d name)) result }
+    ensures settled { SettlesUnlimited (S.tree store.now) (Rmdir base path.now) result }
     ensures without_memory { IfOk result PlanTakesNoMemory }
 {
     let at = place_text(store, base, path)?;

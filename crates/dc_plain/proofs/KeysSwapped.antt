@@ -11,11 +11,11 @@ use Rattle.dc_plain.specs.Facts.Label.{Entry, Parent, Text}
 use Rattle.dc_plain.specs.IsWellFormed.{IsWellFormed}
 use Rattle.dc_plain.specs.Spots.{spot_at}
 use Rattle.dc_plain.specs.TouchedKeys.{entry_key, keys_by, keys_moved, keys_renamed, keys_swapped, lead_to_one, with_number}
-use Rattle.dc_plain.specs.Trees.{Tree, Spot, Inode, spot_cmp, inode_of, entry_number, entry_of, fact_at, holder_of, kind_of, is_live_directory}
+use Rattle.dc_plain.specs.Trees.{Tree, Inode, spot_cmp, entry_number, entry_of, fact_at, kind_of, is_live_directory}
 use Rattle.dc_plain.proofs.Found.{Leads}
-use Rattle.dc_plain.proofs.Holders.{decided, decided_not, other_test}
+use Rattle.dc_plain.proofs.Holders.{decided, decided_not}
 use Rattle.dc_plain.proofs.KeysRenamed.{among_back, among_either, among_front, not_root, parent_before}
-use Rattle.dc_plain.proofs.SameFacts.{IsAmong, KeepsOthers, AltersEach, decide, same_key, same_spot, entry-same, parent-same, no_parent, parent-fact, entry-fact, entries-differ, tied}
+use Rattle.dc_plain.proofs.SameFacts.{IsAmong, KeepsOthers, AltersEach, decide, same_key, entry-same, parent-same, no_parent, parent-fact, entry-fact, entries-differ, tied}
 use Rattle.dc_plain.proofs.Living.{names-live}
 use Rattle.dc_plain.proofs.Swapped.{swapped-changes}
 

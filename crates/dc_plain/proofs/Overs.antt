@@ -1,5 +1,5 @@
 -- An entry that leads elsewhere, in place of where it led.
-use Rattle.std.proofs.Common.{◌≡◌, ◌≢◌, ℕ, ◌+◌, ◌==◌, List, Bool, true, false, cond, not, Option, Some, None, IsSome, IsTrue, refl, ap, sym, ◌∙◌, arith, find, subst}
+use Rattle.std.proofs.Common.{◌≡◌, ℕ, ◌+◌, List, Bool, true, false, cond, Option, Some, None, IsSome, IsTrue, refl, ap, sym, ◌∙◌, arith, find, subst}
 use Rattle.std.specs.Ordering.{eq_by_cmp, is_eq}
 use Rattle.std.specs.declared.cmp.Ordering.TheVariants.{Equal}
 use Rattle.std.specs.FinMap.Entries.{put, find-put, is_sorted, is_sorted-put, is_sorted-where_key, same_entries}
@@ -8,7 +8,7 @@ use Rattle.std.specs.List.{AllByRecursion}
 use Rattle.dc_plain.specs.Trees.{Spot, spot_cmp, how_many, without_spot}
 use Rattle.dc_plain.proofs.Made.{spots_total, to_test, from_test}
 use Rattle.dc_plain.proofs.Puts.{count-put, find-put_no, All-put}
-use Rattle.dc_plain.proofs.SameFacts.{decide, same_spot, tied}
+use Rattle.dc_plain.proofs.SameFacts.{same_spot, tied}
 use Rattle.dc_plain.proofs.Takes.{All-filter, count-take, find-take, lookup-take}
 
 one_spot : (a b : Spot) → spot_cmp a b ≡ Equal → a ≡ b

@@ -1,5 +1,5 @@
 -- What two names that swap their inodes make of a tree.
-use Rattle.std.proofs.Common.{◌≡◌, ◌≢◌, ◌⊎◌, inl, inr, ℕ, zero, suc, ◌+◌, ◌≤◌, ◌==◌, ◌&&◌, ◌||◌, not, List, [], ◌∷◌, Bool, true, false, cond, Option, Some, None, is_some, IsTrue, refl, ap, sym, ◌∙◌, arith, length, option_map, subst}
+use Rattle.std.proofs.Common.{◌≡◌, ◌≢◌, ℕ, zero, suc, ◌≤◌, ◌==◌, ◌&&◌, ◌||◌, not, List, [], ◌∷◌, Bool, true, false, cond, Some, is_some, IsTrue, refl, ap, sym, ◌∙◌, arith, length, option_map, subst}
 use Rattle.std.specs.Ordering.{eq_by_cmp}
 use Rattle.std.specs.FinMap.Entries.{find-put, is_sorted, is_sorted-put}
 use Rattle.std.specs.FinMap.Entries.{find as lookup}

@@ -4,7 +4,7 @@ use Rattle.dc_plain.specs.IsWellFormed.{IsWellFormed, comes_up}
 use Rattle.dc_plain.specs.Operations.{is_beneath}
 use Rattle.dc_plain.specs.Trees.{Tree, holder_of, if_held, inode_of, is_live_directory}
 use Rattle.dc_plain.specs.Trees.Inode.{Directory}
-use Rattle.dc_plain.proofs.Holders.{decided, decided_not, other_test, holder-live}
+use Rattle.dc_plain.proofs.Holders.{decided, other_test, holder-live}
 use Rattle.dc_plain.proofs.Made.{is_directory_in}
 
 or_left : (a b : Bool) → IsTrue a → IsTrue (a || b)

@@ -29,3 +29,8 @@ pub mod Spots
 pub mod KeysShown
 pub mod FactsShown
 pub mod TouchedKeys
+pub mod BytesShown
+pub mod Rows
+pub mod Planned
+pub mod Known
+pub mod Ends

@@ -24,7 +24,7 @@ impl PlainTree {
             Ok(Plan::Answer(reply)) => Ok(reply),
             Ok(Plan::Change(change)) => self.carry(alloc, change),
             Err(Failure::Refused(refusal)) => Ok(Reply::Refused(refusal.number())),
-            Err(Failure::OutOfMemory) => Err(NoMemory),
+            Err(Failure::NoMemory) => Err(NoMemory),
         }
     }
 
@@ -46,7 +46,7 @@ impl PlainTree {
         match self.plan(alloc, call) {
             Ok(Plan::Answer(_)) | Err(Failure::Refused(_)) => Ok(false),
             Ok(Plan::Change(_)) => Ok(true),
-            Err(Failure::OutOfMemory) => Err(NoMemory),
+            Err(Failure::NoMemory) => Err(NoMemory),
         }
     }
 }

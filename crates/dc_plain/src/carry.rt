@@ -1,11 +1,11 @@
 //! Changes carried out on the rows.
 
-ghost use Rattle.std.specs.Prelude.{◌≡◌, ◌≤◌, ℕ, IfOk, OnOk, OnErr, vec_len, vec_capacity};
-ghost use Rattle.dc_plain.specs.Effects.{without_entry};
-ghost use Rattle.dc_plain.specs.Plain.{node_shown, tree_in};
-ghost use Rattle.dc_plain.specs.Spots.{spot_shown};
-ghost use Rattle.dc_plain.specs.Plans.{new_shown, changed, without_moved, HasSpots, IsMade};
+ghost use Rattle.std.specs.Prelude.{◌≡◌, ◌≤◌, IfOk, OnOk, OnErr, vec_len, vec_capacity};
+ghost use Rattle.dc_plain.specs.Plain.{node_shown};
+ghost use Rattle.dc_plain.specs.Planned.{tree_by};
+ghost use Rattle.dc_plain.specs.Plans.{new_shown, changed, HasSpots, IsMade};
 ghost use Rattle.dc_plain.specs.Requests.{answer_of};
+ghost use Rattle.dc_plain.specs.Rows.{TakesName, MakesWay};
 
 use crate::counts::leading_to;
 use crate::plan::{Change, New};
@@ -35,7 +35,7 @@ impl PlainTree {
         requires spots { HasSpots self.old.tree change }
         ensures reply { IfOk result (λ reply.
             answer_of reply ≡ (changed self.old.tree change.entry).0) }
-        ensures tree { OnOk result (self.new.tree ≡ (changed self.old.tree change.entry).1) }
+        ensures tree { OnOk result (self.new.tree ≡ tree_by self.old.tree change.entry) }
         ensures err { OnErr result (self.new ≡ self.old) }
         ensures limit { self.new.limit ≡ self.old.limit }
     {
@@ -77,7 +77,7 @@ impl PlainTree {
         requires free { HasSpots self.old.tree (Change.Make spot new) }
         ensures number { IfOk result (λ number. number ≡ self.old.tree.next) }
         ensures ok { OnOk result
-            (self.new.tree ≡ (changed self.old.tree (Change.Make spot.entry new.entry)).1) }
+            (self.new.tree ≡ tree_by self.old.tree (Change.Make spot.entry new.entry)) }
         ensures err { OnErr result (self.new ≡ self.old) }
         ensures limit { self.new.limit ≡ self.old.limit }
     {
@@ -100,7 +100,7 @@ impl PlainTree {
             (changed self.old.tree (Change.Link spot number)) }
         requires free { HasSpots self.old.tree (Change.Link spot number) }
         ensures ok { OnOk result
-            (self.new.tree ≡ (changed self.old.tree (Change.Link spot.entry number)).1) }
+            (self.new.tree ≡ tree_by self.old.tree (Change.Link spot.entry number)) }
         ensures err { OnErr result (self.new ≡ self.old) }
         ensures limit { self.new.limit ≡ self.old.limit }
     {
@@ -114,7 +114,7 @@ impl PlainTree {
     fn drop_name(&mut self, spot: Spot, number: u64)
         requires { IsMade self.old.limit self.old.tree
             (changed self.old.tree (Change.Drop spot number)) }
-        ensures tree { self.new.tree ≡ (changed self.old.tree (Change.Drop spot.entry number)).1 }
+        ensures tree { self.new.tree ≡ tree_by self.old.tree (Change.Drop spot.entry number) }
         ensures limit { self.new.limit ≡ self.old.limit }
     {
         parts_are_names_or_dots();
@@ -134,7 +134,7 @@ impl PlainTree {
             (changed self.old.tree (Change.Move moved from to there)) }
         requires leads { HasSpots self.old.tree (Change.Move moved from to there) }
         ensures ok { OnOk result (self.new.tree
-            ≡ (changed self.old.tree (Change.Move moved from.entry to.entry there)).1) }
+            ≡ tree_by self.old.tree (Change.Move moved from.entry to.entry there)) }
         ensures err { OnErr result (self.new ≡ self.old) }
         ensures limit { self.new.limit ≡ self.old.limit }
     {
@@ -154,7 +154,7 @@ impl PlainTree {
             (changed self.old.tree (Change.Swap moved from to there)) }
         requires leads { HasSpots self.old.tree (Change.Swap moved from to there) }
         ensures tree { self.new.tree
-            ≡ (changed self.old.tree (Change.Swap moved from.entry to.entry there)).1 }
+            ≡ tree_by self.old.tree (Change.Swap moved from.entry to.entry there) }
         ensures limit { self.new.limit ≡ self.old.limit }
     {
         parts_are_names_or_dots();
@@ -165,9 +165,7 @@ impl PlainTree {
 
 /// Takes a name away, and with the last one the inode.
 fn take_name(entries: &mut Vec<Entry>, inodes: &mut Vec<Inode>, spot: Spot, number: u64)
-    ensures rows { (next : ℕ) → tree_in entries.new.items inodes.new.items next
-        ≡ without_entry (tree_in entries.old.items inodes.old.items next)
-        spot.entry.dir spot.entry.name.bytes.now number }
+    ensures rows { TakesName entries.old inodes.old spot.entry number entries.new inodes.new }
     ensures bound { vec_len entries.new ≤ vec_len entries.old }
     ensures capacity { vec_capacity entries.new ≡ vec_capacity entries.old }
 {
@@ -185,9 +183,8 @@ fn make_way(
     to: Spot,
     there: Option<Target>,
 )
-    ensures rows { (next : ℕ) → tree_in entries.new.items inodes.new.items next
-        ≡ without_moved (tree_in entries.old.items inodes.old.items next)
-        (spot_shown from.entry) (spot_shown to.entry) there }
+    ensures rows { MakesWay entries.old inodes.old from.entry to.entry there
+        entries.new inodes.new }
     ensures bound { vec_len entries.new ≤ vec_len entries.old }
     ensures capacity { vec_capacity entries.new ≡ vec_capacity entries.old }
 {

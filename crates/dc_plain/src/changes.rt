@@ -1,8 +1,9 @@
 //! The changes of one name: each test in its order, and then what is to be done.
 
 ghost use Rattle.std.specs.Prelude.{IfOk};
-ghost use Rattle.dc_plain.specs.Operations.{make, link, symlink, unlink, rmdir};
-ghost use Rattle.dc_plain.specs.Plans.{new_shown, changed, HasSpots};
+ghost use Rattle.dc_plain.specs.Operations.{link, symlink, unlink, rmdir};
+ghost use Rattle.dc_plain.specs.Planned.{made_in};
+ghost use Rattle.dc_plain.specs.Plans.{changed, HasSpots};
 ghost use Rattle.dc_plain.specs.Failures.{Finds};
 
 use crate::failure::Failure;
@@ -22,8 +23,8 @@ impl PlainTree {
         may_end_in_slash: bool,
         new: New<'c>,
     ) -> Result<Change<'c>, Failure>
-        ensures found { Finds result (changed self.now.tree) (make self.now.limit self.now.tree
-            base path.now may_end_in_slash (new_shown new.entry)) }
+        ensures found { Finds result (changed self.now.tree)
+            (made_in self.now base path.now may_end_in_slash new.entry) }
         ensures spots { IfOk result (HasSpots self.now.tree) }
     {
         let at = self.where_on(alloc, base, path)?;

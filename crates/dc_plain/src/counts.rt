@@ -2,7 +2,9 @@
 
 ghost use Rattle.std.specs.Prelude.{◌≡◌, ◌==◌, map, filter, length, IfOk};
 ghost use Rattle.dc_names.specs.Bytes.{is_empty};
+ghost use Rattle.dc_plain.specs.BytesShown.{names_by, names_shown};
 ghost use Rattle.dc_plain.specs.Reads.{count_at};
+ghost use Rattle.dc_plain.specs.Rows.{entries_in};
 ghost use Rattle.dc_plain.specs.Plain.{entry_shown};
 ghost use Rattle.dc_plain.specs.Trees.{how_many, names_in as names_within, names_of as names_of_inode};
 
@@ -31,9 +33,7 @@ fn standing_in(entries: &[Entry], dir: u64) -> usize
 
 /// The names in a directory, by their bytes.
 fn names_in(alloc: Global, entries: &[Entry], dir: u64) -> Result<Vec<Vec<u8>>, NoMemory>
-    ensures { IfOk result (λ names. map (λ name. name.items) names.items
-        ≡ map (λ e. e.0.name)
-        (filter (λ e. e.0.dir == dir) (map entry_shown entries.now))) }
+    ensures { IfOk result (λ names. names_shown names ≡ names_by dir (entries_in entries.now)) }
 {
     let mut names = Vec::new(alloc);
     for entry in entries {

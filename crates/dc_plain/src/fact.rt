@@ -2,13 +2,15 @@
 
 ghost use Rattle.std.specs.Prelude.{◌≡◌, ◌==◌, map, option_map, IfOk, Some, None};
 ghost use Rattle.dc_names.specs.Paths.{path_in};
+ghost use Rattle.dc_plain.specs.BytesShown.{text_shown};
 ghost use Rattle.dc_plain.specs.Facts.{key_of, told_by, entry_told, text_told, same_label};
-ghost use Rattle.dc_plain.specs.FactLaws.{answer_told, outcome_answer};
+ghost use Rattle.dc_plain.specs.FactLaws.{outcome_answer};
 ghost use Rattle.dc_plain.specs.FactsShown.{fact_shown};
 ghost use Rattle.dc_plain.specs.KeysShown.{key_shown, label_shown};
+ghost use Rattle.dc_plain.specs.Known.{answer_by};
 ghost use Rattle.dc_plain.specs.Places.{walk};
-ghost use Rattle.dc_plain.specs.Requests.{answer_of, request_of};
-ghost use Rattle.dc_plain.specs.Walks.{walked_shown};
+ghost use Rattle.dc_plain.specs.Requests.{answer_of};
+ghost use Rattle.dc_plain.specs.Walks.{walked_shown, EndsAs};
 
 use crate::place::start_of;
 use crate::resolve::{Walked, parts_in, resolve};
@@ -69,8 +71,7 @@ fn entry_in(facts: &[Fact], directory: u64, label: Label) -> Option<Option<Targe
 
 /// The text that the first fact of a link says.
 fn text_in<'a>(facts: &[Fact<'a>], link: u64) -> Option<PathText<'a>>
-    ensures { option_map (λ text. text.bytes.now) result
-        ≡ text_told (map fact_shown facts.now) link }
+    ensures { text_shown result ≡ text_told (map fact_shown facts.now) link }
 {
     for fact in facts {
         if let Fact::Text(number, text) = *fact
@@ -108,8 +109,8 @@ fn walk_by<T: Told>(
     path: PathText<'_>,
     follow: Follow,
 ) -> Result<Option<Walked>, NoMemory>
-    ensures { IfOk result (λ walked. option_map walked_shown walked
-        ≡ walk (T.teller told.now) base (path_in path.entry.bytes.now) follow) }
+    ensures { IfOk result (EndsAs
+        (walk (T.teller told.now) base (path_in path.entry.bytes.now) follow)) }
 {
     let Some(start) = start_of(told, base, path) else {
         return Ok(None);
@@ -134,8 +135,7 @@ fn reply_by(walked: Walked) -> Reply
 /// for every other call. Of two facts with one key the first counts. A text that is refused asks
 /// for no fact.
 pub fn answer(alloc: Global, facts: &[Fact], call: &Call) -> Result<Option<Reply>, NoMemory>
-    ensures { IfOk result (λ reply. option_map answer_of reply
-        ≡ answer_told (told_by (map fact_shown facts.now)) (request_of call.now)) }
+    ensures { IfOk result (λ reply. option_map answer_of reply ≡ answer_by facts.now call.now) }
 {
     let Call::Look { base, path, follow } = *call else {
         return Ok(None);

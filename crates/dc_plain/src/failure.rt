@@ -2,7 +2,7 @@
 
 ghost use Rattle.std.specs.Prelude.{◌≡◌};
 ghost use Rattle.dc_names.specs.Refusals.{refusal_of};
-ghost use Rattle.dc_plain.specs.declared.failure.Failure.TheVariants.{Refused as IsRefused, OutOfMemory as IsOutOfMemory};
+ghost use Rattle.dc_plain.specs.declared.failure.Failure.TheVariants.{Refused as IsRefused, NoMemory as WantOfMemory};
 
 use dc_names::{NoMemory, Refusal, TextFault};
 use std::alloc::AllocError;
@@ -13,7 +13,7 @@ pub(crate) enum Failure {
     /// The call is refused.
     Refused(Refusal),
     /// Memory was refused.
-    OutOfMemory,
+    NoMemory,
 }
 
 impl From<Refusal> for Failure {
@@ -33,17 +33,17 @@ impl From<TextFault> for Failure {
 }
 
 impl From<NoMemory> for Failure {
-    ghost from_gives = { λ fault failure. failure ≡ IsOutOfMemory };
+    ghost from_gives = { λ fault failure. failure ≡ WantOfMemory };
 
     fn from(_fault: NoMemory) -> Failure {
-        Failure::OutOfMemory
+        Failure::NoMemory
     }
 }
 
 impl From<AllocError> for Failure {
-    ghost from_gives = { λ fault failure. failure ≡ IsOutOfMemory };
+    ghost from_gives = { λ fault failure. failure ≡ WantOfMemory };
 
     fn from(_fault: AllocError) -> Failure {
-        Failure::OutOfMemory
+        Failure::NoMemory
     }
 }

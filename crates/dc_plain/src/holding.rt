@@ -1,13 +1,12 @@
 //! Which facts are true in the tree of the slow machine, and which of them a call touches.
 
-ghost use Rattle.std.specs.Prelude.{◌≡◌, ◌↔◌, map, option_map, IsTrue, IfOk};
-ghost use Rattle.dc_plain.specs.Facts.{key_of};
+ghost use Rattle.std.specs.Prelude.{◌≡◌, ◌↔◌, map, IsTrue, IfOk};
+ghost use Rattle.dc_plain.specs.BytesShown.{text_shown};
 ghost use Rattle.dc_plain.specs.FactsShown.{fact_shown};
-ghost use Rattle.dc_plain.specs.KeysShown.{key_shown, label_shown};
+ghost use Rattle.dc_plain.specs.KeysShown.{label_shown};
+ghost use Rattle.dc_plain.specs.Known.{SaySame, TouchesFact};
 ghost use Rattle.dc_plain.specs.Plain.{entry_shown, inode_shown, node_shown};
-ghost use Rattle.dc_plain.specs.Requests.{request_of};
-ghost use Rattle.dc_plain.specs.Runs.{Touches};
-ghost use Rattle.dc_plain.specs.Trees.{Holds, entry_of, fact_at};
+ghost use Rattle.dc_plain.specs.Trees.{Holds, entry_of};
 
 use crate::rows::{Entry, Inode, Node};
 use crate::{Call, Fact, Key, Label, PlainTree, Target};
@@ -92,8 +91,7 @@ impl PlainTree {
 
     /// Whether another tree says the same of a key.
     fn agrees(&self, other: &PlainTree, key: Key) -> bool
-        ensures { IsTrue result ↔ fact_at other.now.tree (key_shown key.entry)
-            ≡ fact_at self.now.tree (key_shown key.entry) }
+        ensures { IsTrue result ↔ SaySame other.now.tree self.now.tree key.entry }
     {
         match key.label {
             Label::Name(name) => {
@@ -107,9 +105,7 @@ impl PlainTree {
     /// Whether a call would make another fact of a fact's key: the call is made on a copy of the
     /// tree. Memory is taken for the copy and for the call.
     pub fn touches(&self, alloc: Global, call: &Call, fact: &Fact) -> Result<bool, NoMemory>
-        ensures { IfOk result (λ touches. IsTrue touches
-            ↔ Touches self.now.limit self.now.tree (request_of call.now)
-            (key_of (fact_shown fact.now))) }
+        ensures { IfOk result (λ touches. IsTrue touches ↔ TouchesFact self.now call.now fact.now) }
     {
         let mut later = self.copy(alloc)?;
         later.apply(alloc, call)?;
@@ -119,8 +115,7 @@ impl PlainTree {
 
 /// Whether two texts are one, or neither is there.
 fn same_text(a: Option<PathText>, b: Option<PathText>) -> bool
-    ensures { IsTrue result ↔ option_map (λ text. text.bytes.now) a.entry
-        ≡ option_map (λ text. text.bytes.now) b.entry }
+    ensures { IsTrue result ↔ text_shown a.entry ≡ text_shown b.entry }
 {
     match (a, b) {
         (Some(a), Some(b)) => a.bytes() == b.bytes(),

@@ -7,8 +7,6 @@ mod carry;
 mod changes;
 mod counts;
 mod fact;
-#[cfg(test)]
-mod fact_tests;
 mod failure;
 mod holding;
 mod key;

@@ -4,6 +4,7 @@ ghost use Rattle.std.specs.Prelude.{◌≡◌, IfOk};
 ghost use Rattle.dc_plain.specs.OwnCalls.{own_request};
 ghost use Rattle.dc_plain.specs.RequestBytes.{bytes_of};
 ghost use Rattle.dc_plain.specs.Requests.{request_of};
+ghost use Rattle.dc_plain.specs.Requests.Request.{Look, Rename};
 
 use crate::{Call, Flags, Follow};
 use dc_names::NoMemory;
@@ -141,11 +142,7 @@ impl OwnCall {
         ensures { request_of result ≡ own_request self.now }
     {
         match self {
-            OwnCall::Look { base, path, follow } => Call::Look {
-                base: *base,
-                path,
-                follow: *follow,
-            },
+            OwnCall::Look { base, path, follow } => look(*base, path, *follow),
             OwnCall::Readlink { base, path } => Call::Readlink { base: *base, path },
             OwnCall::Stat { base, path } => Call::Stat { base: *base, path },
             OwnCall::List { base, path } => Call::List { base: *base, path },
@@ -168,12 +165,26 @@ impl OwnCall {
                 old,
                 new,
                 flags,
-            } => Call::Rename {
-                base: *base,
-                old,
-                new,
-                flags: *flags,
-            },
+            } => rename(*base, old, new, *flags),
         }
+    }
+}
+
+/// The call that looks a path up.
+fn look(base: u64, path: &[u8], follow: Follow) -> Call<'_>
+    ensures { request_of result ≡ Look base path.now follow }
+{
+    Call::Look { base, path, follow }
+}
+
+/// The call that renames.
+fn rename<'a>(base: u64, old: &'a [u8], new: &'a [u8], flags: Flags) -> Call<'a>
+    ensures { request_of result ≡ Rename base old.now new.now flags }
+{
+    Call::Rename {
+        base,
+        old,
+        new,
+        flags,
     }
 }

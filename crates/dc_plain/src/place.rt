@@ -2,10 +2,10 @@
 
 ghost use Rattle.std.specs.Prelude.{◌≡◌, Some, IfOk};
 ghost use Rattle.dc_names.specs.Paths.{path_in};
-ghost use Rattle.dc_plain.specs.Places.{start, front_of};
+ghost use Rattle.dc_plain.specs.Ends.{front_on};
+ghost use Rattle.dc_plain.specs.Places.{start};
 ghost use Rattle.dc_plain.specs.Spots.{where_shown};
 ghost use Rattle.dc_plain.specs.Refusals.{walk_on, path_or_fault, ended, place_on, where_on};
-ghost use Rattle.dc_plain.specs.Resolution.{settled_walk};
 ghost use Rattle.dc_plain.specs.Walks.{walked_shown};
 ghost use Rattle.dc_plain.specs.Failures.{Finds};
 ghost use Rattle.dc_plain.specs.Trees.{told_of};
@@ -67,8 +67,8 @@ impl PlainTree {
 
     /// Where all parts of a path but the last lead.
     fn front<'a>(&'a self, alloc: Global, base: u64, path: PathText<'a>) -> Result<Target, Failure>
-        ensures { Finds result (λ target. target) (ended (settled_walk
-            (front_of (told_of self.now.tree) base (path_in path.entry.bytes.now)))) }
+        ensures { Finds result (λ target. target)
+            (front_on self.now.tree base path.entry.bytes.now) }
     {
         let mut front = parts_in(alloc, path)?;
         let _last = front.pop();

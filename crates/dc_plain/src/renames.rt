@@ -1,8 +1,9 @@
 //! The change of two names.
 
 ghost use Rattle.std.specs.Prelude.{◌≡◌, length, true, Some, IfOk};
-ghost use Rattle.dc_plain.specs.Operations.{is_beneath, move_name, rename, rename_at, replaceable, same_inode, swap_names};
-ghost use Rattle.dc_plain.specs.Spots.{spot_at, where_shown};
+ghost use Rattle.dc_plain.specs.Operations.{is_beneath, rename, replaceable, same_inode};
+ghost use Rattle.dc_plain.specs.Planned.{move_from, rename_from, swap_from, FindsPlan};
+ghost use Rattle.dc_plain.specs.Spots.{spot_at};
 ghost use Rattle.dc_plain.specs.Trees.{entry_number};
 ghost use Rattle.dc_plain.specs.Plans.{planned, HasSpotsIfChange};
 ghost use Rattle.dc_plain.specs.Failures.{Finds};
@@ -52,9 +53,8 @@ impl PlainTree {
         new: Name<'c>,
         flags: Flags,
     ) -> Result<Plan<'c>, Failure>
-        ensures found { Finds result (planned self.now.tree) (rename_at self.now.tree
-            (where_shown from.entry) old.entry.bytes.now
-            (where_shown to.entry) new.entry.bytes.now flags) }
+        ensures found { FindsPlan self.now.tree
+            (rename_from from.entry old.entry to.entry new.entry flags) result }
         ensures spots { IfOk result (HasSpotsIfChange self.now.tree) }
     {
         let moved = present(self.entry(from.dir, old.bytes()), Refusal::NotFound)?;
@@ -75,9 +75,8 @@ impl PlainTree {
         moved: Target,
         no_replace: bool,
     ) -> Result<Plan<'c>, Failure>
-        ensures found { Finds result (planned self.now.tree) (move_name self.now.tree
-            (where_shown from.entry) old.entry.bytes.now
-            (where_shown to.entry) new.entry.bytes.now moved no_replace) }
+        ensures found { FindsPlan self.now.tree
+            (move_from from.entry old.entry to.entry new.entry moved no_replace) result }
         ensures spots { IfOk result (HasSpotsIfChange self.now.tree) }
     {
         refuse(
@@ -110,9 +109,8 @@ impl PlainTree {
         moved: Target,
     ) -> Result<Plan<'c>, Failure>
         requires { entry_number self.now.tree (spot_at from.dir old.bytes.now) ≡ Some moved.0 }
-        ensures found { Finds result (planned self.now.tree) (swap_names self.now.tree
-            (where_shown from.entry) old.entry.bytes.now
-            (where_shown to.entry) new.entry.bytes.now moved) }
+        ensures found { FindsPlan self.now.tree
+            (swap_from from.entry old.entry to.entry new.entry moved) result }
         ensures spots { IfOk result (HasSpotsIfChange self.now.tree) }
     {
         let there = present(self.entry(to.dir, new.bytes()), Refusal::NotFound)?;

@@ -1,11 +1,10 @@
 //! Where parts lead, one after the other, and links with them.
 
-ghost use Rattle.std.specs.Prelude.{◌≡◌, ℕ, List, Bool, Option, Some, map, option_map, not, ◌&&◌, ◌||◌, if◌then◌else◌, ◌++◌, IfOk, OnOk};
+ghost use Rattle.std.specs.Prelude.{◌≡◌, Some, map, option_map, not, ◌&&◌, ◌||◌, if◌then◌else◌, ◌++◌, IfOk, OnOk};
 ghost use Rattle.dc_names.specs.Names.{part_shown};
-ghost use Rattle.dc_names.specs.Paths.{Part as SpecPart, parts_of, has_end_slash, begins_with_slash};
-ghost use Rattle.dc_plain.specs.Facts.{Target as SpecTarget};
-ghost use Rattle.dc_plain.specs.Resolution.{root, Outcome, resolve, settled_walk, over_parts, at_part, met_by, keeps_link, wants_directory, ending};
-ghost use Rattle.dc_plain.specs.Walks.{met_shown, outcome_of, stacked, walked_shown};
+ghost use Rattle.dc_names.specs.Paths.{parts_of, has_end_slash, begins_with_slash};
+ghost use Rattle.dc_plain.specs.Resolution.{root, settled_walk, at_part, met_by, keeps_link, wants_directory, ending};
+ghost use Rattle.dc_plain.specs.Walks.{met_shown, outcome_from, stacked, walked_shown, EndsAs, StepsOver};
 
 use crate::told::Told;
 use crate::{Follow, Label, MOST_LINKS, ROOT, Target, is_directory};
@@ -99,9 +98,8 @@ fn walk_parts<T: Told>(
     slash: bool,
     follow: Follow,
 ) -> Step
-    ensures { (follow_link : SpecTarget → ℕ → List SpecPart → Bool → Option Outcome) →
-        over_parts (T.teller told.now) follow follow_link start (stacked rest.old.items) slash
-        ≡ outcome_of result follow_link (stacked rest.new.items) slash }
+    ensures { StepsOver (T.teller told.now) follow start slash
+        rest.old.items rest.new.items result }
 {
     let mut place = start;
     'parts: while let Some(part) = rest.pop() {
@@ -164,8 +162,8 @@ pub(crate) fn resolve<'a, T: Told>(
     slash: bool,
     follow: Follow,
 ) -> Result<Option<Walked>, NoMemory>
-    ensures { IfOk result (λ walked. resolve (T.teller told.now) follow MOST_LINKS start
-        (map part_shown parts.entry.items) slash ≡ option_map walked_shown walked) }
+    ensures { IfOk result (EndsAs
+        (outcome_from (T.teller told.now) follow start parts.entry.items slash)) }
 {
     let mut rest = Vec::new(alloc);
     push_parts(&mut rest, parts)?;

@@ -10,6 +10,8 @@ use dc_names::{Kind, Last, Name, NoMemory, Refusal};
 use std::alloc::Global;
 use std::test::Fail;
 
+mod facts;
+
 /// A look-up from the root.
 fn look<'a>(path: &'a [u8], follow: Follow) -> Call<'a> {
     Call::Look {

@@ -1,6 +1,6 @@
 -- A walk that has nobody to ask.
 use Rattle.std.proofs.Common.{◌≡◌, ℕ, [], Bool, true, false, Option, Some, None, IfSome, IsSome, refl, sym}
-use Rattle.dc_names.specs.Paths.{Path, path_in}
+use Rattle.dc_names.specs.Paths.{Path}
 use Rattle.dc_plain.specs.declared.call.Follow.{Follow}
 use Rattle.dc_plain.specs.Facts.{Label, Teller, told_by}
 use Rattle.dc_plain.specs.Facts.Label.{Entry, Parent, Text}

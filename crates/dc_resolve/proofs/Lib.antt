@@ -5,3 +5,5 @@ pub mod Alone
 pub mod Passing
 pub mod Following
 pub mod Needed
+pub mod Splits
+pub mod Walking

@@ -8,3 +8,4 @@ pub mod Tables
 pub mod Finders
 pub mod Needs
 pub mod Unasked
+pub mod Resolves

@@ -6,12 +6,12 @@ ghost use Rattle.dc_names.specs.Paths.{begins_with_slash, has_end_slash, parts_o
 ghost use Rattle.dc_plain.specs.Facts.{Teller};
 ghost use Rattle.dc_plain.specs.Facts.Label.{Parent};
 ghost use Rattle.dc_plain.specs.Places.{start};
-ghost use Rattle.dc_plain.specs.Resolution.{resolve, root};
+ghost use Rattle.dc_plain.specs.Resolution.{root};
 ghost use Rattle.dc_resolve.specs.Asked.{IsSaidLink};
-ghost use Rattle.dc_resolve.specs.Ends.{Stands, resolve_by};
+ghost use Rattle.dc_resolve.specs.Ends.{resolve_by};
 ghost use Rattle.dc_resolve.specs.Finders.{KeepsAnswering};
 ghost use Rattle.dc_resolve.specs.Needs.{MayAsk, MayAskOver, MayAskThrough};
-ghost use Rattle.dc_resolve.specs.Steps.{end_shown};
+ghost use Rattle.dc_resolve.specs.Resolves.{resolve_at, ResolvesTo};
 ghost use Rattle.dc_resolve.specs.Walks.{IfThrough, LeadsOver, LeadsThrough, LeadsTo};
 
 use crate::outcome::{End, Reached, Way};
@@ -148,8 +148,7 @@ fn resolve<F: Finder>(
     follow: Follow,
 ) -> Result<End, Stop>
     requires valid { IsTrue (has_parts parts.now) }
-    requires may { MayAsk F.Finder finder.old (λ teller.
-        resolve teller follow MOST_LINKS place (parts_of parts.now) slash) }
+    requires may { MayAsk F.Finder finder.old (resolve_at follow place parts.now slash) }
     ensures leads { IfOk result (LeadsTo (F.said finder.new) follow MOST_LINKS
         place (parts_of parts.entry.now) slash) }
     ensures kept { KeepsAnswering F.Finder finder.old finder.new result }
@@ -194,8 +193,8 @@ pub(crate) fn resolve_from<F: Finder>(
     requires valid { IsTrue (has_parts parts.now) }
     requires may { MayAsk F.Finder finder.old
         (resolve_by base path.bytes.now parts.now slash follow) }
-    ensures ends { IfOk result (λ end. Stands (F.said finder.new)
-        (resolve_by base path.entry.bytes.now parts.entry.now slash follow) (end_shown end)) }
+    ensures ends { IfOk result (ResolvesTo (F.said finder.new) base
+        path.entry.bytes.now parts.entry.now slash follow) }
     ensures kept { KeepsAnswering F.Finder finder.old finder.new result }
 {
     match start(finder, base, path)? {

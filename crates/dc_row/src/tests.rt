@@ -1,3 +1,5 @@
+//! Rows and the words that spell them.
+
 use crate::{
     EMPTY_ROW, ROW_WORDS, Row, RowLabel, RowText, counts_tell_nothing, decode,
     empty_row_spells_nothing, encode, kind, length, number, rows_have_one_spelling, spelled_text,

@@ -7,3 +7,10 @@ pub mod Stages
 pub mod Altering
 pub mod Placed
 pub mod Held
+pub mod Lists
+pub mod SameRows
+pub mod Turning
+pub mod Retelling
+pub mod Pinning
+pub mod Fills
+pub mod Made

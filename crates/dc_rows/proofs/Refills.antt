@@ -1,5 +1,5 @@
 -- One row more is filled and opened.
-use Rattle.std.proofs.Common.{◌≡◌, ◌≢◌, ◌↔◌, ℕ, ◌+◌, ◌%◌, ◌<◌, false, true≢false, List, slice_get, slice_set, Some, None, refl, sym, ap, ◌∙◌, subst, arith, inl, length-set, get_or-set_same, get_or-set_other}
+use Rattle.std.proofs.Common.{◌≡◌, ◌≢◌, ◌↔◌, ℕ, ◌+◌, ◌%◌, ◌<◌, false, true≢false, List, slice_get, slice_set, Some, None, refl, sym, ap, ◌∙◌, subst, arith, length-set, get_or-set_same, get_or-set_other}
 use Rattle.dc_plain.specs.Facts.{Key}
 use Rattle.dc_plain.specs.Trees.{Tree}
 use Rattle.dc_index.specs.Slots.{Slot, slot_of, cleared, IsRowOf, IsIndex}
@@ -36,6 +36,9 @@ module _ (t : Tree) (rows : ℕ) (words : List ℕ) (slots : List Slot) (used : 
 
     pub low_row : count words row < most
     low_row = let l = odd_row.1 in omega arith
+
+    pub low_odd : count words row + 1 < most
+    low_odd = odd_row.1
 
     pub may_tell : (own : List ℕ) → IsOf t own x → MayStand t words row own
     may_tell own of = record { fact = Some of.fact; spelled = of.spelled; now = of.now; last = λ e. let l = odd_row.1 in absurd (omega arith) }

@@ -1,5 +1,5 @@
 -- One row more is shut.
-use Rattle.std.proofs.Common.{◌≡◌, ◌≢◌, ◌↔◌, ℕ, ◌+◌, ◌%◌, ◌<◌, ◌≤◌, true, false, true≢false, List, length, map, set, get_or, slice_get, slice_set, option_map, Some, None, refl, sym, ap, ◌∙◌, subst, arith, inl, inr, ⊎_elim, suc-ne-zero, length-set, get_or-set_same, get_or-set_other}
+use Rattle.std.proofs.Common.{◌≡◌, ◌≢◌, ◌↔◌, ℕ, ◌+◌, ◌%◌, ◌<◌, ◌≤◌, true, false, true≢false, List, length, map, set, get_or, slice_get, slice_set, option_map, Some, None, refl, sym, ap, ◌∙◌, subst, arith, ⊎_elim, suc-ne-zero, length-set, get_or-set_same, get_or-set_other}
 use Rattle.std.proofs.lemmas.Option.{slice_get-map, slice_get-get_or}
 use Rattle.dc_plain.specs.Facts.{Key}
 use Rattle.dc_plain.specs.KeysShown.{key_shown}

@@ -8,15 +8,15 @@ use Rattle.dc_events.specs.Views.{View}
 use Rattle.dc_events.specs.Standing.{tree_of}
 use Rattle.dc_events.specs.Rows.{base_of, count}
 use Rattle.dc_events.specs.Effects.{wrote}
-use Rattle.dc_table.specs.Shares.{Share}
+use Rattle.dc_table.specs.Shares.{Share, HasNotTried}
 use Rattle.dc_table.specs.Rows.{Rest}
 use Rattle.dc_rows.specs.Rows.{Stage}
 use Rattle.dc_table.specs.Changes.{with_words, words_of, tree_now}
 use Rattle.dc_rows.specs.Changes.{OnlyWrites}
-use Rattle.dc_table.specs.Passes.{Pass, view, share, IsSamePass, IsHolder}
+use Rattle.dc_table.specs.Passes.{Pass, known, view, share, IsSamePass, IsHolder}
 
-pub wrote_only : (p q : Pass) → IsSamePass p q → IsHolder q → (k x : ℕ) → view q ≡ wrote (view p) k x → OnlyWrites p q
-wrote_only p q same holder k x e = record { same = same; holder = holder; only = e ∙ ap (λ ws. with_words (view p) ws) (sym (ap (λ (v : View). v.hold.words) e)) }
+pub wrote_only : (p q : Pass) → IsSamePass p q → HasNotTried (known p) (known q) → IsHolder q → (k x : ℕ) → view q ≡ wrote (view p) k x → OnlyWrites p q
+wrote_only p q same untried holder k x e = record { same = same; untried = untried; holder = holder; only = e ∙ ap (λ ws. with_words (view p) ws) (sym (ap (λ (v : View). v.hold.words) e)) }
 
 pub words_wrote : (p q : Pass) (k x : ℕ) → view q ≡ wrote (view p) k x → words_of q ≡ set (words_of p) k x
 words_wrote p q k x e = ap (λ (v : View). v.hold.words) e
@@ -39,6 +39,7 @@ shut_words p q row r is e = words_wrote p q (base_of row) r e ∙ ap (set (words
 pub then_only : (p q r : Pass) → OnlyWrites p q → OnlyWrites q r → OnlyWrites p r
 then_only p q r a b = record {
   same = record { table = b.same.table ∙ a.same.table; id = b.same.id ∙ a.same.id; same_share = b.same.same_share ∙ a.same.same_share };
+  untried = record { tries = b.untried.tries ∙ a.untried.tries; got = b.untried.got ∙ a.untried.got; left = b.untried.left ∙ a.untried.left };
   holder = b.holder;
   only = b.only ∙ ap (λ (v : View). with_words v (words_of r)) a.only;
 }

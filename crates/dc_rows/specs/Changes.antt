@@ -9,7 +9,8 @@ use Rattle.dc_events.specs.Rows.{most}
 use Rattle.dc_events.specs.Effects.{committed}
 use Rattle.dc_events.specs.Standing.{tree_of}
 use Rattle.dc_table.specs.Changes.{NothingNew, tree_now, with_words, words_of}
-use Rattle.dc_table.specs.Passes.{Pass, view, share, IsSamePass, IsHolder}
+use Rattle.dc_table.specs.Shares.{HasNotTried}
+use Rattle.dc_table.specs.Passes.{Pass, known, view, share, IsSamePass, IsHolder}
 use Rattle.dc_table.specs.Rows.{Rest}
 use Rattle.dc_table.specs.declared.table.Guarded.{Guarded}
 use Rattle.dc_rows.specs.Rows.{Stage}
@@ -19,6 +20,7 @@ use Rattle.dc_rows.specs.declared.fault.ChangeFault.TheVariants as faults
 -- the holder has written words of rows, and done nothing else
 pub record OnlyWrites (p q : Pass) : Type 0 where
   pub same : IsSamePass p q
+  pub untried : HasNotTried (known p) (known q)
   pub holder : IsHolder q
   pub only : view q ≡ with_words (view p) (words_of q)
 
@@ -39,6 +41,7 @@ RestAt p x = Rest (tree_now p) (share p).rows (words_of p) x.index x.shrinker
 -- the holder has committed the call, whose reply this is, and written words of rows besides
 pub record Altered (p q : Pass) (call : Request) (reply : Answer) : Type 0 where
   pub same : IsSamePass p q
+  pub untried : HasNotTried (known p) (known q)
   pub holder : IsHolder q
   pub replied : reply ≡ reply_of (share p).limit (tree_now p) call
   pub only : view q ≡ with_words (committed (share p).limit (view p) call) (words_of q)

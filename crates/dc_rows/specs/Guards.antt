@@ -1,8 +1,9 @@
 -- What a caller knows of the guard of the rows.
-use Rattle.std.specs.Prelude.{◌≡◌}
-use Rattle.dc_plain.specs.Requests.{Request}
-use Rattle.dc_table.specs.Holders.{pass_of}
+use Rattle.dc_table.specs.RowStates.{RowState}
+use Rattle.dc_table.specs.Changes.{words_of}
+use Rattle.dc_table.specs.Holders.{pass_of, rows_held}
 use Rattle.dc_table.specs.Passes.{Pass}
+use Rattle.dc_table.specs.Plays.{rows_as}
 use Rattle.dc_table.specs.declared.table.Guarded.{Guarded}
 use Rattle.dc_rows.specs.Changes.{OnlyWrites, KeepsTree}
 use Rattle.dc_rows.specs.declared.guard.Guard.{Guard}
@@ -14,6 +15,14 @@ seat_of g = pass_of g.holder
 -- what the lock guards
 abbrev pub kept_by : Guard → Guarded
 kept_by g = g.guarded.value
+
+-- the rows of a pass that has the lock, with what it guards
+abbrev pub rows_at : Pass → Guarded → RowState
+rows_at p x = rows_as (words_of p) x
+
+-- the rows as the guard has them
+abbrev pub rows_of : Guard → RowState
+rows_of g = rows_held g.holder (kept_by g)
 
 -- words of rows were written, and which row has which key and is in use may be another; the tree is the same
 pub record Keeps (g h : Guard) : Type 0 where

@@ -2,4 +2,7 @@
 pub mod Rows
 pub mod Changes
 pub mod Filling
+pub mod RowChanges
 pub mod Guards
+pub mod Refills
+pub mod Outcomes

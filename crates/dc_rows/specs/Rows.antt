@@ -6,7 +6,7 @@ use Rattle.dc_row.specs.Spelling.{Spells}
 use Rattle.dc_row.specs.declared.TheConstants.{ROW_WORDS}
 use Rattle.dc_index.specs.Slots.{Slot}
 use Rattle.dc_shrink.specs.Listings.{Listing}
-use Rattle.dc_events.specs.Rows.{base_of, count, row_words, IfFact}
+use Rattle.dc_events.specs.Rows.{count, row_words, IfFact}
 use Rattle.dc_table.specs.Rows.{Fit, OnlyOdd, cell}
 
 -- the keys from place i to before place n

@@ -1,12 +1,12 @@
 //! Calls that get the lock, do one thing under it, and give it back.
 
-ghost use Rattle.std.specs.Prelude.{◌≡◌, ◌≤◌, ◌<◌, IfOk, IfErr, IfSome};
-ghost use Rattle.dc_events.specs.Rows.{most};
 ghost use Rattle.dc_ops.specs.Asked.{IsChange};
-ghost use Rattle.dc_plain.specs.Requests.{request_of, answer_of};
-ghost use Rattle.dc_rows.specs.Changes.{Failed};
-ghost use Rattle.dc_table.specs.Changes.{NothingNew, Recorded, Rested};
-ghost use Rattle.dc_table.specs.Passes.{view, share, Fits, IsSamePass, IsIdle};
+ghost use Rattle.dc_plain.specs.KeysShown.{key_shown};
+ghost use Rattle.dc_plain.specs.Requests.{request_of};
+ghost use Rattle.dc_rows.specs.Outcomes.{MakesAlone, Pins, Shrinks};
+ghost use Rattle.dc_rows.specs.RowChanges.{UnpinsAll};
+ghost use Rattle.dc_table.specs.Changes.{NothingNew, Rested};
+ghost use Rattle.dc_table.specs.Passes.{known, view, Fits, IsSamePass, IsIdle};
 
 use crate::fault::ChangeFault;
 use crate::guard::Guard;
@@ -30,11 +30,7 @@ pub fn change<R: Wait>(
     requires pass { Fits shared.now pass.old × IsIdle pass.old }
     requires change { IsChange call.now }
     ensures same { IsSamePass pass.old pass.new × IsIdle pass.new }
-    ensures done { IfOk result (λ r. Recorded (view pass.old) (view pass.new)
-        (request_of call.now) (answer_of r.0) r.1) }
-    ensures fault { IfErr result (Failed (share pass.old).limit (view pass.old) (view pass.new)
-        (request_of call.now)) }
-    ensures within { (view pass.new).book.seen ≤ most }
+    ensures made { MakesAlone pass.old pass.new (request_of call.now) result }
 {
     let guard = Guard::lock(shared, rt, pass);
     let (back, made) = guard.change(alloc, call);
@@ -49,7 +45,7 @@ pub fn shrink<R: Wait>(shared: &Shared, rt: &R, pass: &mut Pass, most: u64) -> u
     requires pass { Fits shared.now pass.old × IsIdle pass.old }
     ensures same { IsSamePass pass.old pass.new × IsIdle pass.new }
     ensures nothing { NothingNew (view pass.old) (view pass.new) }
-    ensures few { result ≤ most }
+    ensures rows { Shrinks most result pass.new }
 {
     let mut guard = Guard::lock(shared, rt, pass);
     let emptied = guard.shrink(most);
@@ -70,7 +66,7 @@ pub fn pin<R: Wait>(
     requires pass { Fits shared.now pass.old × IsIdle pass.old }
     ensures same { IsSamePass pass.old pass.new × IsIdle pass.new }
     ensures rested { Rested (view pass.old) (view pass.new) }
-    ensures row { IfOk result (λ found. IfSome found (λ row. row < (share pass.new).rows)) }
+    ensures pinned { Pins (key_shown key.now) pass.new result }
 {
     let mut guard = Guard::lock(shared, rt, pass);
     let row = guard.pin(alloc, key);
@@ -84,6 +80,7 @@ pub fn unpin_all<R: Wait>(shared: &Shared, rt: &R, pass: &mut Pass, rows: &[u64]
     requires pass { Fits shared.now pass.old × IsIdle pass.old }
     ensures same { IsSamePass pass.old pass.new × IsIdle pass.new }
     ensures rested { Rested (view pass.old) (view pass.new) }
+    ensures rows { let k = known pass.new in UnpinsAll rows.now k.got k.left }
 {
     let mut guard = Guard::lock(shared, rt, pass);
     guard.unpin_all(rows);

@@ -8,6 +8,8 @@ ghost use Rattle.dc_plain.specs.IsWellFormed.{IsWellFormed};
 ghost use Rattle.dc_plain.specs.Requests.{request_of, answer_of};
 ghost use Rattle.dc_rows.specs.Changes.{Altered, Failed, OnlyWrites};
 ghost use Rattle.dc_rows.specs.Guards.{seat_of};
+ghost use Rattle.dc_rows.specs.Outcomes.{IsBack, MakesHeld};
+ghost use Rattle.dc_rows.specs.Refills.{Retells};
 ghost use Rattle.dc_table.specs.Changes.{IsTaken, Recorded, tree_now};
 ghost use Rattle.dc_table.specs.Holders.{pass_of};
 ghost use Rattle.dc_table.specs.Passes.{known, view, share, IsSamePass, IsIdle};
@@ -46,6 +48,7 @@ fn alter(
     ensures err { OnErr result (OnlyWrites (pass_of holder.old) (pass_of holder.new)) }
     ensures without_memory { CallTakesNoMemory (request_of call.now) → IsOk result }
     ensures home { Home (known (pass_of holder.new)) kept.new }
+    ensures rows { Retells kept.new.store holder.old kept.old holder.new kept.new (request_of call.now) }
 {
     calls_touch_the_listed_keys();
     untouched_facts_stay();
@@ -81,13 +84,8 @@ impl<'t> Guard<'t> {
     ) -> (&'t mut Pass, Result<(Reply, u64), ChangeFault>)
         requires taken { IsTaken (view (seat_of self)) }
         requires change { IsChange call.now }
-        ensures same_reference { result.0.ghost_name ≡ self.entry.holder.pass.ghost_name }
-        ensures same { IsSamePass (seat_of self.entry) result.0.now × IsIdle result.0.now }
-        ensures done { IfOk result.1 (λ r. Recorded (view (seat_of self.entry)) (view result.0.now)
-            (request_of call.now) (answer_of r.0) r.1) }
-        ensures fault { let p = seat_of self.entry in
-            IfErr result.1 (Failed (share p).limit (view p) (view result.0.now) (request_of call.now)) }
-        ensures within { (view result.0.now).book.seen ≤ most }
+        ensures back { IsBack self.entry result.0 }
+        ensures made { MakesHeld self.entry result.0.now (request_of call.now) result.1 }
     {
         opening_tree_is_well_formed();
         operations_keep_trees_well_formed();

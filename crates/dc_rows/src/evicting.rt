@@ -1,14 +1,15 @@
 //! Rows are emptied under the lock.
 
-ghost use Rattle.std.specs.Prelude.{◌≡◌, ◌≤◌, ◌<◌, length, true};
+ghost use Rattle.std.specs.Prelude.{◌≡◌, ◌<◌, length, min, true};
 ghost use Rattle.dc_events.specs.Rows.{base_of};
 ghost use Rattle.dc_index.specs.Slots.{slot_of, has_key};
 ghost use Rattle.dc_rows.specs.Changes.{KeepsTree, OnlyWrites, RestAt};
 ghost use Rattle.dc_rows.specs.Filling.{Redone, Emptied};
-ghost use Rattle.dc_rows.specs.Guards.{seat_of, kept_by, Keeps};
+ghost use Rattle.dc_rows.specs.Guards.{seat_of, kept_by, rows_of, Keeps};
+ghost use Rattle.dc_rows.specs.RowChanges.{EmptiesLast, EmptiesRow};
 ghost use Rattle.dc_rows.specs.Rows.{MayTell};
 ghost use Rattle.dc_table.specs.Changes.{tree_now, words_of};
-ghost use Rattle.dc_table.specs.Holders.{pass_of};
+ghost use Rattle.dc_table.specs.Holders.{pass_of, rows_held};
 ghost use Rattle.dc_table.specs.Passes.{view, share, CanShut};
 
 use crate::guard::Guard;
@@ -64,6 +65,7 @@ fn evict_row(holder: &mut Holder<'_>, kept: &mut Guarded, row: u64)
     ensures pass { OnlyWrites (pass_of holder.old) (pass_of holder.new) }
     ensures tree { KeepsTree kept.old kept.new }
     ensures rest { RestAt (pass_of holder.new) kept.new }
+    ensures rows { EmptiesRow row (rows_held holder.old kept.old) (rows_held holder.new kept.new) }
 {
     empty_row_spells_nothing();
     empty(holder, kept, row);
@@ -76,18 +78,20 @@ impl Guard<'_> {
         requires key { has_key (slot_of (kept_by self.old).index row) ≡ true }
         ensures same_reference { self.new.holder.pass.ghost_name ≡ self.old.holder.pass.ghost_name }
         ensures keeps { Keeps self.old self.new }
+        ensures rows { EmptiesRow row (rows_of self.old) (rows_of self.new) }
     {
         let holder = &mut self.holder;
         evict_row(holder, &mut self.guarded, row);
     }
 
-    /// Empties up to so many rows, the least recently used first, and answers how many. It takes no
-    /// memory.
+    /// Empties up to so many of the unpinned rows in use, the least recently used first, and answers how
+    /// many. It takes no memory.
     #[tactic(auto, using(crate::proofs::Held::keeps_then))]
     pub fn shrink(&mut self, most: u64) -> u64
         ensures same_reference { self.new.holder.pass.ghost_name ≡ self.old.holder.pass.ghost_name }
         ensures keeps { Keeps self.old self.new }
-        ensures few { result ≤ most }
+        ensures few { result ≡ min most (length (rows_of self.old).used.listed) }
+        ensures rows { EmptiesLast result (rows_of self.old) (rows_of self.new) }
     {
         for emptied in 0..most {
             let Some(row) = self.guarded.shrinker.victim() else {

@@ -1,7 +1,8 @@
 //! What a row tells of a key.
 
-ghost use Rattle.std.specs.Prelude.{◌≡◌, IfSome};
+ghost use Rattle.std.specs.Prelude.{◌≡◌, IfNone, IfSome};
 ghost use Rattle.dc_plain.specs.KeysShown.{key_shown};
+ghost use Rattle.dc_rows.specs.RowChanges.{CanTell};
 ghost use Rattle.dc_table.specs.Rows.{IsOf};
 
 use dc_names::Kind;
@@ -11,12 +12,13 @@ use dc_store::Store;
 
 /// The words of a row that tells what a store has under a key, or `None` where no row can tell it.
 pub(crate) fn words_for<S: Store>(store: &S, key: &Key<'_>) -> Option<[u64; ROW_WORDS]>
-    ensures { IfSome result (λ words. IsOf (S.tree store.now) words (key_shown key.now)) }
+    ensures some { IfSome result (λ words. IsOf (S.tree store.now) words (key_shown key.now)) }
+    ensures none { IfNone result (CanTell (S.tree store.now) (key_shown key.now) → ⊥) }
 {
     let row = match key.label {
         Label::Name(name) => {
             let target = match store.find(key.number, name) {
-                Some(number) => Some((number, store.kind(number)?)),
+                Some(number) => store.kind(number).map(|kind| (number, kind)),
                 None => None,
             };
             Row::Entry(

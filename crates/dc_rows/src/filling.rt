@@ -6,9 +6,11 @@ ghost use Rattle.dc_index.specs.Slots.Slot.{Holds as Held};
 ghost use Rattle.dc_plain.specs.KeysShown.{key_shown};
 ghost use Rattle.dc_rows.specs.Changes.{KeepsTree, OnlyWrites, RestAt};
 ghost use Rattle.dc_rows.specs.Filling.{GivenAt};
-ghost use Rattle.dc_rows.specs.Guards.{kept_by, Keeps};
+ghost use Rattle.dc_rows.specs.Guards.{kept_by, rows_of, Keeps};
+ghost use Rattle.dc_rows.specs.RowChanges.{Gets, IsFilled, OnlyRow};
+ghost use Rattle.dc_shrink.specs.Listings.{pins_of};
 ghost use Rattle.dc_table.specs.Changes.{tree_now};
-ghost use Rattle.dc_table.specs.Holders.{pass_of};
+ghost use Rattle.dc_table.specs.Holders.{pass_of, rows_held};
 ghost use Rattle.dc_table.specs.Rows.{IsOf};
 
 use crate::evicting::{empty, rewrite};
@@ -35,8 +37,10 @@ fn fill_given(
     ensures pass { OnlyWrites (pass_of holder.old) (pass_of holder.new) }
     ensures tree { KeepsTree kept.old kept.new }
     ensures rest { RestAt (pass_of holder.new) kept.new }
-    ensures row { IfOk result (λ found. IfSome found (λ row.
-        slot_of kept.new.index row ≡ Held (key_shown key.now))) }
+    ensures filled { IfOk result (λ found. IfSome found
+        (IsFilled kept.new.index row (key_shown key.now))) }
+    ensures rows { OnlyRow row (rows_held holder.old kept.old) (rows_held holder.new kept.new) }
+    ensures unpinned { pins_of kept.new.shrinker row ≡ 0 }
 {
     empty_row_spells_nothing();
     let Ok(()) = kept.shrinker.add(row) else {
@@ -66,6 +70,8 @@ fn fill_row(
     ensures rest { RestAt (pass_of holder.new) kept.new }
     ensures row { IfOk result (λ found. IfSome found (λ row.
         slot_of kept.new.index row ≡ Held (key_shown key.now))) }
+    ensures rows { Gets (key_shown key.now) 0 (rows_held holder.old kept.old)
+        (rows_held holder.new kept.new) result }
 {
     if let Some(row) = kept.index.row_of(key) {
         return Ok(Some(row));
@@ -89,6 +95,7 @@ impl Guard<'_> {
         ensures keeps { Keeps self.old self.new }
         ensures row { IfOk result (λ found. IfSome found (λ row.
             slot_of (kept_by self.new).index row ≡ Held (key_shown key.now))) }
+        ensures rows { Gets (key_shown key.now) 0 (rows_of self.old) (rows_of self.new) result }
     {
         let holder = &mut self.holder;
         fill_row(holder, &mut self.guarded, alloc, key)

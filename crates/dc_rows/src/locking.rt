@@ -1,10 +1,10 @@
 //! How a guard is got, what it shows, and how it is given back.
 
 ghost use Rattle.std.specs.Prelude.{◌≡◌, IfOk, IfErr};
-ghost use Rattle.dc_events.specs.Effects.{gave, answered};
+ghost use Rattle.dc_events.specs.Effects.{gave};
 ghost use Rattle.dc_plain.specs.Requests.{request_of};
 ghost use Rattle.dc_rows.specs.Guards.{seat_of, kept_by};
-ghost use Rattle.dc_table.specs.Holders.{Locked, Missed, Freed};
+ghost use Rattle.dc_table.specs.Holders.{answered_by, Freed, Locked, Missed, TriedOnce};
 ghost use Rattle.dc_table.specs.Passes.{view, share, Fits, IsIdle, CanAnswer};
 
 use crate::guard::Guard;
@@ -31,6 +31,7 @@ impl<'t> Guard<'t> {
         requires pass { Fits shared.now pass.old × IsIdle pass.old }
         ensures got { IfOk result (λ guard.
             (guard.holder.pass.ghost_name ≡ pass.entry.ghost_name) × Locked pass.old guard.holder (kept_by guard)) }
+        ensures once { IfOk result (λ guard. TriedOnce pass.old (seat_of guard)) }
         ensures held { IfErr result (λ back.
             (back.ghost_name ≡ pass.entry.ghost_name) × Missed pass.old back.now) }
     {
@@ -57,7 +58,7 @@ impl<'t> Guard<'t> {
     /// Gives the lock back, and hands the pass back.
     pub fn give(self) -> &'t mut Pass
         ensures same_reference { result.ghost_name ≡ self.entry.holder.pass.ghost_name }
-        ensures freed { Freed self.entry.holder result.now }
+        ensures freed { Freed self.entry.holder (kept_by self.entry) result.now }
         ensures view { view result.now ≡ gave (view (seat_of self.entry)) }
     {
         let Guard { holder, guarded } = self;
@@ -68,9 +69,8 @@ impl<'t> Guard<'t> {
     pub fn answer(self, call: &Call<'_>) -> &'t mut Pass
         requires unaltered { let p = seat_of self in CanAnswer (share p) (view p) (request_of call.now) }
         ensures same_reference { result.ghost_name ≡ self.entry.holder.pass.ghost_name }
-        ensures freed { Freed self.entry.holder result.now }
-        ensures view { let p = seat_of self.entry in
-            view result.now ≡ answered (share p).limit (view p) (request_of call.now) }
+        ensures freed { Freed self.entry.holder (kept_by self.entry) result.now }
+        ensures view { view result.now ≡ answered_by (seat_of self.entry) (request_of call.now) }
     {
         let Guard { holder, guarded } = self;
         holder.answer(guarded, call)

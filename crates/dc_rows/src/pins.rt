@@ -2,10 +2,12 @@
 
 ghost use Rattle.std.specs.Prelude.{◌≡◌, ◌<◌, IfOk, IfSome, IsTrue};
 ghost use Rattle.dc_rows.specs.Changes.{KeepsTree, OnlyWrites, RestAt};
-ghost use Rattle.dc_rows.specs.Guards.{seat_of, kept_by, Keeps};
+ghost use Rattle.dc_plain.specs.KeysShown.{key_shown};
+ghost use Rattle.dc_rows.specs.Guards.{seat_of, kept_by, rows_of, Keeps};
+ghost use Rattle.dc_rows.specs.RowChanges.{Gets, PinsOnce, UnpinsAll, UnpinsRow};
 ghost use Rattle.dc_shrink.specs.Listings.{is_used};
 ghost use Rattle.dc_shrink.specs.Uses.{KeepsUse};
-ghost use Rattle.dc_table.specs.Holders.{pass_of};
+ghost use Rattle.dc_table.specs.Holders.{pass_of, rows_held};
 ghost use Rattle.dc_table.specs.Passes.{share};
 
 use crate::evicting::empty;
@@ -24,6 +26,7 @@ fn unpin_row(holder: &mut Holder<'_>, kept: &mut Guarded, row: u64)
     ensures pass { OnlyWrites (pass_of holder.old) (pass_of holder.new) }
     ensures tree { KeepsTree kept.old kept.new }
     ensures rest { RestAt (pass_of holder.new) kept.new }
+    ensures rows { UnpinsRow row (rows_held holder.old kept.old) (rows_held holder.new kept.new) }
 {
     empty_row_spells_nothing();
     if kept.shrinker.pins(row) == 0 {
@@ -40,6 +43,7 @@ fn pin_row(kept: &mut Guarded, row: u64) -> Result<Option<u64>, NoMemory>
     ensures same_use { KeepsUse kept.old.shrinker kept.new.shrinker × (kept.new.shrinker.rows ≡ kept.old.shrinker.rows) }
     ensures tree { KeepsTree kept.old kept.new × (kept.new.index ≡ kept.old.index) }
     ensures row { IfOk result (λ found. IfSome found (λ r. r ≡ row)) }
+    ensures pinned { PinsOnce row kept.old.shrinker kept.new.shrinker result }
 {
     match kept.shrinker.pin(row) {
         Ok(()) => Ok(Some(row)),
@@ -55,6 +59,7 @@ impl Guard<'_> {
         ensures same_reference { self.new.holder.pass.ghost_name ≡ self.old.holder.pass.ghost_name }
         ensures keeps { Keeps self.old self.new }
         ensures row { IfOk result (λ found. IfSome found (λ row. row < (share (seat_of self.new)).rows)) }
+        ensures rows { Gets (key_shown key.now) 1 (rows_of self.old) (rows_of self.new) result }
     {
         let Some(row) = self.fill(alloc, key)? else {
             return Ok(None);
@@ -67,6 +72,7 @@ impl Guard<'_> {
     pub fn unpin(&mut self, row: u64)
         ensures same_reference { self.new.holder.pass.ghost_name ≡ self.old.holder.pass.ghost_name }
         ensures keeps { Keeps self.old self.new }
+        ensures rows { UnpinsRow row (rows_of self.old) (rows_of self.new) }
     {
         let holder = &mut self.holder;
         unpin_row(holder, &mut self.guarded, row);
@@ -77,6 +83,7 @@ impl Guard<'_> {
     pub fn unpin_all(&mut self, rows: &[u64])
         ensures same_reference { self.new.holder.pass.ghost_name ≡ self.old.holder.pass.ghost_name }
         ensures keeps { Keeps self.old self.new }
+        ensures rows { UnpinsAll rows.now (rows_of self.old) (rows_of self.new) }
     {
         for row in rows {
             self.unpin(*row);

@@ -4,6 +4,7 @@ ghost use Rattle.std.specs.Prelude.{◌≡◌, ◌+◌, ◌<◌, length, map};
 ghost use Rattle.dc_ops.specs.Keys.{AreDistinct};
 ghost use Rattle.dc_plain.specs.KeysShown.{key_shown};
 ghost use Rattle.dc_rows.specs.Changes.{KeepsTree, OnlyWrites, StageAt};
+ghost use Rattle.dc_rows.specs.Refills.{FirstKeys, KeyAt, Refills, Shuts};
 ghost use Rattle.dc_table.specs.Changes.{tree_now};
 ghost use Rattle.dc_table.specs.Holders.{pass_of};
 
@@ -23,6 +24,7 @@ fn shut_key(holder: &mut Holder<'_>, kept: &mut Guarded, keys: &[Key<'_>], i: us
     ensures tree { KeepsTree kept.old kept.new }
     ensures stage { StageAt (pass_of holder.new) kept.new 0 (i + 1)
         (map key_shown keys.now) }
+    ensures rows { Shuts (KeyAt i keys.now) holder.old kept.old holder.new kept.new }
 {
     empty_row_spells_nothing();
     let key = &keys[i];
@@ -48,6 +50,8 @@ pub(crate) fn shut_keys(holder: &mut Holder<'_>, kept: &mut Guarded, keys: &[Key
     ensures tree { KeepsTree kept.old kept.new }
     ensures stage { StageAt (pass_of holder.new) kept.new 0 (length keys.now)
         (map key_shown keys.now) }
+    ensures rows { Shuts (FirstKeys (length keys.now) keys.now)
+        holder.old kept.old holder.new kept.new }
 {
     for i in 0..keys.len() {
         shut_key(holder, kept, keys, i);
@@ -67,6 +71,7 @@ fn refill_key(holder: &mut Holder<'_>, kept: &mut Guarded, keys: &[Key<'_>], i: 
     ensures tree { KeepsTree kept.old kept.new }
     ensures stage { StageAt (pass_of holder.new) kept.new (i + 1) (length keys.now)
         (map key_shown keys.now) }
+    ensures rows { Refills (KeyAt i keys.now) holder.old kept.old holder.new kept.new }
 {
     empty_row_spells_nothing();
     let key = &keys[i];
@@ -94,6 +99,8 @@ pub(crate) fn refill_keys(holder: &mut Holder<'_>, kept: &mut Guarded, keys: &[K
     ensures tree { KeepsTree kept.old kept.new }
     ensures stage { StageAt (pass_of holder.new) kept.new (length keys.now)
         (length keys.now) (map key_shown keys.now) }
+    ensures rows { Refills (FirstKeys (length keys.now) keys.now)
+        holder.old kept.old holder.new kept.new }
 {
     for i in 0..keys.len() {
         refill_key(holder, kept, keys, i);

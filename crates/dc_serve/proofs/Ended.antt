@@ -14,8 +14,8 @@ use Rattle.dc_lang.specs.declared.TheConstants.{SESSIONS}
 use Rattle.dc_plain.specs.Trees.{Tree}
 use Rattle.dc_table.specs.Ends.{Ends}
 use Rattle.dc_table.specs.Shares.{IsWhole, Known, first_known}
-use Rattle.dc_events.specs.declared.sizes.MakeFault.{MakeFault}
-use Rattle.dc_events.specs.declared.sizes.MakeFault.TheVariants as makings
+use Rattle.dc_names.specs.declared.sizes.MakeFault.{MakeFault}
+use Rattle.dc_names.specs.declared.sizes.MakeFault.TheVariants as makings
 use Rattle.dc_serve.specs.Bytes.{AppendsFront}
 use Rattle.dc_serve.specs.Endings.{Answers, AnswersFront, AnswersPlainly, EndsBy, Serves, ServesFront, Streams, Understood}
 use Rattle.dc_serve.specs.Faults.{from_making}

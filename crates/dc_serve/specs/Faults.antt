@@ -1,8 +1,8 @@
 -- What a fault of the cache or of the input is to the server.
 use Rattle.dc_rows.specs.declared.fault.ChangeFault.{ChangeFault}
 use Rattle.dc_rows.specs.declared.fault.ChangeFault.TheVariants as changes
-use Rattle.dc_events.specs.declared.sizes.MakeFault.{MakeFault}
-use Rattle.dc_events.specs.declared.sizes.MakeFault.TheVariants as makings
+use Rattle.dc_names.specs.declared.sizes.MakeFault.{MakeFault}
+use Rattle.dc_names.specs.declared.sizes.MakeFault.TheVariants as makings
 use Rattle.dc_lang.specs.declared.fault.InputFault.{InputFault}
 use Rattle.dc_lang.specs.declared.fault.InputFault.TheVariants as inputs
 use Rattle.dc_serve.specs.declared.fault.ServeFault.{ServeFault}

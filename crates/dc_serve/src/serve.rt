@@ -2,7 +2,7 @@
 
 ghost use Rattle.std.specs.Prelude.{◌≡◌, true, OnOk, IfErr};
 ghost use Rattle.dc_cache.specs.Passes.{known, share, Fits};
-ghost use Rattle.dc_events.specs.Sizes.{are_right};
+ghost use Rattle.dc_names.specs.Sizes.{are_right};
 ghost use Rattle.dc_serve.specs.Served.{ServesLines, ServesUntil, WroteAll, WroteUntil};
 ghost use Rattle.dc_table.specs.Shares.{first_known};
 

@@ -1,9 +1,9 @@
 //! The sizes that a server is started with.
 
 ghost use Rattle.std.specs.Prelude.{◌≡◌};
-ghost use Rattle.dc_events.specs.Sizes.{are_right};
+ghost use Rattle.dc_names.specs.Sizes.{are_right};
 
-use dc_events::are_right;
+use dc_names::are_right;
 
 /// The sizes that a server is started with.
 #[derive(Clone, Copy, Debug, PartialEq, Eq)]

@@ -1,5 +1,6 @@
 //! Runs over inputs and sizes of all kinds, and the words of the command line.
 
+mod cut;
 mod rows;
 mod streams;
 
@@ -138,11 +139,22 @@ fn longest_names_and_texts(rt: HostRuntime) -> Result<(), Fail> {
 /// Names go by their bytes, those above 127 after all others.
 #[test]
 fn names_of_any_bytes(rt: HostRuntime) {
-    let input = b"0 create \xff\n0 create \x7f\n0 create \x80a\n0 create \x80\n0 list /\n";
-    let want = b"0 ok 2 @0\n0 ok 3 @1\n0 ok 4 @2\n0 ok 5 @3\n0 names \x7f \x80 \x80a \xff @4\n";
-    let (result, output) = served(&rt, rt.alloc(), USUAL, input.as_slice());
-    assert_eq!(rt; result, Ok(()));
-    assert!(rt; output.as_slice() == want.as_slice(), "{output:?}");
+    let rows: [(&[u8], &[u8]); 3] = [
+        (
+            b"0 create \xff\n0 create \x7f\n0 create \x80a\n0 create \x80\n0 list /\n",
+            b"0 ok 2 @0\n0 ok 3 @1\n0 ok 4 @2\n0 ok 5 @3\n0 names \x7f \x80 \x80a \xff @4\n",
+        ),
+        (
+            b"0 mkdir /@3\n0 mkdir /a\\sb\n0 list /\n",
+            b"0 ok 2 @0\n0 ok 3 @1\n0 names @3 a\\sb @2\n",
+        ),
+        (b"0 look /\0\n", b"0 no 22 @0\n"),
+    ];
+    for (input, want) in rows {
+        let (result, output) = served(&rt, rt.alloc(), USUAL, input);
+        assert_eq!(rt; result, Ok(()));
+        assert!(rt; output.as_slice() == want, "{output:?}");
+    }
 }
 
 /// All sessions at once: each starts where it went itself, and the replies come by session.

@@ -5,3 +5,4 @@ pub mod Listed
 pub mod Steps
 pub mod Uses
 pub mod Promoted
+pub mod Pinned

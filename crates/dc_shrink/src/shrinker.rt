@@ -156,7 +156,8 @@ impl Shrinker {
     /// The unpinned row in use that was least recently used.
     #[must_use]
     pub fn victim(&self) -> Option<u64>
-        ensures { result ≡ last_of self.now.listed }
+        ensures victim { result ≡ last_of self.now.listed }
+        ensures valid { IsListing self.now }
     {
         self.listed.peek_lru().map(|(row, _)| *row)
     }

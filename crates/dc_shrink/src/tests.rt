@@ -1,3 +1,5 @@
+//! The order of use and the pins, call by call.
+
 ghost use Rattle.std.specs.Prelude.{◌≡◌, ◌<◌, [], IsTrue, IfOk, OnOk, not, true};
 ghost use Rattle.std.specs.FinMap as map;
 ghost use Rattle.dc_shrink.specs.Listings.{listing, added, pinned_once, is_used, pins_of};

@@ -12,7 +12,8 @@ use Rattle.std.specs.Option.{option_to_list}
 use Rattle.std.specs.Ordering.{is_eq}
 use Rattle.std.specs.Str.{bytes_eq}
 use Rattle.dc_plain.specs.Trees.{Spot, how_many}
-use Rattle.dc_store.specs.Keys.{number_bytes, key_of, spot_in, entry_shown, name_held, names_held, names_by, IsKey}
+use Rattle.dc_plain.specs.BytesShown.{names_by}
+use Rattle.dc_store.specs.Keys.{number_bytes, key_of, spot_in, entry_shown, name_held, names_held, IsKey}
 use Rattle.dc_store.proofs.Keys.{cmp-number_bytes, length-number_bytes}
 
 how_many-map : {X Y : Type 0} (p : Y → Bool) (f : X → Y) (xs : List X) → how_many p (map f xs) ≡ how_many (λ x. p (f x)) xs

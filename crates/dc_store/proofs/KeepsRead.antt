@@ -4,7 +4,7 @@ use Rattle.std.specs.FinMap.Entries.{is_sorted}
 use Rattle.std.specs.Option.{option_copied}
 use Rattle.dc_plain.specs.Trees.{Tree, Spot, how_many, inode_of, names_in}
 use Rattle.dc_store.specs.Inodes.{entries_of, nodes_of, inode_at}
-use Rattle.dc_store.specs.Keys.{names_by}
+use Rattle.dc_plain.specs.BytesShown.{names_by}
 use Rattle.dc_store.specs.Maps.{node_shown, IsNodeAt}
 use Rattle.dc_store.specs.Names.{name_cmp}
 use Rattle.dc_store.specs.Slabs.{IsInodeAt}

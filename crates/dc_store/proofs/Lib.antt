@@ -28,3 +28,6 @@ pub mod KeepsMoved
 pub mod Swaps
 pub mod KeepsSwapped
 pub mod KeepsRead
+pub mod Redirected
+pub mod SlabSteps
+pub mod SlotsSeen

@@ -7,7 +7,7 @@ use Rattle.std.specs.Ordering.{nat_cmp, eq_by_cmp, is_eq, is_lt, ordering_then}
 use Rattle.std.specs.declared.cmp.Ordering.{Ordering}
 use Rattle.std.specs.declared.cmp.Ordering.TheVariants.{Less, Equal, Greater}
 use Rattle.dc_plain.specs.Trees.{Spot, spot_cmp}
-use Rattle.dc_store.specs.Keys.{names_by}
+use Rattle.dc_plain.specs.BytesShown.{names_by}
 use Rattle.dc_store.specs.Names.{name_cmp}
 use Rattle.dc_store.specs.Inodes.{entries_of, inode_at, led_to}
 use Rattle.dc_plain.specs.Spots.{spot_at}

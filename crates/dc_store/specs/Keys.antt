@@ -1,6 +1,6 @@
 -- The bytes that an entry is kept under: its directory's number in 8 bytes, the highest first, and its name.
 -- Entries under their keys, as a list by their directories and names.
-use Rattle.std.specs.Prelude.{◌≡◌, ℕ, ◌<◌, ◌^◌, ◌==◌, List, [], ◌∷◌, ◌++◌, take, drop, map, filter, Option, Some, None, IsTrue, if◌then◌else◌}
+use Rattle.std.specs.Prelude.{◌≡◌, ℕ, ◌<◌, ◌^◌, List, [], ◌∷◌, ◌++◌, take, drop, map, Option, Some, None, IsTrue, if◌then◌else◌}
 use Rattle.std.specs.FinMap.Entries.{is_sorted}
 use Rattle.std.specs.Global.{Vec}
 use Rattle.std.specs.Int.{w64, to_be_bytes, from_be_bytes}
@@ -26,6 +26,10 @@ spot_in key = spot_at (number_in (take 8 key)) (drop 8 key)
 abbrev pub name_held : ℕ → List ℕ → Option (List ℕ)
 name_held d key = if bytes_eq (take 8 key) (number_bytes d) then Some (drop 8 key) else None
 
+-- that name alone, or none
+abbrev pub names_of_key : ℕ → List ℕ → List (List ℕ)
+names_of_key d key = option_to_list (name_held d key)
+
 -- the names of the keys that are for entries in a directory
 abbrev pub names_held : ℕ → List (List ℕ) → List (List ℕ)
 names_held d [] = []
@@ -43,7 +47,3 @@ entry_shown e = (spot_in e.0.items, e.1)
 pub record AreKept (entries : List (Vec ℕ × ℕ)) : Type 0 where
   pub keys : AllByRecursion (λ e. IsKey e.0.items) entries
   pub sorted : IsTrue (is_sorted spot_cmp (map entry_shown entries))
-
--- the names in a directory, by their bytes
-abbrev pub names_by : ℕ → List (Spot × ℕ) → List (List ℕ)
-names_by d entries = map (λ e. e.0.name) (filter (λ e. e.0.dir == d) entries)

@@ -12,3 +12,4 @@ pub mod Slots
 pub mod Lending
 pub mod Slabs
 pub mod Laws
+pub mod Nodes

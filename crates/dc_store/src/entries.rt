@@ -3,9 +3,9 @@
 ghost use Rattle.std.specs.Prelude.{◌≡◌, ℕ, List, [], ◌==◌, ◌++◌, length, map, IsSome, IfOk, OnOk, OnErr};
 ghost use Rattle.std.specs.FinMap.Entries.{put};
 ghost use Rattle.std.specs.FinMap.Entries.{find as lookup};
-ghost use Rattle.std.specs.Option.{option_to_list};
 ghost use Rattle.dc_plain.specs.Trees.{Spot, how_many, spot_cmp, without_spot};
-ghost use Rattle.dc_store.specs.Keys.{entry_shown, name_held, names_by, AreKept};
+ghost use Rattle.dc_plain.specs.BytesShown.{names_by, names_shown};
+ghost use Rattle.dc_store.specs.Keys.{entry_shown, names_of_key, AreKept};
 ghost use Rattle.dc_plain.specs.Spots.{spot_at};
 
 use crate::entry_bytes::{EntryBytes, name_in, stands_in};
@@ -104,8 +104,7 @@ impl Entries {
 
     /// The names in a directory, by their bytes.
     pub fn list(&self, alloc: Global, dir: u64) -> Result<Vec<Vec<u8>>, NoMemory>
-        ensures { IfOk result (λ names.
-            map (λ name. name.items) names.items ≡ names_by dir self.now) }
+        ensures { IfOk result (λ names. names_shown names ≡ names_by dir self.now) }
     {
         let mut names = Vec::new(alloc);
         for key in self.by_key.keys() {
@@ -117,9 +116,8 @@ impl Entries {
 
 /// Puts the name of a key at the end, where the key is for an entry in a directory.
 fn push_name(names: &mut Vec<Vec<u8>>, alloc: Global, key: &[u8], dir: u64) -> Result<(), NoMemory>
-    ensures { OnOk result (map (λ name. name.items) names.new.items
-        ≡ map (λ name. name.items) names.old.items
-        ++ option_to_list (name_held dir key.entry.now)) }
+    ensures { OnOk result
+        (names_shown names.new ≡ names_shown names.old ++ names_of_key dir key.entry.now) }
 {
     if let Some(name) = name_in(key, dir) {
         names.push(name.to_vec(alloc)?)?;

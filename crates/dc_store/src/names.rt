@@ -3,6 +3,7 @@
 ghost use Rattle.std.specs.Prelude.{◌≡◌, ℕ, List, [], length, map, IsSome, IsTrue, IfOk, OnOk, OnErr};
 ghost use Rattle.std.specs.FinMap.Entries.{put, is_sorted};
 ghost use Rattle.std.specs.FinMap.Entries.{find as lookup};
+ghost use Rattle.dc_plain.specs.BytesShown.{names_shown};
 ghost use Rattle.dc_store.specs.Names.{name_cmp, name_shown, without_name};
 
 use dc_names::{Name, NoMemory};
@@ -86,8 +87,7 @@ impl Names {
 
     /// The names, by their bytes.
     pub fn list(&self, alloc: Global) -> Result<Vec<Vec<u8>>, NoMemory>
-        ensures names { IfOk result (λ names.
-            map (λ name. name.items) names.items ≡ map (λ e. e.0) self.now) }
+        ensures names { IfOk result (λ names. names_shown names ≡ map (λ e. e.0) self.now) }
         ensures sorted { IsTrue (is_sorted name_cmp self.now) }
     {
         let mut names = Vec::new(alloc);

@@ -1,9 +1,9 @@
 //! What a store keeps under a number: the kind, with a parent or a text.
 
-ghost use Rattle.std.specs.Prelude.{◌≡◌, ℕ, ◌==◌, map, option_map, Some, if◌then◌else◌};
+ghost use Rattle.std.specs.Prelude.{◌≡◌, map, option_map};
 ghost use Rattle.dc_plain.specs.Trees.{kind_of, text_in};
-ghost use Rattle.dc_store.specs.Maps.{inode_shown, node_at, node_shown, nodes_after, parent_kept, with_parent};
-ghost use Rattle.dc_store.specs.declared.node.Node as rust_node;
+ghost use Rattle.dc_store.specs.Maps.{inode_shown, node_shown, nodes_after, parent_kept, with_parent};
+ghost use Rattle.dc_store.specs.Nodes.{AreAmong, WritesParent};
 
 use crate::entries::Entries;
 use dc_names::Kind;
@@ -60,8 +60,7 @@ impl Node {
 /// Writes a directory's parent. It leaves what is no directory.
 pub fn set_parent(nodes: &mut BTreeMap<u64, Node>, number: u64, parent: u64)
     ensures shown { map inode_shown nodes.new.entries ≡ map inode_shown nodes.old.entries }
-    ensures set { (q : ℕ) → node_at nodes.new.entries q
-        ≡ (if q == number then option_map (with_parent parent) (node_at nodes.old.entries q) else node_at nodes.old.entries q) }
+    ensures set { WritesParent number parent nodes.old.entries nodes.new.entries }
 {
     if let Some(node) = nodes.get_mut(&number) {
         node.set_parent(parent);
@@ -71,8 +70,7 @@ pub fn set_parent(nodes: &mut BTreeMap<u64, Node>, number: u64, parent: u64)
 /// Drops the node of what lost an entry, where no entry leads to it any more.
 pub fn drop_unnamed(nodes: &mut BTreeMap<u64, Node>, entries: &Entries, lost: Option<u64>)
     ensures rest { nodes.new.entries ≡ nodes_after lost entries.now nodes.old.entries }
-    ensures kept { (q : ℕ) (node : rust_node.Node) → node_at nodes.new.entries q ≡ Some node
-        → node_at nodes.old.entries q ≡ Some node }
+    ensures kept { AreAmong nodes.new.entries nodes.old.entries }
 {
     if let Some(number) = lost
         && entries.names(number) == 0

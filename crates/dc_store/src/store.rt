@@ -1,7 +1,8 @@
 //! What a store of inodes and entries does, as calls on a plain tree.
 
-ghost use Rattle.std.specs.Prelude.{◌≡◌, ℕ, None, length, map, option_map, IsTrue, IfSome, IfOk, OnOk, OnErr};
+ghost use Rattle.std.specs.Prelude.{◌≡◌, ℕ, None, length, option_map, IsTrue, IfSome, IfOk, OnOk, OnErr};
 ghost use Rattle.dc_names.specs.Paths.{fault_of};
+ghost use Rattle.dc_plain.specs.BytesShown.{names_shown};
 ghost use Rattle.dc_plain.specs.Facts.Label.{Parent};
 ghost use Rattle.dc_plain.specs.IsWellFormed.{IsWellFormed};
 ghost use Rattle.dc_plain.specs.Trees.{Tree, entry_number, inode_of, entry_of, text_of, kind_of, names_in, is_live_directory};
@@ -76,8 +77,7 @@ pub trait Store {
     /// The names in a directory, by their bytes. None where no directory lives under the number.
     /// `NoMemory` where memory was refused.
     fn list(&self, alloc: Global, dir: u64) -> Result<Vec<Vec<u8>>, NoMemory>
-        ensures { IfOk result (λ names.
-            map (λ name. name.items) names.items ≡ names_in (tree self.now) dir) };
+        ensures { IfOk result (λ names. names_shown names ≡ names_in (tree self.now) dir) };
 
     /// Adds an entry to a live directory, under a name that is free there, and answers the number that
     /// it leads to: that of a new inode, where the next number is below `NUMBER_LIMIT`, or of one that

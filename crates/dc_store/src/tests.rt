@@ -1,3 +1,5 @@
+//! Both stores, call by call.
+
 ghost use Rattle.std.specs.Prelude.{◌≡◌, ◌≢◌, ◌&&◌, true, false, length, not, is_some, Some, IfSome, IsTrue};
 ghost use Rattle.dc_plain.specs.Operations.{is_beneath};
 ghost use Rattle.dc_plain.specs.Trees.{entry_number, is_live_directory};

@@ -1,9 +1,9 @@
 -- The words of a row after a write.
-use Rattle.std.proofs.Common.{◌≡◌, ◌≢◌, ℕ, zero, suc, ◌+◌, ◌<◌, ◌≤◌, List, ◌∷◌, length, set, get_or, refl, sym, ap, ap₂, ◌∙◌, arith, get_or-set_other, get_or-set_same, length-set, Option}
+use Rattle.std.proofs.Common.{◌≡◌, ◌≢◌, ℕ, zero, suc, ◌+◌, ◌<◌, ◌≤◌, List, ◌∷◌, length, set, get_or, refl, sym, ap, ap₂, ◌∙◌, arith, get_or-set_other, Option}
 use Rattle.dc_plain.specs.Facts.{Fact}
 use Rattle.dc_row.specs.Spelling.{Spells}
 use Rattle.dc_row.specs.declared.TheConstants.{ROW_WORDS}
-use Rattle.dc_events.specs.Rows.{base_of, count, words_from, row_words}
+use Rattle.dc_events.specs.Rows.{base_of, words_from, row_words}
 use Rattle.dc_table.specs.Rows.{cell}
 
 words_from_set : (words : List ℕ) (k n i x : ℕ) → ((j : ℕ) → k ≤ j → j < k + n → i ≢ j) → words_from (set words i x) k n ≡ words_from words k n

@@ -1,5 +1,5 @@
 -- Each step of the one that gets, has or gives the lock keeps the table's rule.
-use Rattle.std.proofs.Common.{◌≡◌, ℕ, ◌+◌, ◌%◌, ◌<◌, eqb, true, false, List, [], ◌∷◌, ◌++◌, length, get_or, set, sym, refl, ap, ◌∙◌, subst, subst₂, arith, Option as Maybe, Some, get_or-set_same, mod-eq_of_lt}
+use Rattle.std.proofs.Common.{◌≡◌, ℕ, ◌+◌, ◌%◌, ◌<◌, ◌≤◌, eqb, true, false, List, [], ◌∷◌, ◌++◌, length, get_or, set, sym, refl, ap, ◌∙◌, subst, subst₂, arith, Option as Maybe, Some, None, get_or-set_same, mod-eq_of_lt}
 use mathlib.Core.Option.{none, some}
 use lib.ListN.{get_elem?}
 use prog.Atomic.{either}
@@ -15,10 +15,10 @@ use Rattle.dc_events.specs.Rows.{most, base_of, count, row_words, IsUntouched}
 use Rattle.dc_events.specs.Rule.{Rule}
 use Rattle.dc_events.specs.Effects.{taken, wrote, committed, gave, answered}
 use Rattle.dc_events.specs.Laws.{HoldersKeepTheRule}
-use Rattle.dc_table.specs.Shares.{Known, Shares, with_view}
+use Rattle.dc_table.specs.Shares.{Known, Shares, with_view, tried}
 use Rattle.dc_table.specs.Rows.{MayStand}
 use Rattle.dc_table.specs.Kept.{HomeFits, KeptAt, Kept, knowns, views_of, sheet_of}
-use Rattle.dc_table.specs.Plays.{Place, Home, known_at, took, raised, put, committed_as, gave_as, answered_as}
+use Rattle.dc_table.specs.Plays.{Place, Home, Took, known_at, rows_as, handed, took, raised, put, committed_as, gave_as, answered_as}
 use Rattle.dc_table.specs.Passes.{CanShut, CanOpen, CanCommit}
 use Rattle.dc_table.specs.Boxes.{Boxed}
 use Rattle.dc_table.specs.declared.table.Guarded.{Guarded}
@@ -33,6 +33,28 @@ record There (k : Limits) (s : Seen) (h : List Request) (id : ℕ) (me : Place) 
   seat : get_elem? (views_of (knowns s.views)) id ≡ some (known_at me).view
   part : 0 < (known_at me).share.parts
 
+-- what lies in the hands of a pass, where it has one thing
+abbrev box_in : Boxed → List (ℕ × Maybe Boxed) → Boxed
+box_in x [] = x
+box_in x ((i, None) ∷ cs) = x
+box_in x ((i, Some y) ∷ cs) = y
+
+pub same_box : (cs : List (ℕ × Maybe Boxed)) (x y : Boxed) → cs ≡ (0, Some x) ∷ [] → cs ≡ (0, Some y) ∷ [] → x ≡ y
+same_box cs x y e f = sym (ap (box_in x) e) ∙ ap (box_in x) f
+
+-- who got the lock after it had tried some times, got it since before
+pub took_since : (k m l : Known) (x : Guarded) → m ≡ record k { tries = m.tries } → k.tries ≤ m.tries → Took m l x → Took k l x
+took_since k m l x same more t = let first = t.tried in let later = t.later in let seen = ap (λ (z : Known). z.view.book.seen) same in record {
+  words = t.words;
+  history = t.history;
+  tries = t.tries;
+  now = t.now ∙ ap (λ (z : Known). record z { view = taken z.view t.words t.history; tries = t.tries; got = rows_as t.words x }) same;
+  tried = omega arith;
+  early = t.early;
+  later = omega arith;
+  home = t.home;
+}
+
 module _ (k : Limits) (law : HoldersKeepTheRule) where
   there : (s : Seen) (h : List Request) (id : ℕ) (me : Place) → KeptAt k s h → get_elem? s.views id ≡ some me.0 → 0 < (known_at me).share.parts → There k s h id me
   there s h id me K at part = record { kept = K; pass = known_there s.views id me.0 at; seat = view_there s.views id me.0 at; part = part }
@@ -43,20 +65,23 @@ module _ (k : Limits) (law : HoldersKeepTheRule) where
   shares_stay : (s : Seen) (h : List Request) (id : ℕ) (me : Place) → There k s h id me → (v : View) → Shares k.max_inodes k.rows (set (knowns s.views) id (with_view (known_at me) v))
   shares_stay s h id me T v = same_shares T.kept.shares id (known_at me) T.pass T.part (with_view (known_at me) v) refl
 
+  shares_with : (s : Seen) (h : List Request) (id : ℕ) (me : Place) → There k s h id me → (l : Known) → l.share ≡ (known_at me).share → Shares k.max_inodes k.rows (set (knowns s.views) id l)
+  shares_with s h id me T l same = same_shares T.kept.shares id (known_at me) T.pass T.part l same
+
   -- a lock that was tried and was not free
-  missed : (s : Seen) (h : List Request) (id : ℕ) (me : Place) → There k s h id me → Kept k (stepped s 1 (get_or s.words 1 0) id me.1 me.0 keeps)
-  missed s h id me T = after_load k s h T.kept 1 id me.1 (known_at me) (subst (λ vs. Rule k.max_inodes k.rows s.words vs h) (sym (set_again (views_of (knowns s.views)) id (known_at me).view T.seat)) T.kept.rule)
-      (subst (Shares k.max_inodes k.rows) (sym (set_again (knowns s.views) id (known_at me) T.pass)) T.kept.shares)
+  missed : (s : Seen) (h : List Request) (id : ℕ) (me : Place) → There k s h id me → Kept k (stepped s 1 (get_or s.words 1 0) id me.1 (sheet_of (tried (known_at me))) keeps)
+  missed s h id me T = after_load k s h T.kept 1 id me.1 (tried (known_at me)) (subst (λ vs. Rule k.max_inodes k.rows s.words vs h) (sym (set_again (views_of (knowns s.views)) id (known_at me).view T.seat)) T.kept.rule)
+      (shares_with s h id me T (tried (known_at me)) refl)
 
   pub takes_lock : (slots id : ℕ) (me : Place) → me.1 ≡ [] → 0 < (known_at me).share.parts → Allows (Kept k) slots id me 1 (λ x. either (eqb x 0) 1 x) (took (step slots 1 0 1 none) me)
   takes_lock slots id me empty part s kept len at small = let h = kept.0 in let K = kept.1 in let R = K.rule in let T = there s h id me K at part in let x : ℕ = get_or s.words 1 0 in let now = known_at me in let n = names s h id me T in
       exchanged x 0 1 (λ z. (w : _) × (a : Act (Maybe Boxed)) × Valid s.homes me.1 a × Kept k (stepped s 1 z id me.1 w a) × took (step slots 1 0 1 none) me x (w, carried_after me.1 a))
-      (λ free. let home = K.home.0 free in let v = home.0 in let words : List ℕ = set s.words 1 1 in let wide = R.wide in let l : Known = with_view now (taken now.view words h) in
+      (λ free. let home = K.home.0 free in let v = home.0 in let words : List ℕ = set s.words 1 1 in let wide = R.wide in let l : Known = record now { view = taken now.view words h; tries = now.tries + 1; got = rows_as words v.value } in
       let locked : get_or words 1 0 ≡ 1 = get_or-set_same s.words 1 1 0 (omega arith) in (
         sheet_of l,
         takes 0 (Some v),
         ap (λ hs. get_elem? hs 0) home.1,
-        after_step k s h 1 1 id me.1 l (takes 0 (Some v)) (law.take k.max_inodes k.rows s.words (views_of (knowns s.views)) h id now.view R T.seat free) (shares_stay s h id me T (taken now.view words h))
+        after_step k s h 1 1 id me.1 l (takes 0 (Some v)) (law.take k.max_inodes k.rows s.words (views_of (knowns s.views)) h id now.view R T.seat free) (shares_with s h id me T l refl)
             ((λ z. absurd (omega arith)), λ _. ap (λ hs. set hs 0 none) home.1),
         (
           (λ _. (
@@ -65,16 +90,19 @@ module _ (k : Limits) (law : HoldersKeepTheRule) where
             record {
               words = words;
               history = h;
+              tries = now.tries + 1;
               now = refl;
+              tried = omega arith;
               early = R.early;
               later = (R.fits id now.view T.seat).book.seen;
               home = subst₂ (λ a b. HomeFits a b words h v.value) (sym n.0) (sym n.1) (home_low k.max_inodes k.rows s.words h v.value 1 1 (omega arith) home.2);
             },
+            refl,
           )),
           λ not. absurd (not free),
         ),
       ))
-      (λ busy. (me.0, keeps, tt, missed s h id me T, ((λ e. absurd (busy e)), λ _. refl)))
+      (λ busy. (sheet_of (tried now), keeps, tt, missed s h id me T, ((λ e. absurd (busy e)), λ _. refl)))
 
   -- the value that is given back fits the table
   home_again : (s : Seen) (h : List Request) (id : ℕ) (me : Place) (T : There k s h id me) (x : Guarded) → (known_at me).view.hold.holds ≡ true → Home (known_at me) x → HomeFits k.max_inodes k.rows s.words h x
@@ -87,13 +115,14 @@ module _ (k : Limits) (law : HoldersKeepTheRule) where
   pub gives_lock : (slots id : ℕ) (me : Place) (x : Boxed) → me.1 ≡ (0, Some x) ∷ [] → (known_at me).view.hold.holds ≡ true → 0 < (known_at me).share.parts → Home (known_at me) x.value
       → Allows (Kept k) slots id me 1 (λ _. 0) (λ _. gave_as (step slots 1 0 0 none) me 0)
   gives_lock slots id me x out has part fits s kept len at small = let h = kept.0 in let K = kept.1 in let R = K.rule in let T = there s h id me K at part in let now = known_at me in
-      let H = R.held id now.view T.seat has in let wide = R.wide in let home = home_again s h id me T x.value has fits in let free : get_or (set s.words 1 0) 1 0 ≡ 0 = get_or-set_same s.words 1 0 0 (omega arith) in (
-        sheet_of (with_view now (gave now.view)),
+      let H = R.held id now.view T.seat has in let wide = R.wide in let home = home_again s h id me T x.value has fits in let free : get_or (set s.words 1 0) 1 0 ≡ 0 = get_or-set_same s.words 1 0 0 (omega arith) in
+      let l : Known = handed now (gave now.view) x.value in (
+        sheet_of l,
         gives,
         tt,
-        after_step k s h 1 0 id me.1 (with_view now (gave now.view)) gives (law.give k.max_inodes k.rows s.words (views_of (knowns s.views)) h id now.view R T.seat has (home_even k.max_inodes k.rows s.words h x.value home)) (shares_stay s h id me T (gave now.view))
+        after_step k s h 1 0 id me.1 l gives (law.give k.max_inodes k.rows s.words (views_of (knowns s.views)) h id now.view R T.seat has (home_even k.max_inodes k.rows s.words h x.value home)) (shares_with s h id me T l refl)
             ((λ _. (x, back_home s h K me x out H.locked, home_low k.max_inodes k.rows s.words h x.value 1 0 (omega arith) home)), λ z. absurd (omega arith)),
-        ap (λ cs. (sheet_of (with_view now (gave now.view)), carried_after cs gives)) out,
+        λ y e. ap (λ cs. (sheet_of l, carried_after cs gives)) out ∙ ap (λ (z : Boxed). (sheet_of (handed now (gave now.view) z.value), [])) (same_box me.1 x y out e),
       )
 
   pub answers_lock : (slots id : ℕ) (me : Place) (x : Boxed) (call : Request) → me.1 ≡ (0, Some x) ∷ [] → (known_at me).view.hold.holds ≡ true → 0 < (known_at me).share.parts → Home (known_at me) x.value
@@ -101,14 +130,14 @@ module _ (k : Limits) (law : HoldersKeepTheRule) where
   answers_lock slots id me x call out has part fits unaltered s kept len at small = let h = kept.0 in let K = kept.1 in let R = K.rule in let T = there s h id me K at part in let now = known_at me in let n = names s h id me T in
       let H = R.held id now.view T.seat has in let wide = R.wide in let home = home_again s h id me T x.value has fits in let free : get_or (set s.words 1 0) 1 0 ≡ 0 = get_or-set_same s.words 1 0 0 (omega arith) in
       let still : alters k.max_inodes (tree_of k.max_inodes h) call ≡ false = subst₂ (λ a hist. alters a (tree_of a hist) call ≡ false) n.0 H.knows_history unaltered in
-      let l : Known = with_view now (answered now.share.limit now.view call) in (
+      let l : Known = handed now (answered now.share.limit now.view call) x.value in (
         sheet_of l,
         gives,
         tt,
         after_step k s h 1 0 id me.1 l gives (subst (λ a. Rule k.max_inodes k.rows (set s.words 1 0) (set (views_of (knowns s.views)) id (answered a now.view call)) h) (sym n.0)
-            (law.answer k.max_inodes k.rows s.words (views_of (knowns s.views)) h id now.view R T.seat has (home_even k.max_inodes k.rows s.words h x.value home) call still)) (shares_stay s h id me T (answered now.share.limit now.view call))
+            (law.answer k.max_inodes k.rows s.words (views_of (knowns s.views)) h id now.view R T.seat has (home_even k.max_inodes k.rows s.words h x.value home) call still)) (shares_with s h id me T l refl)
             ((λ _. (x, back_home s h K me x out H.locked, home_low k.max_inodes k.rows s.words h x.value 1 0 (omega arith) home)), λ z. absurd (omega arith)),
-        ap (λ cs. (sheet_of l, carried_after cs gives)) out,
+        λ y e. ap (λ cs. (sheet_of l, carried_after cs gives)) out ∙ ap (λ (z : Boxed). (sheet_of (handed now (answered now.share.limit now.view call) z.value), [])) (same_box me.1 x y out e),
       )
 
   -- the count of a row grows by one

@@ -75,7 +75,7 @@ module _ (k : Limits) (law : WalkersKeepTheRule) where
         refl,
       )
 
-  pub pivots_clock : (slots id : ℕ) (me : Place) (call : Request) (first : Bool) → 0 < (known_at me).share.parts → IsFresh (begins first (known_at me).view call) → Allows (Kept k) slots id me 0 (λ x. x) (pivoted_as call first (step slots 0 0 0 none) me)
+  pub pivots_clock : (slots id : ℕ) (me : Place) (call : Request) (first : Bool) → 0 < (known_at me).share.parts → IsFresh first (known_at me).view call → Allows (Kept k) slots id me 0 (λ x. x) (pivoted_as call first (step slots 0 0 0 none) me)
   pivots_clock slots id me call first part fresh s kept len at small = let h = kept.0 in let K = kept.1 in let now = known_at me in let views = views_of (knowns s.views) in let seat = view_there s.views id me.0 at in
       let v : View = begins first now.view call in let x : ℕ = get_or s.words 0 0 in let clock = K.rule.clock in let seen = (K.rule.fits id now.view seat).book.seen in (
         sheet_of (with_view now (pivoted v x)),

@@ -1,6 +1,8 @@
 -- What the shared table keeps, and what its passes know.
 pub mod Codes
 pub mod ViewCodes
+pub mod RowStates
+pub mod RowCodes
 pub mod Shares
 pub mod Boxes
 pub mod Rows

@@ -3,10 +3,11 @@ use Rattle.std.specs.Prelude.{◌≡◌, ℕ, ◌%◌, ◌<◌, true, false, [],
 use Rattle.atomic_table.specs.declared.shared.Seat.{Seat}
 use Rattle.dc_plain.specs.Requests.{Request}
 use Rattle.dc_plain.specs.Runs.{alters}
+use Rattle.dc_row.specs.declared.TheConstants.{ROW_WORDS}
 use Rattle.dc_events.specs.Views.{View}
 use Rattle.dc_events.specs.Standing.{tree_of}
 use Rattle.dc_events.specs.Rows.{most, count, row_words, IsUntouched}
-use Rattle.dc_table.specs.Shares.{Known, Share}
+use Rattle.dc_table.specs.Shares.{Known, Share, HasNotTried}
 use Rattle.dc_table.specs.Rows.{MayStand}
 use Rattle.dc_table.specs.Boxes.{Boxed}
 use Rattle.dc_table.specs.declared.shared.Shared.{Shared}
@@ -42,6 +43,23 @@ pub record IsIdle (p : Pass) : Type 0 where
   pub free : (view p).hold.holds ≡ false
   pub part : 0 < (share p).parts
 
+-- the pass is one of the table, and has not the lock
+pub record IsWalker (t : Shared) (p : Pass) : Type 0 where
+  pub fits : Fits t p
+  pub idle : IsIdle p
+
+-- and this is a row of the table
+pub record IsWalkerAt (t : Shared) (p : Pass) (row : ℕ) : Type 0 where
+  pub fits : Fits t p
+  pub idle : IsIdle p
+  pub inside : row < (share p).rows
+
+-- the same pass, which has not tried for the lock
+pub record StaysOut (p q : Pass) : Type 0 where
+  pub same : IsSamePass p q
+  pub idle : IsIdle q
+  pub untried : HasNotTried (known p) (known q)
+
 -- it has the lock, and what the lock keeps is out of its slot
 pub record IsHolder (p : Pass) : Type 0 where
   pub out : p.me.1 ≡ (0, None) ∷ []
@@ -55,6 +73,13 @@ pub record CanShut (v : View) (row : ℕ) : Type 0 where
 
 abbrev pub CanWrite : View → ℕ → Type 0
 CanWrite v row = count v.hold.words row % 2 ≡ 1
+
+-- a word of an odd row of the table can be written, from the one after its count on
+pub record CanPut (p : Pass) (row word : ℕ) : Type 0 where
+  pub inside : row < (share p).rows
+  pub odd : CanWrite (view p) row
+  pub after_count : 0 < word
+  pub within : word < ROW_WORDS
 
 -- an odd row whose words spell what is true now can be opened; with its last count it has to be empty
 pub record CanOpen (limit : ℕ) (v : View) (row : ℕ) : Type 0 where

@@ -1,13 +1,17 @@
--- What a pass knows: its view, the sizes of its table, and its share. All shares add up to one.
+-- What a pass knows: its view, the sizes of its table, its share, and what it did with the lock. All shares add up to one.
 use Rattle.std.specs.Prelude.{◌≡◌, ℕ, ◌+◌, ◌*◌, ◌-◌, ◌^◌, ◌<◌, ◌≤◌, false, List, [], max, refl}
 use Rattle.std.specs.Coded.{Coded, code_by, coded×, coded_ℕ}
+use Rattle.std.specs.FinMap as map
 use mathlib.Core.Option.{some}
 use lib.ListN.{get_elem?}
 use Rattle.dc_events.specs.Views.{View}
 use Rattle.dc_events.specs.Rule.{total}
 use Rattle.dc_events.specs.Effects.{nobody}
 use Rattle.dc_events.specs.Passes.{newcomer, joined_with}
+use Rattle.dc_shrink.specs.Listings.{listing}
 use Rattle.dc_table.specs.ViewCodes.{coded_view}
+use Rattle.dc_table.specs.RowStates.{RowState}
+use Rattle.dc_table.specs.RowCodes.{coded_rows}
 
 -- so many parts of a whole that was halved so often, of a table with this limit of inodes and so many rows
 pub record Share : Type 0 where
@@ -16,19 +20,34 @@ pub record Share : Type 0 where
   pub parts : ℕ
   pub halvings : ℕ
 
+-- with how often the pass has tried for the lock, the rows as it last got them with the lock, and as it last handed them back
 pub record Known : Type 0 where
   pub view : View
   pub share : Share
+  pub tries : ℕ
+  pub got : RowState
+  pub left : RowState
 
 abbrev pub share_coded : Coded Share
 share_coded = code_by (ℕ × (ℕ × (ℕ × ℕ))) (coded× coded_ℕ (coded× coded_ℕ (coded× coded_ℕ coded_ℕ)))
     (λ x. (x.limit, (x.rows, (x.parts, x.halvings)))) (λ p. record { limit = p.0; rows = p.1.0; parts = p.1.1.0; halvings = p.1.1.1 }) (λ _. refl)
 
 abbrev pub known_coded : Coded Known
-known_coded = code_by (View × Share) (coded× coded_view share_coded) (λ x. (x.view, x.share)) (λ p. record { view = p.0; share = p.1 }) (λ _. refl)
+known_coded = code_by (View × (Share × (ℕ × (RowState × RowState)))) (coded× coded_view (coded× share_coded (coded× coded_ℕ (coded× coded_rows coded_rows))))
+    (λ x. (x.view, (x.share, (x.tries, (x.got, x.left))))) (λ p. record { view = p.0; share = p.1.0; tries = p.1.1.0; got = p.1.1.1.0; left = p.1.1.1.1 }) (λ _. refl)
 
 abbrev pub with_view : Known → View → Known
 with_view k v = record k { view = v }
+
+-- who knows l, and knew k, has not tried for the lock since, nor given it back
+pub record HasNotTried (k l : Known) : Type 0 where
+  pub tries : l.tries ≡ k.tries
+  pub got : l.got ≡ k.got
+  pub left : l.left ≡ k.left
+
+-- one try more
+abbrev pub tried : Known → Known
+tried k = record k { tries = k.tries + 1 }
 
 -- half of a share
 abbrev pub halved : Share → Share
@@ -45,23 +64,31 @@ no_share = record { limit = 0; rows = 0; parts = 0; halvings = 0 }
 abbrev pub IsWhole : Share → Type 0
 IsWhole s = s.parts ≡ 2 ^ s.halvings
 
+-- what is known of the rows by who never had the lock
+abbrev pub no_rows : RowState
+no_rows = record { words = []; slots = []; used = listing 0 [] map.empty }
+
+-- nobody who did, saw or tried anything, with this share
+abbrev pub unused : Share → Known
+unused s = record { view = nobody; share = s; tries = 0; got = no_rows; left = no_rows }
+
 -- the first pass of a table has the whole
 abbrev pub first_known : ℕ → ℕ → Known
-first_known limit rows = record { view = nobody; share = record { limit = limit; rows = rows; parts = 1; halvings = 0 } }
+first_known limit rows = unused (record { limit = limit; rows = rows; parts = 1; halvings = 0 })
 
--- a pass is cut in two halves, of which the new one has seen what the old one has
+-- a pass is cut in two halves, of which the new one has seen what the old one has, and never had the lock
 abbrev pub kept_half : Known → Known
 kept_half k = record k { share = halved k.share }
 
 abbrev pub new_half : Known → Known
-new_half k = record { view = newcomer k.view; share = halved k.share }
+new_half k = record (unused (halved k.share)) { view = newcomer k.view }
 
--- a pass takes in another, of which nothing is left
+-- a pass takes in another, of which nothing is left: it has tried for the lock as often as both, and knows the rows that it knew
 abbrev pub both : Known → Known → Known
-both k l = record { view = joined_with k.view l.view; share = added k.share l.share }
+both k l = record k { view = joined_with k.view l.view; share = added k.share l.share; tries = k.tries + l.tries }
 
 abbrev pub spent : Known
-spent = record { view = nobody; share = no_share }
+spent = unused no_share
 
 -- a share in parts of a whole that was halved `top` times
 abbrev pub weight : ℕ → Known → ℕ

@@ -3,21 +3,36 @@ use Rattle.std.specs.Prelude.{◌≡◌, ◌≢◌, ℕ, ◌+◌, ◌%◌, ◌<�
 use mathlib.Core.Option.{some}
 use lib.ListN.{get_elem?}
 use Rattle.atomic_table.specs.Table.{Step}
-use Rattle.dc_plain.specs.Requests.{Request}
+use Rattle.dc_plain.specs.Requests.{Request, request_of}
+use Rattle.dc_plain.specs.declared.call.Call.{Call}
 use Rattle.dc_row.specs.declared.TheConstants.{ROW_WORDS}
 use Rattle.dc_events.specs.Views.{View}
 use Rattle.dc_events.specs.Views.Fault.{Busy, Changed}
 use Rattle.dc_events.specs.Rows.{IsWhole}
 use Rattle.dc_events.specs.Walks.{last_of}
 use Rattle.dc_events.specs.Effects.{begins, quit, noted, note_at, read, pivoted, checked, faulted}
+use Rattle.dc_table.specs.Passes.{Pass, view}
 use Rattle.dc_table.specs.Shares.{with_view}
 use Rattle.dc_table.specs.Kept.{sheet_of}
 use Rattle.dc_table.specs.Plays.{Place, known_at}
 use Rattle.dc_table.specs.Boxes.{Boxed}
 
--- a walk that has no pivot yet may note, and may make its pivot
-abbrev pub IsFresh : View → Type 0
-IsFresh v = v.walk.busy ≡ true → v.walk.pivoted ≡ false
+-- the view in which a step of a pass finds it, which may begin the walk of a call
+abbrev pub started : Bool → Pass → Call → View
+started first p call = begins first (view p) (request_of call)
+
+-- the count of a row is found to be another than was noted, a higher one, which is a fault
+abbrev pub FindsOther : View → View → ℕ → ℕ → ℕ × ℕ → Type 0
+FindsOther v w row noted counts = (counts.0 ≡ noted) × (noted < counts.1) × (w ≡ faulted v (Changed row noted counts.1))
+
+-- a step that may begin the walk of a call finds no pivot in it
+abbrev pub IsFresh : Bool → View → Request → Type 0
+IsFresh first v call = let w = (begins first v call).walk in w.busy ≡ true → w.pivoted ≡ false
+
+-- a row is noted for an unanswered call, before its pivot
+pub record CanNote (first : Bool) (v : View) (call : Request) : Type 0 where
+  pub busy : (begins first v call).walk.busy ≡ true
+  pub fresh : (begins first v call).walk.pivoted ≡ false
 
 -- the word is the next one of the row that was noted last
 pub record CanRead (v : View) (row word : ℕ) : Type 0 where
@@ -28,11 +43,13 @@ pub record CanRead (v : View) (row word : ℕ) : Type 0 where
   pub next : length (note_at v (last_of v.walk)).words + 1 ≡ word
   pub inside : word < ROW_WORDS
 
--- note i is of the row, with this count, and whole
+-- an unanswered call has a pivot, and its note i is of the row, with this count, whole, and not yet checked
 pub record CanCheck (v : View) (i row count : ℕ) : Type 0 where
+  pub busy : v.walk.busy ≡ true
   pub turned : v.walk.pivoted ≡ true
   pub there : get_elem? v.walk.notes i ≡ some (note_at v i)
   pub whole : IsWhole (note_at v i)
+  pub unchecked : (note_at v i).checked ≡ false
   pub of_row : (note_at v i).row ≡ row
   pub counted : (note_at v i).count ≡ count
 

@@ -51,17 +51,11 @@ mod table;
 mod tests;
 mod walking;
 
-pub use dc_events::MakeFault;
+pub use dc_names::{MOST_COUNT, MakeFault};
 pub use holder::{Holder, Reader};
 pub use shared::Shared;
 pub use sheet::Sheet;
 pub use table::{Guarded, Limits, Pass, Protocol};
-
-/// The most that the count of a row may be, and the most calls that may alter the tree: 2^62.
-pub const MOST_COUNT: u64 = 1 << 62;
-
-/// How many rows a bucket has.
-pub(crate) const BUCKET_ROWS: u64 = 4;
 
 /// The word that counts the changes.
 pub(crate) const CLOCK: usize = 0;

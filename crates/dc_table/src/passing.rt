@@ -1,8 +1,8 @@
 //! How a table begins and ends, and how passes are cut and put together.
 
 ghost use Rattle.std.specs.Prelude.{◌≡◌, ◌*◌, ◌/◌, ◌≤◌, ◌↔◌, false, Err, IfOk, IfSome, IsSome};
-ghost use Rattle.dc_events.specs.Sizes.{are_right};
-ghost use Rattle.dc_events.specs.declared.sizes.MakeFault.TheVariants.{BadSize};
+ghost use Rattle.dc_names.specs.Sizes.{are_right};
+ghost use Rattle.dc_names.specs.declared.sizes.MakeFault.TheVariants.{BadSize};
 ghost use Rattle.dc_table.specs.Ends.{Ends};
 ghost use Rattle.dc_table.specs.Kept.{IsNew};
 ghost use Rattle.dc_table.specs.Passes.{known, share, Fits, IsIdle};
@@ -11,13 +11,11 @@ ghost use Rattle.dc_table.specs.Shares.{IsWhole, first_known, kept_half, new_hal
 use crate::plays::Halves;
 use crate::shared::Shared;
 use crate::table::{Guarded, Limits, Pass};
-use crate::{BUCKET_ROWS, FIRST_ROW, FREE, LOCK};
+use crate::{FIRST_ROW, FREE, LOCK};
 use atomic_table::{Refused, Table};
-use dc_events::{
-    MakeFault, are_right, new_tables_have_the_rule, passes_keep_the_rule, records_are_legal,
-};
+use dc_events::{new_tables_have_the_rule, passes_keep_the_rule, records_are_legal};
 use dc_index::Index;
-use dc_names::NoMemory;
+use dc_names::{BUCKET_ROWS, MakeFault, NoMemory, are_right};
 use dc_row::{ROW_WORDS, empty_row_spells_nothing};
 use dc_shrink::Shrinker;
 use dc_store::SlabStore;
@@ -45,8 +43,8 @@ impl Shared {
     /// which has done and seen nothing. `BadSize` where buckets are no power of two from 1 to 1,024, or
     /// the limit of live inodes, the root among them, isn't from 1 to 1,048,576.
     pub fn new(alloc: Global, buckets: u64, max_inodes: u64) -> Result<(Shared, Pass), MakeFault>
-        ensures made { IfOk result (λ r. Fits r.0 r.1 × IsIdle r.1
-            × (known r.1 ≡ first_known max_inodes (BUCKET_ROWS * buckets))) }
+        ensures made { IfOk result (λ r. Fits r.0 r.1 × IsIdle r.1) }
+        ensures first { IfOk result (λ r. known r.1 ≡ first_known max_inodes (BUCKET_ROWS * buckets)) }
         ensures size { (result ≡ Err BadSize) ↔ (are_right buckets max_inodes ≡ false) }
     {
         if !are_right(buckets, max_inodes) {
@@ -62,8 +60,9 @@ impl Shared {
     fn of(alloc: Global, buckets: u64, limits: &Limits) -> Result<(Shared, Pass), NoMemory>
         requires buckets { (1 ≤ buckets) × (buckets ≤ 1024) }
         requires rows { limits.now.rows ≡ BUCKET_ROWS * buckets }
-        ensures { IfOk result (λ r. Fits r.0 r.1 × IsIdle r.1
-            × (known r.1 ≡ first_known limits.now.max_inodes (BUCKET_ROWS * buckets))) }
+        ensures made { IfOk result (λ r. Fits r.0 r.1 × IsIdle r.1) }
+        ensures first { IfOk result (λ r.
+            known r.1 ≡ first_known limits.now.max_inodes (BUCKET_ROWS * buckets)) }
     {
         new_tables_have_the_rule();
         empty_row_spells_nothing();

@@ -1,14 +1,14 @@
 //! The steps of the one that gets, has or gives the lock. Each is the event of its name.
 
 ghost use Rattle.std.specs.Prelude.{◌≡◌, ◌+◌, ◌<◌, false, IfSome, IfNone, IfOk, IfErr};
-ghost use Rattle.dc_events.specs.Effects.{wrote, committed, gave, answered};
-ghost use Rattle.dc_events.specs.Rows.{base_of, count};
+ghost use Rattle.dc_events.specs.Effects.{wrote, gave};
+ghost use Rattle.dc_events.specs.Rows.{base_of};
 ghost use Rattle.dc_events.specs.Standing.{tree_of};
 ghost use Rattle.dc_plain.specs.Requests.{request_of};
 ghost use Rattle.dc_plain.specs.Runs.{alters};
 ghost use Rattle.dc_row.specs.declared.TheConstants.{ROW_WORDS as row_words};
-ghost use Rattle.dc_table.specs.Holders.{pass_of, Locked, Missed, Freed};
-ghost use Rattle.dc_table.specs.Passes.{known, view, share, Fits, IsSamePass, IsIdle, IsHolder, CanShut, CanWrite, CanOpen, CanCommit, CanAnswer};
+ghost use Rattle.dc_table.specs.Holders.{pass_of, answered_by, committed_by, next_count, Freed, Locked, MayAnswer, Missed, Raises, StaysHeld, TriedOnce};
+ghost use Rattle.dc_table.specs.Passes.{known, view, share, Fits, IsSamePass, IsIdle, IsHolder, CanShut, CanPut, CanOpen, CanCommit};
 ghost use Rattle.dc_table.specs.Plays.{Took, Home};
 
 use crate::holder::Holder;
@@ -30,7 +30,8 @@ impl Shared {
         ensures same { IsSamePass pass.old pass.new }
         ensures taken { IfSome result (λ guarded.
             IsHolder pass.new × Took (known pass.old) (known pass.new) guarded.value) }
-        ensures held { IfNone result (pass.new.me ≡ pass.old.me) }
+        ensures once { TriedOnce pass.old pass.new }
+        ensures held { IfNone result (Missed pass.old pass.new) }
     {
         events_keep_the_rule();
         if self
@@ -69,6 +70,7 @@ impl Shared {
         requires pass { Fits self.now pass.old × IsIdle pass.old }
         ensures got { IfOk result (λ r.
             (r.0.pass.ghost_name ≡ pass.entry.ghost_name) × Locked pass.old r.0 r.1.value) }
+        ensures once { IfOk result (λ r. TriedOnce pass.old (pass_of r.0)) }
         ensures held { IfErr result (λ back.
             (back.ghost_name ≡ pass.entry.ghost_name) × Missed pass.old back.now) }
     {
@@ -122,7 +124,7 @@ impl<'t> Holder<'t> {
     pub fn give(self, guarded: Box<Guarded>) -> &'t mut Pass
         requires home { Home (known (pass_of self)) guarded.value }
         ensures same_reference { result.ghost_name ≡ self.entry.pass.ghost_name }
-        ensures freed { Freed self.entry result.now }
+        ensures freed { Freed self.entry guarded.value result.now }
         ensures view { view result.now ≡ gave (view (pass_of self.entry)) }
     {
         events_keep_the_rule();
@@ -136,24 +138,20 @@ impl<'t> Holder<'t> {
 
     /// Gives the lock back with what it guards, answers a call that alters nothing, and hands the pass back.
     pub fn answer(self, guarded: Box<Guarded>, call: &Call<'_>) -> &'t mut Pass
-        requires home { Home (known (pass_of self)) guarded.value }
-        requires unaltered { CanAnswer (share (pass_of self)) (view (pass_of self)) (request_of call.now) }
+        requires may { MayAnswer self guarded.value (request_of call.now) }
         ensures same_reference { result.ghost_name ≡ self.entry.pass.ghost_name }
-        ensures freed { Freed self.entry result.now }
-        ensures view { let p = pass_of self.entry in
-            view result.now ≡ answered (share p).limit (view p) (request_of call.now) }
+        ensures freed { Freed self.entry guarded.value result.now }
+        ensures view { view result.now ≡ answered_by (pass_of self.entry) (request_of call.now) }
     {
         self.answer_as::<Brand>(guarded, call)
     }
 
     fn answer_as<C: Asked>(self, guarded: Box<Guarded>, call: &Call<'_>) -> &'t mut Pass
         requires call { C.call ≡ request_of call.now }
-        requires home { Home (known (pass_of self)) guarded.value }
-        requires unaltered { CanAnswer (share (pass_of self)) (view (pass_of self)) (request_of call.now) }
+        requires may { MayAnswer self guarded.value (request_of call.now) }
         ensures same_reference { result.ghost_name ≡ self.entry.pass.ghost_name }
-        ensures freed { Freed self.entry result.now }
-        ensures view { let p = pass_of self.entry in
-            view result.now ≡ answered (share p).limit (view p) (request_of call.now) }
+        ensures freed { Freed self.entry guarded.value result.now }
+        ensures view { view result.now ≡ answered_by (pass_of self.entry) (request_of call.now) }
     {
         events_keep_the_rule();
         let Holder { shared, pass } = self;
@@ -167,10 +165,9 @@ impl<'t> Holder<'t> {
     /// Shuts an even row, and returns its count, which is odd.
     pub fn shut_row(&mut self, row: u64) -> u64
         requires row { let p = pass_of self.old in (row < (share p).rows) × CanShut (view p) row }
-        ensures same_reference { self.new.pass.ghost_name ≡ self.old.pass.ghost_name }
+        ensures held { StaysHeld self.old self.new }
         ensures same { IsSamePass (pass_of self.old) (pass_of self.new) }
-        ensures shut { let v = view (pass_of self.old) in (result ≡ count v.hold.words row + 1)
-            × (view (pass_of self.new) ≡ wrote v (base_of row) result) }
+        ensures shut { Raises (pass_of self.old) (pass_of self.new) row result }
     {
         events_keep_the_rule();
         let count = self.shared.word_of(row, 0);
@@ -183,9 +180,8 @@ impl<'t> Holder<'t> {
 
     /// Writes a word of an odd row, from the one after its count on.
     pub fn write_word(&mut self, row: u64, word: u64, value: u64)
-        requires row { let p = pass_of self.old in (row < (share p).rows) × CanWrite (view p) row }
-        requires word { (0 < word) × (word < row_words) }
-        ensures same_reference { self.new.pass.ghost_name ≡ self.old.pass.ghost_name }
+        requires can { CanPut (pass_of self.old) row word }
+        ensures held { StaysHeld self.old self.new }
         ensures same { IsSamePass (pass_of self.old) (pass_of self.new) }
         ensures view { view (pass_of self.new)
             ≡ wrote (view (pass_of self.old)) (base_of row + word) value }
@@ -202,10 +198,10 @@ impl<'t> Holder<'t> {
     pub fn open_row(&mut self, row: u64)
         requires row { let p = pass_of self.old in (row < (share p).rows)
             × CanOpen (share p).limit (view p) row }
-        ensures same_reference { self.new.pass.ghost_name ≡ self.old.pass.ghost_name }
+        ensures held { StaysHeld self.old self.new }
         ensures same { IsSamePass (pass_of self.old) (pass_of self.new) }
         ensures view { let v = view (pass_of self.old) in
-            view (pass_of self.new) ≡ wrote v (base_of row) (count v.hold.words row + 1) }
+            view (pass_of self.new) ≡ wrote v (base_of row) (next_count v row) }
     {
         events_keep_the_rule();
         let count = self.shared.word_of(row, 0);
@@ -219,10 +215,10 @@ impl<'t> Holder<'t> {
     pub fn commit(&mut self, call: &Call<'_>)
         requires can { let p = pass_of self.old in
             CanCommit (share p).limit (share p).rows (view p) (request_of call.now) }
-        ensures same_reference { self.new.pass.ghost_name ≡ self.old.pass.ghost_name }
+        ensures held { StaysHeld self.old self.new }
         ensures same { IsSamePass (pass_of self.old) (pass_of self.new) }
-        ensures view { let p = pass_of self.old in
-            view (pass_of self.new) ≡ committed (share p).limit (view p) (request_of call.now) }
+        ensures view { view (pass_of self.new)
+            ≡ committed_by (pass_of self.old) (request_of call.now) }
     {
         self.commit_as::<Brand>(call);
     }
@@ -231,10 +227,10 @@ impl<'t> Holder<'t> {
         requires call { C.call ≡ request_of call.now }
         requires can { let p = pass_of self.old in
             CanCommit (share p).limit (share p).rows (view p) (request_of call.now) }
-        ensures same_reference { self.new.pass.ghost_name ≡ self.old.pass.ghost_name }
+        ensures held { StaysHeld self.old self.new }
         ensures same { IsSamePass (pass_of self.old) (pass_of self.new) }
-        ensures view { let p = pass_of self.old in
-            view (pass_of self.new) ≡ committed (share p).limit (view p) (request_of call.now) }
+        ensures view { view (pass_of self.new)
+            ≡ committed_by (pass_of self.old) (request_of call.now) }
     {
         events_keep_the_rule();
         self.shared

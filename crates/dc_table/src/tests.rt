@@ -1,5 +1,7 @@
 //! A table as it is made and ended, its lock, and its steps by hand.
 
+mod lock;
+
 use crate::{MakeFault, Shared};
 use dc_plain::{Call, Follow};
 use dc_store::Store;

@@ -1,19 +1,20 @@
 //! The steps of a walk without the lock. None waits. Each is the event of its name.
 
 ghost use Rattle.std.specs.Prelude.{◌≡◌, ◌≢◌, ◌%◌, ◌/◌, ◌+◌, ◌<◌, ◌≤◌, false, IfOk, IfErr, OnOk};
-ghost use Rattle.dc_events.specs.Effects.{begins, quit, noted, read, pivoted, checked, faulted};
-ghost use Rattle.dc_events.specs.Views.Fault.{Busy, Changed};
+ghost use Rattle.dc_events.specs.Effects.{quit, noted, read, pivoted, checked, faulted};
+ghost use Rattle.dc_events.specs.Views.Fault.{Busy};
 ghost use Rattle.dc_plain.specs.Requests.{request_of};
 ghost use Rattle.dc_table.specs.Holders.{table_of};
-ghost use Rattle.dc_table.specs.Passes.{view, share, Fits, IsSamePass, IsIdle};
-ghost use Rattle.dc_table.specs.Walking.{IsFresh, CanRead, CanCheck};
+ghost use Rattle.dc_table.specs.Passes.{view, Fits, IsIdle, IsWalker, IsWalkerAt, StaysOut};
+ghost use Rattle.dc_table.specs.Walking.{started, FindsOther, IsFresh, CanNote, CanRead, CanCheck};
 
+use crate::CLOCK;
 use crate::holder::Reader;
 use crate::plays::{Asked, Check, Learn, Note, Pivot, Read};
 use crate::shared::Shared;
 use crate::table::Pass;
-use crate::{BUCKET_ROWS, CLOCK};
 use dc_events::events_keep_the_rule;
+use dc_names::BUCKET_ROWS;
 use dc_plain::Call;
 use std::marker::Brand;
 
@@ -24,14 +25,13 @@ impl Reader<'_> {
     /// Notes the count of a row, where it is even: `first` begins the walk of the call. An odd count is
     /// an `Err`, and isn't noted.
     pub fn note(&self, pass: &mut Pass, call: &Call<'_>, row: u64, first: bool) -> Result<u64, u64>
-        requires pass { Fits (table_of self.now) pass.old × IsIdle pass.old }
-        requires row { row < (share pass.old).rows }
-        requires fresh { (begins first (view pass.old) (request_of call.now)).walk.pivoted ≡ false }
-        ensures same { IsSamePass pass.old pass.new × IsIdle pass.new }
-        ensures noted { IfOk result (λ n. (n % 2 ≡ 0) × (view pass.new
-            ≡ noted (begins first (view pass.old) (request_of call.now)) row n)) }
-        ensures odd { IfErr result (λ n. view pass.new
-            ≡ faulted (begins first (view pass.old) (request_of call.now)) (Busy row)) }
+        requires can { IsWalkerAt (table_of self.now) pass.old row
+            × CanNote first (view pass.old) (request_of call.now) }
+        ensures same { StaysOut pass.old pass.new }
+        ensures noted { IfOk result (λ n.
+            (n % 2 ≡ 0) × (view pass.new ≡ noted (started first pass.old call.now) row n)) }
+        ensures odd { IfErr result (λ n.
+            view pass.new ≡ faulted (started first pass.old call.now) (Busy row)) }
     {
         let found = self.note_as::<Brand>(pass, call, row, first);
         if found % 2 == 0 {
@@ -43,14 +43,13 @@ impl Reader<'_> {
 
     fn note_as<C: Asked>(&self, pass: &mut Pass, call: &Call<'_>, row: u64, first: bool) -> u64
         requires asked { (C.call ≡ request_of call.now) × (C.about ≡ row) × (C.first ≡ first) }
-        requires pass { Fits (table_of self.now) pass.old × IsIdle pass.old }
-        requires row { row < (share pass.old).rows }
-        requires fresh { (begins first (view pass.old) (request_of call.now)).walk.pivoted ≡ false }
-        ensures same { IsSamePass pass.old pass.new × IsIdle pass.new }
+        requires can { IsWalkerAt (table_of self.now) pass.old row
+            × CanNote first (view pass.old) (request_of call.now) }
+        ensures same { StaysOut pass.old pass.new }
         ensures even { result % 2 ≡ 0 → view pass.new
-            ≡ noted (begins first (view pass.old) (request_of call.now)) row result }
+            ≡ noted (started first pass.old call.now) row result }
         ensures odd { result % 2 ≢ 0 → view pass.new
-            ≡ faulted (begins first (view pass.old) (request_of call.now)) (Busy row) }
+            ≡ faulted (started first pass.old call.now) (Busy row) }
     {
         events_keep_the_rule();
         let count = self.shared.word_of(row, 0);
@@ -59,10 +58,8 @@ impl Reader<'_> {
 
     /// Reads the next word of the row that was noted last.
     pub fn read_word(&self, pass: &mut Pass, row: u64, word: u64) -> u64
-        requires pass { Fits (table_of self.now) pass.old × IsIdle pass.old }
-        requires row { row < (share pass.old).rows }
-        requires word { CanRead (view pass.old) row word }
-        ensures same { IsSamePass pass.old pass.new × IsIdle pass.new }
+        requires can { IsWalkerAt (table_of self.now) pass.old row × CanRead (view pass.old) row word }
+        ensures same { StaysOut pass.old pass.new }
         ensures view { view pass.new ≡ read (view pass.old) result }
     {
         events_keep_the_rule();
@@ -72,11 +69,10 @@ impl Reader<'_> {
 
     /// Loads the clock: the point at which the call takes effect, if all that was noted stands.
     pub fn pivot(&self, pass: &mut Pass, call: &Call<'_>, first: bool) -> u64
-        requires pass { Fits (table_of self.now) pass.old × IsIdle pass.old }
-        requires fresh { IsFresh (begins first (view pass.old) (request_of call.now)) }
-        ensures same { IsSamePass pass.old pass.new × IsIdle pass.new }
-        ensures view { view pass.new
-            ≡ pivoted (begins first (view pass.old) (request_of call.now)) result }
+        requires can { IsWalker (table_of self.now) pass.old
+            × IsFresh first (view pass.old) (request_of call.now) }
+        ensures same { StaysOut pass.old pass.new }
+        ensures view { view pass.new ≡ pivoted (started first pass.old call.now) result }
         ensures later { (view pass.old).book.seen ≤ result }
     {
         self.pivot_as::<Brand>(pass, call, first)
@@ -84,11 +80,10 @@ impl Reader<'_> {
 
     fn pivot_as<C: Asked>(&self, pass: &mut Pass, call: &Call<'_>, first: bool) -> u64
         requires asked { (C.call ≡ request_of call.now) × (C.first ≡ first) }
-        requires pass { Fits (table_of self.now) pass.old × IsIdle pass.old }
-        requires fresh { IsFresh (begins first (view pass.old) (request_of call.now)) }
-        ensures same { IsSamePass pass.old pass.new × IsIdle pass.new }
-        ensures view { view pass.new
-            ≡ pivoted (begins first (view pass.old) (request_of call.now)) result }
+        requires can { IsWalker (table_of self.now) pass.old
+            × IsFresh first (view pass.old) (request_of call.now) }
+        ensures same { StaysOut pass.old pass.new }
+        ensures view { view pass.new ≡ pivoted (started first pass.old call.now) result }
         ensures later { (view pass.old).book.seen ≤ result }
     {
         events_keep_the_rule();
@@ -100,13 +95,11 @@ impl Reader<'_> {
     /// Whether the row of note `i`, the first being 0, still has the count that was noted. An `Err` has
     /// the counts noted and found. Where the notes that were checked answer the call, it is recorded.
     pub fn check(&self, pass: &mut Pass, i: u64, row: u64, noted: u64) -> Result<(), (u64, u64)>
-        requires pass { Fits (table_of self.now) pass.old × IsIdle pass.old }
-        requires row { row < (share pass.old).rows }
-        requires note { CanCheck (view pass.old) i row noted }
-        ensures same { IsSamePass pass.old pass.new × IsIdle pass.new }
+        requires can { IsWalkerAt (table_of self.now) pass.old row
+            × CanCheck (view pass.old) i row noted }
+        ensures same { StaysOut pass.old pass.new }
         ensures checked { OnOk result (view pass.new ≡ checked (view pass.old) i) }
-        ensures changed { IfErr result (λ e. (e.0 ≡ noted) × (noted < e.1)
-            × (view pass.new ≡ faulted (view pass.old) (Changed row noted e.1))) }
+        ensures changed { IfErr result (FindsOther (view pass.old) (view pass.new) row noted) }
     {
         let found = self.check_as::<Brand>(pass, i, row, noted);
         if found == noted {
@@ -118,13 +111,12 @@ impl Reader<'_> {
 
     fn check_as<C: Asked>(&self, pass: &mut Pass, i: u64, row: u64, noted: u64) -> u64
         requires asked { C.about ≡ i }
-        requires pass { Fits (table_of self.now) pass.old × IsIdle pass.old }
-        requires row { row < (share pass.old).rows }
-        requires note { CanCheck (view pass.old) i row noted }
-        ensures same { IsSamePass pass.old pass.new × IsIdle pass.new }
+        requires can { IsWalkerAt (table_of self.now) pass.old row
+            × CanCheck (view pass.old) i row noted }
+        ensures same { StaysOut pass.old pass.new }
         ensures same_count { result ≡ noted → view pass.new ≡ checked (view pass.old) i }
-        ensures other_count { result ≢ noted → (noted < result)
-            × (view pass.new ≡ faulted (view pass.old) (Changed row noted result)) }
+        ensures other_count { result ≢ noted
+            → FindsOther (view pass.old) (view pass.new) row noted (noted, result) }
     {
         events_keep_the_rule();
         let count = self.shared.word_of(row, 0);
@@ -159,7 +151,7 @@ impl Shared {
     /// Loads the clock, which the pass has then seen. A walk that went on is given up.
     pub fn learn(&self, pass: &mut Pass) -> u64
         requires pass { Fits self.now pass.old × IsIdle pass.old }
-        ensures same { IsSamePass pass.old pass.new × IsIdle pass.new }
+        ensures same { StaysOut pass.old pass.new }
         ensures view { view pass.new ≡ pivoted (quit (view pass.old)) result }
         ensures later { (view pass.old).book.seen ≤ result }
     {

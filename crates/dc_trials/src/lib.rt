@@ -8,3 +8,5 @@ mod changes;
 mod exchanges;
 #[cfg(test)]
 mod sessions;
+#[cfg(test)]
+mod storms;

@@ -12,7 +12,7 @@ use std::test::Fail;
 use std::thread::Threads;
 
 /// How many inodes may live.
-const INODES: u64 = 64;
+pub const INODES: u64 = 64;
 
 const SESSIONS: u64 = 8;
 

@@ -1,3 +1,5 @@
+//! Each use called once.
+
 ghost use Rattle.dc_cache.specs.Passes.{Fits, IsChange};
 
 use crate::{change_in_tries, look_after, look_twice, make_and_look, make_in_two_threads};

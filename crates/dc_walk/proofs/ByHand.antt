@@ -30,10 +30,10 @@ module _ (base : ℕ) (path : List ℕ) where
   pub record Hand (x y z : Note) (w : View) : Type 0 where
     pub a : Bool
     pub b : Bool
-    pub d : Bool
+    pub busy : w.walk.busy ≡ true
     pub late : w.walk.pivoted ≡ true
     pub call : w.walk.call ≡ Stat base path
-    pub notes : w.walk.notes ≡ flagged x a ∷ flagged y b ∷ flagged z d ∷ []
+    pub notes : w.walk.notes ≡ flagged x a ∷ flagged y b ∷ flagged z false ∷ []
 
   pub by_hand : (v s w : View) (x y : Note) (row g n : ℕ) (ws : List ℕ) → v.walk ≡ walk_with (Stat base path) (x ∷ y ∷ []) → s ≡ probed v row g ws → w ≡ pivoted s n → Hand x y (fresh_note row g ws) w
   by_hand v s w x y row g n ws before third turn =
@@ -43,33 +43,34 @@ module _ (base : ℕ) (path : List ℕ) where
       let is : w.walk ≡ walk_turned (walk_with (Stat base path) (x ∷ y ∷ z ∷ [])) n = ap (λ (t : View). t.walk) (turn ∙ settles) ∙ ap (λ t. walk_turned t n) was in record {
         a = x.checked;
         b = y.checked;
-        d = false;
+        busy = ap (λ (t : Walk). t.busy) is;
         late = ap (λ (t : Walk). t.pivoted) is;
         call = ap (λ (t : Walk). t.call) is;
         notes = ap (λ (t : Walk). t.notes) is;
       }
 
   module _ {x y z : Note} {w : View} (h : Hand x y z w) where
-    can_hand : (i : ℕ) (ns : List Note) (k : Note) → w.walk.notes ≡ ns → get_elem? ns i ≡ some k → get_or ns i no_note ≡ k → IsWhole k → CanCheck w i k.row k.count
-    can_hand i ns k is there got whole =
+    can_hand : (i : ℕ) (ns : List Note) (k : Note) → w.walk.notes ≡ ns → get_elem? ns i ≡ some k → get_or ns i no_note ≡ k → IsWhole k → k.checked ≡ false → CanCheck w i k.row k.count
+    can_hand i ns k is there got whole fresh =
         let here : get_or w.walk.notes i no_note ≡ k = ap (λ ms. get_or ms i no_note) is ∙ got in record {
+          busy = h.busy;
           turned = h.late;
           there = ap (λ ms. get_elem? ms i) is ∙ there ∙ ap some (sym here);
           whole = subst IsWhole (sym here) whole;
+          unchecked = ap (λ (m : Note). m.checked) here ∙ fresh;
           of_row = ap (λ (m : Note). m.row) here;
           counted = ap (λ (m : Note). m.count) here;
         }
 
     pub can_third : IsWhole z → CanCheck w 2 z.row z.count
-    can_third whole = can_hand 2 (flagged x h.a ∷ flagged y h.b ∷ flagged z h.d ∷ []) (flagged z h.d) h.notes refl refl whole
+    can_third whole = can_hand 2 (flagged x h.a ∷ flagged y h.b ∷ flagged z false ∷ []) (flagged z false) h.notes refl refl whole refl
 
-    marks : (i : ℕ) → i < 3 → Hand x y z (marked w i)
-    marks zero l = record { a = true; b = h.b; d = h.d; late = h.late; call = h.call; notes = ap (λ ns. set ns 0 (record (get_or ns 0 no_note) { checked = true })) h.notes }
-    marks (suc zero) l = record { a = h.a; b = true; d = h.d; late = h.late; call = h.call; notes = ap (λ ns. set ns 1 (record (get_or ns 1 no_note) { checked = true })) h.notes }
-    marks (suc (suc zero)) l = record { a = h.a; b = h.b; d = true; late = h.late; call = h.call; notes = ap (λ ns. set ns 2 (record (get_or ns 2 no_note) { checked = true })) h.notes }
-    marks (suc (suc (suc i))) l = absurd (omega arith)
+    marks : (i : ℕ) → i < 2 → Hand x y z (marked w i)
+    marks zero l = record { a = true; b = h.b; busy = h.busy; late = h.late; call = h.call; notes = ap (λ ns. set ns 0 (record (get_or ns 0 no_note) { checked = true })) h.notes }
+    marks (suc zero) l = record { a = h.a; b = true; busy = h.busy; late = h.late; call = h.call; notes = ap (λ ns. set ns 1 (record (get_or ns 1 no_note) { checked = true })) h.notes }
+    marks (suc (suc i)) l = absurd (omega arith)
 
     -- whatever a check found, the walk goes on
-    pub after_check : (i row noted : ℕ) → i < 3 → (v : View) (found : Result (Unit {0}) (ℕ × ℕ)) → OnOk found (v ≡ checked w i) → IfErr found (λ e. (e.0 ≡ noted) × (noted < e.1) × (v ≡ faulted w (Changed row noted e.1))) → Hand x y z v
+    pub after_check : (i row noted : ℕ) → i < 2 → (v : View) (found : Result (Unit {0}) (ℕ × ℕ)) → OnOk found (v ≡ checked w i) → IfErr found (λ e. (e.0 ≡ noted) × (noted < e.1) × (v ≡ faulted w (Changed row noted e.1))) → Hand x y z v
     after_check i row noted l v (Ok unit) is other = subst (Hand x y z) (sym (is ∙ unsettled (marked w i) h.call)) (marks i l)
-    after_check i row noted l v (Err e) other is = subst (Hand x y z) (sym is.2) (record { a = h.a; b = h.b; d = h.d; late = h.late; call = h.call; notes = h.notes })
+    after_check i row noted l v (Err e) other is = subst (Hand x y z) (sym is.2) (record { a = h.a; b = h.b; busy = h.busy; late = h.late; call = h.call; notes = h.notes })

@@ -6,7 +6,7 @@ use mathlib.Core.Option.{some}
 use lib.ListN.{get_elem?}
 use Rattle.dc_names.specs.Paths.{fault_of}
 use Rattle.dc_plain.specs.declared.call.Follow.{Follow}
-use Rattle.dc_plain.specs.Facts.{Fact, Teller, told_by}
+use Rattle.dc_plain.specs.Facts.{Fact, told_by}
 use Rattle.dc_plain.specs.FactLaws.{outcome_answer, answer_told}
 use Rattle.dc_plain.specs.Resolution.{Outcome}
 use Rattle.dc_plain.specs.Requests.{Request, Answer}
@@ -128,21 +128,23 @@ there_elem [] i l = absurd (omega arith)
 there_elem (x ∷ xs) zero l = refl
 there_elem (x ∷ xs) (suc i) l = there_elem xs i (omega arith)
 
-can_check : (v : View) (u : Use) → v.walk.pivoted ≡ true → IsNext 0 v.walk.notes u → CanCheck v u.place u.row u.count
-can_check v u late n =
+can_check : (v : View) (u : Use) → v.walk.busy ≡ true → v.walk.pivoted ≡ true → IsNext 0 v.walk.notes u → CanCheck v u.place u.row u.count
+can_check v u busy late n =
     let same : u.place - 0 ≡ u.place = omega arith in let inside = n.inside in
     let is = subst (λ (i : ℕ). IsUse u u.place (get_or v.walk.notes i no_note)) same n.is in
     let size = is.spells.size in record {
+      busy = busy;
       turned = late;
       there = there_elem v.walk.notes u.place (omega arith);
       whole = omega arith;
+      unchecked = subst (λ (i : ℕ). (get_or v.walk.notes i no_note).checked ≡ false) same n.unticked;
       of_row = is.row;
       counted = is.count;
     }
 
 pub ready : {call : Request} {answer : Answer} {us : List Use} {before : View} {at c : ℕ} {v : View} (d u : Use) → IsChecking call answer us before at c v → c < length us → get_or us c d ≡ u → CanCheck v u.place u.row u.count
 ready {us = us} {c = c} {v = v} d u is less here = let now = is.more less in
-    subst (λ (x : Use). CanCheck v x.place x.row x.count) here (can_check v (get_or us c d) now.late (next_there 0 c v.walk.notes us d now.marked less))
+    subst (λ (x : Use). CanCheck v x.place x.row x.count) here (can_check v (get_or us c d) now.busy now.late (next_there 0 c v.walk.notes us d now.marked less))
 
 pub begins_book : (b : Bool) (v : View) (call : Request) → (begins b v call).book ≡ v.book
 begins_book true v call = refl

@@ -1,25 +1,26 @@
 -- What a finder over rows becomes by a question.
-use Rattle.std.proofs.Common.{◌≡◌, ℕ, zero, suc, ◌+◌, ◌/◌, ◌<◌, ◌≤◌, inl, inr, List, [], ◌∷◌, ◌&&◌, Bool, true, false, Option, Some, None, IfSome, is_some, if◌then◌else◌, length, get_or, map, refl, ap, sym, ◌∙◌, subst, arith}
-use Rattle.std.proofs.lemmas.List.{map-append, length-map}
+use Rattle.std.proofs.Common.{◌≡◌, ℕ, zero, suc, ◌/◌, ◌<◌, ◌≤◌, inl, inr, List, [], ◌∷◌, ◌&&◌, Bool, true, false, Option, Some, None, IfSome, is_some, if◌then◌else◌, length, get_or, map, refl, ap, sym, ◌∙◌, subst, arith}
+use Rattle.std.proofs.lemmas.List.{map-append}
 use Rattle.std.specs.List.{Contains}
 use Rattle.dc_plain.specs.Facts.{Fact, Key, Teller, told_by}
 use Rattle.dc_plain.specs.Resolution.{Outcome}
 use Rattle.dc_plain.specs.Tellers.{Extends}
 use Rattle.dc_row.specs.Spelling.{Spells}
 use Rattle.dc_resolve.specs.Needs.{IsNeeded, IsUntold}
-use Rattle.dc_table.specs.Shares.{Share}
+use Rattle.dc_table.specs.Passes.{known}
+use Rattle.dc_table.specs.Shares.{HasNotTried, Share}
 use Rattle.dc_events.specs.Views.{View, Note, Book}
 use Rattle.dc_events.specs.Rows.{note_words}
 use Rattle.dc_walk.specs.Uses.{Use, Marked, NeedsEach, facts_of}
 use Rattle.dc_walk.specs.Asking.{GoesOn, SameWalk, Asks, first_row}
 use Rattle.dc_walk.specs.Causes.{HasCause, Looked, TellsWhy}
 use Rattle.dc_walk.specs.Becomings.{Becomes, Between, IsGood}
+use Rattle.dc_walk.specs.Sources.{IsUntried}
 use Rattle.dc_walk.specs.Findings.{SameRows, IsFinding, now_in, uses_in, outcome_in, said_in, buckets_of}
 use Rattle.dc_walk.specs.Sights.{Answers}
 use Rattle.dc_walk.specs.declared.rows.Rows.{Rows}
-use Rattle.dc_walk.specs.declared.TheConstants.{BUCKET_ROWS, MOST_USED}
+use Rattle.dc_names.specs.declared.limits.TheConstants.{BUCKET_ROWS}
 use Rattle.dc_walk.specs.declared.why.Why as rust_why
-use Rattle.dc_walk.specs.declared.why.Why.TheVariants as whys
 use Rattle.dc_walk.specs.Finds.{use_shown, told_in}
 use Rattle.dc_walk.proofs.Walked.{rested}
 use Rattle.dc_walk.proofs.Sighted.{outcome_same}
@@ -87,11 +88,12 @@ same_between s = let seen = ap (λ (b : Book). b.seen) s.book in record {
 
 -- a question without an answer is the last
 module _ (locks : Bool) {f g : Rows} (s : SameRows f g) (used : g.used.now ≡ f.used.now) (b : Between locks (now_in f) (now_in g)) (k : ℕ) (is : IsFinding g k) (few : k ≤ BUCKET_ROWS) (now : outcome_in f (said_in f) ≡ None) where
-  pub stops : (why : rust_why.Why) (spare : Option ℕ) → (locks ≡ false → HasCause (outcome_in g) (buckets_of g.pass.now) (now_in g) why) → Becomes locks f (record g { spare = spare; why = Some why })
-  stops why spare cause = record {
+  pub stops : IsUntried locks f.pass.now g.pass.now → (why : rust_why.Why) (spare : Option ℕ) → (locks ≡ false → HasCause (outcome_in g) (buckets_of g.pass.now) (now_in g) why) → Becomes locks f (record g { spare = spare; why = Some why })
+  stops untried why spare cause = record {
     same = record { reader = s.reader; pass = s.pass; used = s.used; look = s.look; same_pass = s.same_pass };
     told = same_told f g used;
     walk = b;
+    untried = untried;
     good = λ good. record {
       finding = record { can = is.can; walk = rested BUCKET_ROWS few is.walk; made = is.made; call = is.call; spelled = is.spelled; inside = is.inside; held = is.held; few = is.few };
       cause = cause;
@@ -123,11 +125,12 @@ pub unlooked : {locks : Bool} (f : Rows) → f.why ≡ None → IsGood locks f �
 unlooked f fresh good = subst (λ o. IsFinding f (if is_some o then BUCKET_ROWS else 0)) fresh good.finding
 
 -- a row that was used as the last answers
-pub answered_becomes : (locks : Bool) {f g : Rows} (s : SameRows f g) {words : List ℕ} (key : Key) → GoesOn (now_in f) (now_in g) → Answers f key g words → g.why ≡ None → Becomes locks f g
-answered_becomes locks {f = f} {g = g} s key on a why = record {
+pub answered_becomes : (locks : Bool) {f g : Rows} (s : SameRows f g) {words : List ℕ} (key : Key) → HasNotTried (known f.pass.now) (known g.pass.now) → GoesOn (now_in f) (now_in g) → Answers f key g words → g.why ≡ None → Becomes locks f g
+answered_becomes locks {f = f} {g = g} s key untried on a why = record {
   same = s;
   told = subst (λ facts. Extends (said_in f) (told_by facts)) (sym (ap facts_of a.uses ∙ map-append (λ u. u.fact) (uses_in f) (a.use_of ∷ []))) (told_more (facts_of (uses_in f)) a.use_of.fact);
   walk = same_between on.same;
+  untried = λ free. untried;
   good = λ is. record {
     finding = subst (λ o. IsFinding g (if is_some o then BUCKET_ROWS else 0)) (sym why) a.finding;
     cause = λ free. subst (λ o. IfSome o (HasCause (outcome_in g) (buckets_of g.pass.now) (now_in g))) (sym why) tt;

@@ -1,6 +1,8 @@
 -- A pass after steps that leave it the same pass.
 use Rattle.std.proofs.Common.{ℕ, ◌<◌, refl, ap, sym, ◌∙◌, subst}
-use Rattle.dc_table.specs.Passes.{Pass, share, Fits, IsSamePass}
+use Rattle.dc_table.specs.Passes.{Pass, share, Fits, IsSamePass, StaysOut}
+use Rattle.dc_table.specs.Shares.{HasNotTried, Known}
+use Rattle.dc_walk.specs.Becomings.{untried_again}
 use Rattle.dc_table.specs.declared.shared.Shared.{Shared}
 
 pub same_pass : (p : Pass) → IsSamePass p p
@@ -8,6 +10,13 @@ same_pass p = record { table = refl; id = refl; same_share = refl }
 
 pub same_passes : {p q r : Pass} → IsSamePass p q → IsSamePass q r → IsSamePass p r
 same_passes a b = record { table = b.table ∙ a.table; id = b.id ∙ a.id; same_share = b.same_share ∙ a.same_share }
+
+pub untried_still : {k : Known} → HasNotTried k k
+untried_still = record { tries = refl; got = refl; left = refl }
+
+-- one who stays out of the lock, and goes on so
+pub stays_again : {p q r : Pass} → StaysOut p q → StaysOut q r → StaysOut p r
+stays_again a b = record { same = same_passes a.same b.same; idle = b.idle; untried = untried_again a.untried b.untried }
 
 pub fits_still : {t : Shared} {p q : Pass} → Fits t p → IsSamePass p q → Fits t q
 fits_still f s = record { table = s.table ∙ f.table; rows = ap (λ x. x.rows) s.same_share ∙ f.rows; limit = ap (λ x. x.limit) s.same_share ∙ f.limit }

@@ -128,3 +128,8 @@ stands_last us new key fact shown about spells none =
       spelled = spells;
       told = subst (λ fs. IsTold (told_by fs) fact) (sym facts) (told_last (facts_of (map use_shown us)) fact spells.allowed (new_same key (told_in us) fact about none));
     }
+
+pub inside_at : (rows : ℕ) (us : List Used) (i : ℕ) (d : Used) → AllInside rows us → i < length us → (get_or us i d).row < rows
+inside_at rows [] i d all l = absurd (omega arith)
+inside_at rows (u ∷ us) zero d all l = all.0
+inside_at rows (u ∷ us) (suc i) d all l = inside_at rows us i d all.1 (omega arith)

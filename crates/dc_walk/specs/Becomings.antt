@@ -6,9 +6,11 @@ use Rattle.dc_plain.specs.Tellers.{Extends}
 use Rattle.dc_resolve.specs.Needs.{IsNeeded, IsUntold}
 use Rattle.dc_events.specs.Views.{View}
 use Rattle.dc_table.specs.Changes.{NothingNew}
+use Rattle.dc_table.specs.Shares.{HasNotTried, Known}
 use Rattle.dc_walk.specs.Causes.{HasCause}
+use Rattle.dc_walk.specs.Sources.{IsUntried}
 use Rattle.dc_walk.specs.Findings.{SameRows, IsFinding, now_in, outcome_in, said_in, buckets_of}
-use Rattle.dc_walk.specs.declared.TheConstants.{BUCKET_ROWS}
+use Rattle.dc_names.specs.declared.limits.TheConstants.{BUCKET_ROWS}
 use Rattle.dc_walk.specs.declared.rows.Rows.{Rows}
 
 -- how many rows it looked at for a question that it didn't answer
@@ -32,6 +34,7 @@ pub record Becomes (locks : Bool) (f g : Rows) : Type 0 where
   pub same : SameRows f g
   pub told : Extends (said_in f) (said_in g)
   pub walk : Between locks (now_in f) (now_in g)
+  pub untried : IsUntried locks f.pass.now g.pass.now
   pub good : IsGood locks f → IsGood locks g
 
 -- rows were had, and none of them is looked at yet
@@ -56,6 +59,9 @@ nothing_still v = record { own = refl; joined = refl; later = omega arith }
 pub nothing_again : {u v w : View} → NothingNew u v → NothingNew v w → NothingNew u w
 nothing_again a b = let x = a.later in let y = b.later in record { own = b.own ∙ a.own; joined = b.joined ∙ a.joined; later = omega arith }
 
+pub untried_again : {k l m : Known} → HasNotTried k l → HasNotTried l m → HasNotTried k m
+untried_again a b = record { tries = b.tries ∙ a.tries; got = b.got ∙ a.got; left = b.left ∙ a.left }
+
 pub between_again : {locks : Bool} {u v w : View} → Between locks u v → Between locks v w → Between locks u w
 between_again a b = record {
   call = b.call ∙ a.call;
@@ -69,6 +75,7 @@ stays_so locks f = record {
   same = record { reader = refl; pass = refl; used = refl; look = refl; same_pass = record { table = refl; id = refl; same_share = refl } };
   told = record { entry = λ d label found told. told; text = λ n bytes told. told };
   walk = record { call = refl; first_load = refl; nothing = nothing_still (now_in f); book = λ free. refl };
+  untried = λ free. record { tries = refl; got = refl; left = refl };
   good = λ is. is;
 }
 
@@ -86,6 +93,7 @@ goes_so locks f g h a b = record {
   same = same_again a.same b.same;
   told = record { entry = λ d label found told. b.told.entry d label found (a.told.entry d label found told); text = λ n bytes told. b.told.text n bytes (a.told.text n bytes told) };
   walk = between_again a.walk b.walk;
+  untried = λ free. untried_again (a.untried free) (b.untried free);
   good = λ is. b.good (a.good is);
 }
 

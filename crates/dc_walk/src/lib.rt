@@ -29,15 +29,13 @@ mod why;
 
 pub use answer::Fast;
 pub use counted::walk_counted;
+use dc_names::BUCKET_ROWS;
 use dc_row::ROW_WORDS;
 pub use locked::walk_locked;
 pub use look::Look;
 pub use unlocked::walk_fast;
 pub use used::Room;
 pub use why::Why;
-
-/// How many rows a bucket has.
-pub const BUCKET_ROWS: u64 = 4;
 
 /// The most rows whose answers a walk rests on.
 pub const MOST_USED: usize = 256;

@@ -6,7 +6,7 @@ ghost use Rattle.dc_events.specs.Views.Fault.{Busy};
 ghost use Rattle.dc_plain.specs.Requests.{request_of};
 ghost use Rattle.dc_row.specs.declared.TheConstants.{ROW_WORDS};
 ghost use Rattle.dc_table.specs.Holders.{table_of};
-ghost use Rattle.dc_table.specs.Passes.{view, share, Fits, IsSamePass, IsIdle};
+ghost use Rattle.dc_table.specs.Passes.{view, share, Fits, IsIdle, StaysOut};
 ghost use Rattle.dc_walk.specs.Probes.{IsEarly, seen_whole};
 
 use dc_plain::Call;
@@ -26,7 +26,7 @@ pub(crate) fn probe(
     requires pass { Fits (table_of reader) pass.old × IsIdle pass.old }
     requires row { row < (share pass.old).rows }
     requires early { IsEarly (begins first (view pass.old) (request_of call.now)) }
-    ensures same { IsSamePass pass.old pass.new × IsIdle pass.new }
+    ensures same { StaysOut pass.old pass.new }
     ensures whole { IfOk result (λ words. length words ≡ ROW_WORDS) }
     ensures read { IfOk result (λ words. view pass.new
         ≡ seen_whole (begins first (view pass.old) (request_of call.now)) row words) }

@@ -4,12 +4,14 @@ ghost use Rattle.std.specs.Prelude.{◌≡◌, ◌<◌, ◌+◌, None};
 ghost use Rattle.arrayvec.specs.ArrayVec.{array_vec_len};
 ghost use Rattle.dc_plain.specs.KeysShown.{key_shown};
 ghost use Rattle.dc_resolve.specs.Needs.{IsUntold};
-ghost use Rattle.dc_table.specs.Passes.{share};
+ghost use Rattle.dc_table.specs.Passes.{known, share};
+ghost use Rattle.dc_table.specs.Shares.{HasNotTried};
 ghost use Rattle.dc_walk.specs.Asking.{GoesOn};
 ghost use Rattle.dc_walk.specs.Filters.{key_hash};
 ghost use Rattle.dc_walk.specs.Findings.{SameRows, IsFinding, now_in, outcome_in, said_in};
 ghost use Rattle.dc_walk.specs.Sights.{Saw};
-ghost use Rattle.dc_walk.specs.declared.TheConstants.{BUCKET_ROWS, MOST_USED};
+ghost use Rattle.dc_names.specs.declared.limits.TheConstants.{BUCKET_ROWS};
+ghost use Rattle.dc_walk.specs.declared.TheConstants.{MOST_USED};
 
 use crate::probe::probe;
 use crate::rows::Rows;
@@ -39,6 +41,7 @@ pub(crate) fn look_at(rows: &mut Rows<'_>, row: u64, key: Key<'_>, hash: u64, be
     requires needed { outcome_in rows.old (said_in rows.old) ≡ None }
     requires untold { IsUntold (said_in rows.old) (key_shown key).number (key_shown key).label }
     ensures same { SameRows rows.old rows.new }
+    ensures untried { HasNotTried (known rows.old.pass.now) (known rows.new.pass.now) }
     ensures why { rows.new.why ≡ rows.old.why }
     ensures on { GoesOn (now_in rows.old) (now_in rows.new) }
     ensures saw { Saw rows.old (key_shown key.entry) rows.new row (before + 1) result }

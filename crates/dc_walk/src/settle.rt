@@ -3,7 +3,7 @@
 ghost use Rattle.std.specs.Prelude.{length, map};
 ghost use Rattle.dc_plain.specs.Requests.{answer_of};
 ghost use Rattle.dc_table.specs.Holders.{table_of};
-ghost use Rattle.dc_table.specs.Passes.{view, share, Fits, IsSamePass, IsIdle};
+ghost use Rattle.dc_table.specs.Passes.{view, share, Fits, IsIdle, StaysOut};
 ghost use Rattle.dc_walk.specs.Findings.{view_in};
 ghost use Rattle.dc_walk.specs.Finds.{use_shown, AllInside};
 ghost use Rattle.dc_walk.specs.Looks.{look_shown, outcome_of};
@@ -32,7 +32,7 @@ pub(crate) fn settle(
     requires rows { AllInside (share pass.old).rows used.now }
     requires came { Came (outcome_of look) (look_shown look) (view_in begun pass.old look)
         (map use_shown used.now) (answer_of reply) }
-    ensures same { IsSamePass pass.old pass.new × IsIdle pass.new }
+    ensures same { StaysOut pass.old pass.new }
     ensures settles { Settles look.entry (length used.now) (view_in begun pass.old look.entry)
         (view pass.new) result }
 {

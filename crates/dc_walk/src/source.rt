@@ -7,11 +7,10 @@ ghost use Rattle.dc_table.specs.Holders.{table_of};
 ghost use Rattle.dc_table.specs.declared.shared.Shared.{Shared};
 ghost use Rattle.dc_walk.specs.Filters.{key_hash};
 ghost use Rattle.dc_walk.specs.Findings.{CanWalk};
-ghost use Rattle.dc_walk.specs.Sources.{Rests, Serves};
+ghost use Rattle.dc_walk.specs.Sources.{IsUntried, Rests, Serves};
 
-use crate::BUCKET_ROWS;
 use dc_index::bucket_at;
-use dc_names::NoMemory;
+use dc_names::{BUCKET_ROWS, NoMemory};
 use dc_plain::Key;
 use dc_table::{Pass, Reader};
 
@@ -54,6 +53,7 @@ pub(crate) trait Source {
         requires can { CanWalk (table_of reader) pass.old }
         requires hash { hash ≡ key_hash (key_shown key) }
         ensures same { IsSamePass pass.old pass.new × IsIdle pass.new }
+        ensures untried { IsUntried locks pass.old pass.new }
         ensures rests { Rests locks (view pass.old) (view pass.new) }
         ensures rows { IfOk result (Serves locks (share pass.new).rows (key_shown key.entry)) }
         ensures refused { OnErr result (locks ≡ true) };

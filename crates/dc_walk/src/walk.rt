@@ -6,6 +6,7 @@ ghost use Rattle.dc_table.specs.Holders.{table_of};
 ghost use Rattle.dc_table.specs.Passes.{view, share, IsSamePass, IsIdle};
 ghost use Rattle.dc_walk.specs.Findings.{CanWalk, buckets_of, view_in};
 ghost use Rattle.dc_walk.specs.Finds.{use_shown, AllInside};
+ghost use Rattle.dc_walk.specs.Sources.{IsUntried};
 ghost use Rattle.dc_walk.specs.Walks.{Went, Stopped, Walks};
 
 use crate::MOST_USED;
@@ -37,6 +38,7 @@ pub(crate) fn walk_rows<'x, S: Source>(
     requires can { CanWalk (table_of reader) pass.old }
     requires empty { used.old.items ≡ [] }
     ensures same { IsSamePass pass.old pass.new × IsIdle pass.new }
+    ensures untried { IsUntried S.locks pass.old pass.new }
     ensures rows { AllInside (share pass.old).rows used.new.items }
     ensures went { IfOk result (λ r. Went S.locks look.entry (view pass.old)
         (view_in r.1 pass.new look.entry) (map use_shown used.new.items) (answer_of r.0)) }
@@ -79,6 +81,7 @@ pub(crate) fn walk_by<S: Source>(
     requires serves { S.serves source.now (table_of reader) }
     requires can { CanWalk (table_of reader) pass.old }
     ensures same { IsSamePass pass.old pass.new × IsIdle pass.new }
+    ensures untried { IsUntried S.locks pass.old pass.new }
     ensures walks { Walks S.locks look.entry (buckets_of pass.old) (view pass.old) (view pass.new)
         result.0 }
 {

@@ -1,3 +1,5 @@
+//! Where the last part of a path stands, over fixed answers.
+
 use super::{Asked, PARENTS, ROWS, TEXTS, new_fixed};
 use crate::{Placed, place};
 use dc_names::{Last, Name, Refusal, parse};

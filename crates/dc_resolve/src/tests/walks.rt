@@ -1,3 +1,5 @@
+//! Where paths lead, over fixed answers.
+
 use super::{Asked, PARENTS, ROWS, TEXTS, new_fixed};
 use crate::{Walked, walk, walk_alone};
 use dc_names::{Kind, Refusal, TextFault, parse};

@@ -7,6 +7,7 @@ use std::io::{Read, Write};
 use std::sync::atomic::{AtomicBool, AtomicU64, Ordering};
 use std::sync::{Mutex, Wait};
 use std::test::Fail;
+use std::thread::Threads;
 use std::time::Duration;
 use std::{io, thread};
 
@@ -65,31 +66,43 @@ impl Read for ByteByByte {
     }
 }
 
+/// What a run makes of a reader of bytes one by one, and how often it reads.
+fn read_from<R: Threads + Wait + Sync>(
+    rt: &R,
+    alloc: Global,
+    left: u32,
+    turn: Turn,
+) -> (Result<(), ServeFault>, u32, bool) {
+    let mut reader = ByteByByte {
+        given: 0,
+        left,
+        turn: Some(turn),
+        reads: 0,
+    };
+    let mut output = Vec::new(alloc);
+    let result = run(rt, alloc, &mut reader, &mut output, USUAL, &FreeGate);
+    (result, reader.reads, output.is_empty())
+}
+
 /// A read that fails or ends is not tried again, and nothing is answered after a fault.
 #[test]
-fn inputs_that_end_badly(rt: HostRuntime) -> Result<(), Fail> {
+fn inputs_that_end_badly(rt: HostRuntime) {
     for (left, turn, want, reads) in [
         (18, Turn::Ends, Ok(()), 19),
         (18, Turn::PausesOnce, Ok(()), 19),
-        (18, Turn::Fails, Err(ServeFault::Read), 19),
-        (0, Turn::Fails, Err(ServeFault::Read), 1),
-        (9, Turn::Fails, Err(ServeFault::Read), 10),
-        (9, Turn::FailsOnce, Err(ServeFault::Read), 10),
         (u32::MAX, Turn::Ends, Err(ServeFault::Read), 1_048_577),
     ] {
-        let mut reader = ByteByByte {
-            given: 0,
-            left,
-            turn: Some(turn),
-            reads: 0,
-        };
-        let mut output = Vec::new(rt.alloc());
-        let result = run(&rt, rt.alloc(), &mut reader, &mut output, USUAL, &FreeGate);
+        let (result, made, _) = read_from(&rt, rt.alloc(), left, turn);
         assert_eq!(rt; result, want, "{left}");
-        assert_eq!(rt; reader.reads, reads, "{left}");
-        assert!(rt; want.is_ok() || output.is_empty());
+        assert_eq!(rt; made, reads, "{left}");
     }
-    Ok(())
+    for left in 0..19 {
+        for turn in [Turn::Fails, Turn::FailsOnce] {
+            let (result, reads, nothing) = read_from(&rt, rt.alloc(), left, turn);
+            assert_eq!(rt; result, Err(ServeFault::Read), "{left}");
+            assert!(rt; nothing && reads == left.saturating_add(1), "{left}");
+        }
+    }
 }
 
 /// Takes a byte at each write, `room` of them up to its turn.
@@ -128,33 +141,50 @@ impl Write for Taker {
     }
 }
 
-/// A write that fails or takes nothing is not tried again.
+const INPUT: &[u8] = b"0 mkdir /a\nsync\n0 look /a\n";
+
+const OUTPUT: &[u8] = b"0 ok 2 @0\n0 is 2 dir @1\n";
+
+/// What a run makes of a writer that takes bytes one by one.
+fn write_to<R: Threads + Wait + Sync>(
+    rt: &R,
+    alloc: Global,
+    room: usize,
+    turn: Turn,
+    refuses_flush: bool,
+) -> (Result<(), ServeFault>, Taker) {
+    let mut writer = Taker {
+        taken: Vec::new(alloc),
+        room,
+        turn: Some(turn),
+        flushes: 0,
+        refuses_flush,
+    };
+    let mut rest = INPUT;
+    let result = run(rt, alloc, &mut rest, &mut writer, USUAL, &FreeGate);
+    (result, writer)
+}
+
+/// A text is written whole to who takes it byte by byte, and is flushed once.
+#[test]
+fn outputs_that_are_taken(rt: HostRuntime) {
+    for (refuses_flush, want) in [(false, Ok(())), (true, Err(ServeFault::Write))] {
+        let (result, writer) = write_to(&rt, rt.alloc(), usize::MAX, Turn::Ends, refuses_flush);
+        assert_eq!(rt; result, want);
+        assert!(rt; writer.taken.as_slice() == OUTPUT && writer.flushes == 1);
+    }
+}
+
+/// A write that fails or takes nothing is not tried again, wherever it stands, and nothing is flushed.
 #[test]
 fn outputs_that_end_badly(rt: HostRuntime) {
-    let input = b"0 mkdir /a\nsync\n0 look /a\n";
-    let whole = b"0 ok 2 @0\n0 is 2 dir @1\n";
-    for (room, turn, refuses_flush, want) in [
-        (usize::MAX, Turn::Ends, false, Ok(())),
-        (usize::MAX, Turn::Ends, true, Err(ServeFault::Write)),
-        (0, Turn::Ends, false, Err(ServeFault::Write)),
-        (13, Turn::Ends, false, Err(ServeFault::Write)),
-        (13, Turn::PausesOnce, false, Err(ServeFault::Write)),
-        (13, Turn::Fails, false, Err(ServeFault::Write)),
-        (13, Turn::FailsOnce, false, Err(ServeFault::Write)),
-    ] {
-        let mut writer = Taker {
-            taken: Vec::new(rt.alloc()),
-            room,
-            turn: Some(turn),
-            flushes: 0,
-            refuses_flush,
-        };
-        let mut rest = input.as_slice();
-        let result = run(&rt, rt.alloc(), &mut rest, &mut writer, USUAL, &FreeGate);
-        let taken = room.min(whole.len());
-        assert_eq!(rt; result, want, "{room}");
-        assert!(rt; writer.taken.as_slice() == &whole[..taken], "{room}");
-        assert_eq!(rt; writer.flushes, u32::from(taken == whole.len()), "{room}");
+    for room in 0..OUTPUT.len() {
+        for turn in [Turn::Ends, Turn::PausesOnce, Turn::Fails, Turn::FailsOnce] {
+            let (result, writer) = write_to(&rt, rt.alloc(), room, turn, false);
+            assert_eq!(rt; result, Err(ServeFault::Write), "{room}");
+            assert!(rt; writer.taken.as_slice() == &OUTPUT[..room], "{room}");
+            assert_eq!(rt; writer.flushes, 0, "{room}");
+        }
     }
 }
 

@@ -1,6 +1,5 @@
 use Rattle.std.proofs.Common.{Some, ap, sym, ◌∙◌}
 use Rattle.dc_names.specs.Names.{part_shown}
-use Rattle.dc_names.specs.Paths.{parts_of}
 use Rattle.dc_plain.specs.Places.Placed.{At}
 use Rattle.dc_resolve.specs.Steps.{end_shown}
 use Rattle.dc_resolve.proofs.Needed.{needed_by}
@@ -9,16 +8,13 @@ use Rattle.dc_resolve.proofs.placed.place.Goals as goal
 
 pub resolve_from-requires-clause-may : goal.resolve_from-requires-clause-may
 resolve_from-requires-clause-may g c =
-    let is = sym (ap parts_of c.bytes.ensures.bytes) ∙ c.in-Some.ensures.last in
-    needed_by g.F.Finder (λ teller none. place_is teller c.args.base c.args.path.bytes.now c.in-Some.front.now (part_shown c.in-Some.last) is none) c.requires.may
+    needed_by g.F.Finder (λ teller none. place_is teller c.args.base c.args.path.bytes.now c.in-Some.front.now (part_shown c.in-Some.last) c.bytes.ensures.bytes c.in-Some.ensures.last none) c.requires.may
 
 pub returns-in-Ok-Found-clause-answer : goal.returns-in-Ok-Found-clause-answer
 returns-in-Ok-Found-clause-answer g c teller more =
-    let is = sym (ap parts_of c.bytes.ensures.bytes) ∙ c.in-Some.ensures.last in
-    place_is teller c.args.base c.args.path.bytes.now c.in-Some.front.now (part_shown c.in-Some.last) is (c.in-Ok-Found.ensures.ends teller more ∙ ap (λ e. Some (end_shown e)) c.in-Ok-Found.field-0-is)
+    place_is teller c.args.base c.args.path.bytes.now c.in-Some.front.now (part_shown c.in-Some.last) c.bytes.ensures.bytes c.in-Some.ensures.last (c.in-Ok-Found.ensures.ends teller more ∙ ap (λ e. Some (end_shown e)) c.in-Ok-Found.field-0-is)
     ∙ (λ i. Some (At (record { dir = c.in-Ok-Found.dir; last = sym c.from.ensures i; slash = sym c.has_end_slash.ensures i })))
 
 pub returns-in-Ok-Refused-clause-answer : goal.returns-in-Ok-Refused-clause-answer
 returns-in-Ok-Refused-clause-answer g c teller more =
-    let is = sym (ap parts_of c.bytes.ensures.bytes) ∙ c.in-Some.ensures.last in
-    place_is teller c.args.base c.args.path.bytes.now c.in-Some.front.now (part_shown c.in-Some.last) is (c.in-Ok-Refused.ensures.ends teller more ∙ ap (λ e. Some (end_shown e)) c.in-Ok-Refused.field-0-is)
+    place_is teller c.args.base c.args.path.bytes.now c.in-Some.front.now (part_shown c.in-Some.last) c.bytes.ensures.bytes c.in-Some.ensures.last (c.in-Ok-Refused.ensures.ends teller more ∙ ap (λ e. Some (end_shown e)) c.in-Ok-Refused.field-0-is)

@@ -1,8 +1,8 @@
-use Rattle.std.proofs.Common.{◌≡◌, ◌<◌, ◌≤◌, ◌+◌, ◌-◌, ◌*◌, Some, false, ap, sym, subst, arith, rules, ◌∙◌}
-use Rattle.dc_resolve.specs.Steps.{met_shown, IsSaidMet}
-use Rattle.dc_resolve.specs.Walks.{IfThrough}
-use Rattle.dc_resolve.proofs.Needed.{first_over, link_over, text_of, text_over}
-use Rattle.dc_resolve.proofs.Passing.{from_first, none_first, came_on, came_over, came_to_end, came_to_link, came_through, ended_at_link, if_ok_both, kept_at_link, over_text, refused_at_link}
+use Rattle.std.proofs.Common.{◌<◌, ◌+◌, ◌-◌, ◌*◌, ◌≤◌, Some, ap, sym, arith, rules, ◌∙◌}
+use Rattle.dc_resolve.specs.Steps.{met_shown}
+use Rattle.dc_resolve.proofs.Needed.{first_over, text_of, text_over}
+use Rattle.dc_resolve.proofs.Passing.{from_first, none_first, came_over, came_to_end, if_ok_both, kept_at_link, over_text, refused_at_link}
+use Rattle.dc_resolve.proofs.Walking.{link_said, may_through, walk_ended, walked_on, walked_through}
 use Rattle.dc_resolve.proofs.resolution.+over_links.Goals as goal
 
 pub walk_bytes-ask_first-requires-clause-may : goal.walk_bytes-ask_first-requires-clause-may
@@ -14,63 +14,31 @@ walk_bytes-returns-in_default-clause-leads g t c =
     came_over c.parts.invariant.came (g.met.F.Finder.keeps _ _ went.kept.becomes) (none_first said c.parts.place c.parts.rest.now went.taken c.in_default.is) (c.at_end.ensures.leads said)
 
 pub walk_bytes-parts-preserved-in-Dir : goal.walk_bytes-parts-preserved-in-Dir
-walk_bytes-parts-preserved-in-Dir g t c =
-    let i = c.parts.invariant in let went = c.in_ok-reached.ensures in
-    let from = from_first went.taken c.in-Some.is in
-    record {
-      kept = g.met.F.Finder.goes_on _ _ _ i.kept went.kept.becomes;
-      same = went.kept.same ∙ i.same;
-      valid = from.valid;
-      fewer = i.fewer;
-      came = came_on i.came (g.met.F.Finder.keeps _ _ went.kept.becomes) from (ap met_shown c.in-Dir.is);
-    }
+walk_bytes-parts-preserved-in-Dir g t c = let went = c.in_ok-reached.ensures in
+    walked_on g.F.Finder g.met.F.Finder.goes_on g.met.F.Finder.keeps c.parts.invariant went.kept.becomes went.kept.same went.taken c.in-Some.is (ap met_shown c.in-Dir.is)
 
 pub walk_bytes-parts-preserved-in-File : goal.walk_bytes-parts-preserved-in-File
-walk_bytes-parts-preserved-in-File g t c =
-    let i = c.parts.invariant in let went = c.in_ok-reached.ensures in
-    let from = from_first went.taken c.in-Some.is in
-    record {
-      kept = g.met.F.Finder.goes_on _ _ _ i.kept went.kept.becomes;
-      same = went.kept.same ∙ i.same;
-      valid = from.valid;
-      fewer = i.fewer;
-      came = came_on i.came (g.met.F.Finder.keeps _ _ went.kept.becomes) from (ap met_shown c.in-File.is);
-    }
+walk_bytes-parts-preserved-in-File g t c = let went = c.in_ok-reached.ensures in
+    walked_on g.F.Finder g.met.F.Finder.goes_on g.met.F.Finder.keeps c.parts.invariant went.kept.becomes went.kept.same went.taken c.in-Some.is (ap met_shown c.in-File.is)
 
 pub walk_bytes-returns-in-Stops-clause-leads : goal.walk_bytes-returns-in-Stops-clause-leads
-walk_bytes-returns-in-Stops-clause-leads g t c =
-    let went = c.in_ok-reached.ensures in
+walk_bytes-returns-in-Stops-clause-leads g t c = let went = c.in_ok-reached.ensures in
     came_to_end c.parts.invariant.came (g.met.F.Finder.keeps _ _ went.kept.becomes) (from_first went.taken c.in-Some.is) (ap met_shown c.in-Stops.is)
 
 pub walk_bytes-walk_link-requires : goal.walk_bytes-walk_link-requires
-walk_bytes-walk_link-requires g t c =
-    let i = c.parts.invariant in let went = c.in_ok-reached.ensures in
-    let came = came_to_link i.came (g.met.F.Finder.keeps _ _ went.kept.becomes) (from_first went.taken c.in-Some.is) (ap met_shown c.in-Meets.is) in
-    let may = link_over g.F.Finder g.met.F.Finder.goes_on g.met.F.Finder.keeps c.requires.may (g.met.F.Finder.goes_on _ _ _ i.kept went.kept.becomes) came c.is_end-is_last.ensures in
-    let said = subst (IsSaidMet (g.F.Finder.said c.ask_first.new.finder)) c.in-Meets.is (from_first {said = g.F.Finder.said c.ask_first.new.finder} {place = c.parts.place} {bytes = c.parts.rest.now} went.taken c.in-Some.is).taken.link in
-    let less : 2 * c.parts.left < t = omega (arith, i.fewer) in
+walk_bytes-walk_link-requires g t c = let went = c.in_ok-reached.ensures in
+    let may = may_through g.F.Finder g.met.F.Finder.goes_on g.met.F.Finder.keeps c.parts.invariant went.kept.becomes went.kept.same went.taken c.in-Some.is c.in-Meets.is c.is_end-is_last.ensures c.requires.may in
+    let said = link_said g.F.Finder g.met.F.Finder.goes_on g.met.F.Finder.keeps c.parts.invariant went.kept.becomes went.kept.same went.taken c.in-Some.is c.in-Meets.is in
+    let less : 2 * c.parts.left < t = omega (arith, c.parts.invariant.fewer) in
     search (rules, less, may, said)
 
 pub walk_bytes-returns-in-Ended-clause-leads : goal.walk_bytes-returns-in-Ended-clause-leads
-walk_bytes-returns-in-Ended-clause-leads g t c =
-    let i = c.parts.invariant in let went = c.in_ok-reached.ensures in let over = c.in_ok-end-in-Meets.ensures in
-    let came = came_to_link i.came (g.met.F.Finder.keeps _ _ went.kept.becomes) (from_first went.taken c.in-Some.is) (ap met_shown c.in-Meets.is) in
-    ended_at_link came (g.met.F.Finder.keeps _ _ over.kept.becomes) c.is_end-is_last.ensures over.leads c.in-Ended.is
+walk_bytes-returns-in-Ended-clause-leads g t c = let went = c.in_ok-reached.ensures in let over = c.in_ok-end-in-Meets.ensures in
+    walk_ended g.F.Finder g.met.F.Finder.goes_on g.met.F.Finder.keeps c.parts.invariant went.kept.becomes went.kept.same went.taken c.in-Some.is c.in-Meets.is c.is_end-is_last.ensures over.kept.becomes over.leads c.in-Ended.is
 
 pub walk_bytes-parts-preserved : goal.walk_bytes-parts-preserved
-walk_bytes-parts-preserved g t c =
-    let i = c.parts.invariant in let went = c.in_ok-reached.ensures in let over = c.in_ok-end-in-Meets.ensures in
-    let from = from_first went.taken c.in-Some.is in
-    let came = came_to_link i.came (g.met.F.Finder.keeps _ _ went.kept.becomes) from (ap met_shown c.in-Meets.is) in
-    let through = subst (λ way. IfThrough way (λ left. (c.is_end-is_last.result ≡ false) × (left ≤ c.parts.left))) c.in-Through.is over.through in
-    let less = through.1 in
-    record {
-      kept = g.met.F.Finder.goes_on _ _ _ (g.met.F.Finder.goes_on _ _ _ i.kept went.kept.becomes) over.kept.becomes;
-      same = over.kept.same ∙ went.kept.same ∙ i.same;
-      valid = from.valid;
-      fewer = omega (arith, i.fewer, less);
-      came = came_through came (g.met.F.Finder.keeps _ _ over.kept.becomes) c.is_end-is_last.ensures over.leads c.in-Through.is;
-    }
+walk_bytes-parts-preserved g t c = let went = c.in_ok-reached.ensures in let over = c.in_ok-end-in-Meets.ensures in
+    walked_through g.F.Finder g.met.F.Finder.goes_on g.met.F.Finder.keeps c.parts.invariant went.kept.becomes went.kept.same went.taken c.in-Some.is c.in-Meets.is c.is_end-is_last.ensures over.kept.becomes over.leads over.kept.same over.through c.in-Through.is
 
 pub walk_link-returns-then-is_kept-clause-leads : goal.walk_link-returns-then-is_kept-clause-leads
 walk_link-returns-then-is_kept-clause-leads g t c = kept_at_link (let is = c.is_kept.ensures in cc)
@@ -82,15 +50,12 @@ pub walk_link-link_text-requires-clause-may : goal.walk_link-link_text-requires-
 walk_link-link_text-requires-clause-may g t c = text_of g.F.Finder c.args.follow c.args.slash c.args.at g.met.F.Finder.stays c.requires.may (let is = c.is_kept.ensures in cc) (omega arith)
 
 pub walk_link-walk_bytes-requires : goal.walk_link-walk_bytes-requires
-walk_link-walk_bytes-requires g t c =
-    let text = c.in_ok-text.ensures in
+walk_link-walk_bytes-requires g t c = let text = c.in_ok-text.ensures in
     let may = text_over g.F.Finder c.args.follow c.args.slash c.args.at g.met.F.Finder.goes_on g.met.F.Finder.keeps c.requires.may text.becomes (let is = c.is_kept.ensures in cc) (omega arith) (text.told ∙ ap Some (sym (c.known-path.ensures ∙ c.bytes.ensures))) c.bytes-2.ensures.bytes c.base_of-base.ensures c.slash_after-ends.ensures in
     let less : 2 * (c.args.links - 1) + 1 < t = omega arith in
     search (rules, less, may)
 
 pub walk_link-returns-clause-leads : goal.walk_link-returns-clause-leads
-walk_link-returns-clause-leads g t c =
-    let text = c.in_ok-text.ensures in let over = c.walk_bytes.ensures in
-    if_ok_both c.walk_bytes.result _ _ _
-    (λ way leads middle. over_text (λ left. left ≤ c.args.links - 1) (let is = c.is_kept.ensures in cc) (omega arith) ((g.met.F.Finder.keeps _ _ over.kept.becomes).text _ _ text.told ∙ ap Some (sym (c.known-path.ensures ∙ c.bytes.ensures))) c.bytes-2.ensures.bytes c.base_of-base.ensures c.slash_after-ends.ensures leads middle)
-    over.leads over.through
+walk_link-returns-clause-leads g t c = let text = c.in_ok-text.ensures in let over = c.walk_bytes.ensures in
+    if_ok_both c.walk_bytes.result _ _ _ (λ way leads middle. over_text (λ left. left ≤ c.args.links - 1) (let is = c.is_kept.ensures in cc) (omega arith)
+    ((g.met.F.Finder.keeps _ _ over.kept.becomes).text _ _ text.told ∙ ap Some (sym (c.known-path.ensures ∙ c.bytes.ensures))) c.bytes-2.ensures.bytes c.base_of-base.ensures c.slash_after-ends.ensures leads middle) over.leads over.through

@@ -1,10 +1,12 @@
-use Rattle.std.proofs.Common.{◌∙◌, sym, ap, subst, map}
+use Rattle.std.proofs.Common.{◌∙◌, refl, sym, ap, subst, map, length}
+use Rattle.dc_table.specs.Changes.{words_of}
+use Rattle.dc_rows.specs.Guards.{rows_at}
 use Rattle.std.proofs.lemmas.List.{length-map}
 use Rattle.dc_plain.specs.KeysShown.{key_shown}
 use Rattle.dc_plain.specs.Requests.{request_of}
 use Rattle.dc_ops.specs.Keys.{AreDistinct}
-use Rattle.dc_rows.proofs.Altering.{stage_committed, well_same, touched_same, can_commit, store_after, clock_after, limit_after, home_again}
-use Rattle.dc_rows.proofs.Stages.{tree_same}
+use Rattle.dc_rows.proofs.Altering.{rows_stay, retold_call, stage_committed, well_same, touched_same, can_commit, store_after, clock_after, limit_after, history_same, home_again}
+use Rattle.dc_rows.proofs.Stages.{then_only, tree_same}
 use Rattle.dc_rows.proofs.changes.alter.Goals as goal
 
 pub commit-requires : goal.commit-requires
@@ -38,3 +40,24 @@ returns-in-Ok-clause-home c = let u = c.refill_keys.new.holder.pass.now in let v
     (t.clock ∙ clock_after c.args.holder.now.pass.now c.shut_keys.new.holder.pass.now c.commit.new.self.pass.now c.shut_keys.ensures.pass (request_of c.args.call.now) c.commit.ensures.same c.commit.ensures.view u v _ (k.clock ∙ c.requires.home.clock))
     (t.same_limit ∙ limit_after c.args.holder.now.pass.now c.shut_keys.new.holder.pass.now c.commit.new.self.pass.now c.shut_keys.ensures.pass (request_of c.args.call.now) c.commit.ensures.same c.commit.ensures.view u v _ (k.same_limit ∙ c.requires.home.same_limit))
     c.refill_keys.ensures.stage
+
+pub returns-in-Ok-clause-rows : goal.returns-in-Ok-clause-rows
+returns-in-Ok-clause-rows c = let p = c.args.holder.now.pass.now in let k = c.shut_keys.new in let u = c.refill_keys.new in
+    retold_call u.kept.store _ p _ (rows_at k.holder.pass.now k.kept) _ (words_of c.commit.new.self.pass.now) (request_of c.args.call.now) (map key_shown c.as_slice-keys.result.now) _ (sym (length-map c.as_slice-keys.result.now key_shown))
+    (ap (map key_shown) c.as_slice-keys.ensures.value ∙ (c.keys-keys.ensures ∙ c.requires.plans.keys)) c.calls_touch_the_listed_keys.ensures.keys c.requires.well c.shut_keys.ensures.rows
+    (rows_stay k.holder.pass.now c.commit.new.self.pass.now (request_of c.args.call.now) c.commit.ensures.same c.commit.ensures.view) c.refill_keys.ensures.tree.tree c.refill_keys.ensures.rows
+
+pub returns-in-Err-clause-rows : goal.returns-in-Err-clause-rows
+returns-in-Err-clause-rows c = let p = c.args.holder.now.pass.now in let k = c.shut_keys.new in let u = c.refill_keys-in-Err.new in
+    retold_call u.kept.store _ p _ (rows_at k.holder.pass.now k.kept) _ (words_of k.holder.pass.now) (request_of c.args.call.now) (map key_shown c.as_slice-keys.result.now) _ (sym (length-map c.as_slice-keys.result.now key_shown))
+    (ap (map key_shown) c.as_slice-keys.ensures.value ∙ (c.keys-keys.ensures ∙ c.requires.plans.keys)) c.calls_touch_the_listed_keys.ensures.keys c.requires.well c.shut_keys.ensures.rows
+    (λ row. refl) c.refill_keys-in-Err.ensures.tree.tree c.refill_keys-in-Err.ensures.rows
+
+pub returns-in-Err-clause-home : goal.returns-in-Err-clause-home
+returns-in-Err-clause-home c = let p = c.args.holder.now.pass.now in let u = c.refill_keys-in-Err.new.holder.pass.now in let t = c.refill_keys-in-Err.ensures.tree in let k = c.shut_keys.ensures.tree in
+    let w = then_only p c.shut_keys.new.holder.pass.now u c.shut_keys.ensures.pass c.refill_keys-in-Err.ensures.pass in
+    home_again u c.refill_keys-in-Err.new.kept _ _
+    (t.tree ∙ (c.in-Err.ensures.err ∙ (k.tree ∙ (c.requires.home.tree ∙ sym (tree_same p u w)))))
+    (t.clock ∙ (k.clock ∙ (c.requires.home.clock ∙ ap length (sym (history_same p u w (request_of c.args.call.now))))))
+    (t.same_limit ∙ (k.same_limit ∙ (c.requires.home.same_limit ∙ ap (λ z. z.limit) (sym w.same.same_share))))
+    c.refill_keys-in-Err.ensures.stage

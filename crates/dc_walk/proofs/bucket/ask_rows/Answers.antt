@@ -8,8 +8,8 @@ use Rattle.dc_walk.specs.Findings.{now_in}
 use Rattle.dc_walk.specs.Finds.{told_in}
 use Rattle.dc_walk.specs.Sights.{Fails}
 use Rattle.dc_walk.specs.declared.TheConstants.{MOST_USED}
-use Rattle.dc_walk.proofs.Seats.{row_still}
-use Rattle.dc_walk.specs.Becomings.{same_again}
+use Rattle.dc_walk.proofs.Seats.{row_still, untried_still}
+use Rattle.dc_walk.specs.Becomings.{same_again, untried_again}
 use Rattle.dc_walk.proofs.Sighted.{same_still, on_again, on_still, still_needed}
 use Rattle.dc_walk.proofs.Lookings.{looked_none, looked_other, looked_odd}
 use Rattle.dc_walk.proofs.bucket.ask_rows.Goals.{in-Odd, in-Other}
@@ -18,6 +18,7 @@ use Rattle.dc_walk.proofs.bucket.ask_rows.Goals as goal
 pub loop-k-init : goal.loop-k-init
 loop-k-init c = record {
   same = same_still c.args.rows.now;
+  untried = untried_still;
   why = refl;
   used = refl;
   on = on_still;
@@ -51,6 +52,7 @@ loop-k-preserved c =
     ] in
     record {
       same = same_again i.same e.same;
+      untried = untried_again i.untried e.untried;
       why = e.why ∙ i.why;
       used = more.0.used ∙ i.used;
       on = on_again i.on e.on;

@@ -1,5 +1,7 @@
 use Rattle.std.proofs.Common.{◌≡◌}
 use Rattle.dc_plain.specs.KeysShown.{key_shown}
+use Rattle.dc_table.specs.Passes.{known}
+use Rattle.dc_table.specs.Shares.{HasNotTried}
 use Rattle.dc_walk.specs.Asking.{GoesOn}
 use Rattle.dc_walk.specs.Causes.{Looked}
 use Rattle.dc_walk.specs.Findings.{SameRows, IsFinding, now_in}
@@ -8,6 +10,7 @@ use Rattle.dc_walk.proofs.bucket.ask_rows.Given as goal
 abbrev pub invariant-loop-k : goal.invariant-loop-k
 invariant-loop-k l = record {
   same : SameRows l.fn.rows l.rows;
+  untried : HasNotTried (known l.fn.rows.pass.now) (known l.rows.pass.now);
   why : l.rows.why ≡ l.fn.rows.why;
   used : l.rows.used.now ≡ l.fn.rows.used.now;
   on : GoesOn (now_in l.fn.rows) (now_in l.rows);

@@ -9,12 +9,12 @@ pub returns-in_default-clause-becomes : goal.returns-in_default-clause-becomes
 returns-in_default-clause-becomes g c =
     let had = c.have.ensures.had in let may = c.requires.may in
     stops g.S.Source.locks had.becomes.same had.used had.becomes.walk 0 (unlooked c.have.new.rows (had.why ∙ c.requires.fresh) (had.becomes.good may.good)) (omega arith)
-    (needed_now (outcome_in c.args.rows.now) (said_in c.args.rows.now) (key_shown c.args.key) may.needed may.untold) _ _ (λ free. let locks = c.in_default.ensures.refused in absurd cc)
+    (needed_now (outcome_in c.args.rows.now) (said_in c.args.rows.now) (key_shown c.args.key) may.needed may.untold) had.becomes.untried _ _ (λ free. let locks = c.in_default.ensures.refused in absurd cc)
 
 pub returns-in-Ok-ask_rows-clause-becomes : goal.returns-in-Ok-ask_rows-clause-becomes
 returns-in-Ok-ask_rows-clause-becomes g c =
     let had = c.have.ensures.had in let e = c.in-Ok-ask_rows.ensures in
-    goes_so g.S.Source.locks _ _ _ had.becomes (answered_becomes g.S.Source.locks e.same (key_shown c.args.key) e.on e.tells (e.why ∙ had.why ∙ c.requires.fresh))
+    goes_so g.S.Source.locks _ _ _ had.becomes (answered_becomes g.S.Source.locks e.same (key_shown c.args.key) e.untried e.on e.tells (e.why ∙ had.why ∙ c.requires.fresh))
 
 pub returns-in-Err-clause-becomes : goal.returns-in-Err-clause-becomes
 returns-in-Err-clause-becomes g c =
@@ -22,5 +22,5 @@ returns-in-Err-clause-becomes g c =
     let key = key_shown c.args.key in let f = c.have.new.rows in
     let needed = needed_still had.becomes.same had.used key may.needed in
     let untold = untold_still had.becomes.same had.used key may.untold in
-    goes_so g.S.Source.locks _ _ _ had.becomes (stops g.S.Source.locks e.same e.fails.used (same_between e.on.same) c.in-Ok.lane.many e.fails.finding lane.few (needed_now (outcome_in f) (said_in f) key needed untold) _ _
+    goes_so g.S.Source.locks _ _ _ had.becomes (stops g.S.Source.locks e.same e.fails.used (same_between e.on.same) c.in-Ok.lane.many e.fails.finding lane.few (needed_now (outcome_in f) (said_in f) key needed untold) (λ free. e.untried) _ _
     (λ free. looked_cause e.same c.in-Ok.lane key c.in-Err.odd c.why_of.result (sym e.fails.used) (lane.bucket free) e.looked c.why_of.ensures e.fails.finding needed untold))

@@ -23,13 +23,13 @@ returns-in_default-clause-on c = let f = c.args.rows.now in
 pub returns-in_default-clause-saw : goal.returns-in_default-clause-saw
 returns-in_default-clause-saw c = let f = c.args.rows.now in let same = c.in_default.ensures.same in
     failed_odd c.args.row (key_shown c.args.key) c.args.before
-    (record { reader = refl; pass = refl; used = refl; look = refl; same_pass = same.0 }) (can_still refl same.0 same.1 c.requires.finding.can) c.requires.finding refl refl refl
+    (record { reader = refl; pass = refl; used = refl; look = refl; same_pass = same.same }) (can_still refl same.same same.idle c.requires.finding.can) c.requires.finding refl refl refl
     (c.in_default.ensures.odd ∙ ap (λ q. faulted (begins (not f.begun) (view f.pass.now) q) (Busy c.args.row)) c.call-call.ensures)
 
 pub returns-then-not-tells_of-clause-saw : goal.returns-then-not-tells_of-clause-saw
 returns-then-not-tells_of-clause-saw c = let f = c.args.rows.now in let e = c.in-Ok.ensures in let words = c.in-Ok.words in
     failed_other c.args.row (key_shown c.args.key) c.args.before
-    (record { reader = refl; pass = refl; used = refl; look = refl; same_pass = e.same.0 }) (can_still refl e.same.0 e.same.1 c.requires.finding.can) c.requires.finding
+    (record { reader = refl; pass = refl; used = refl; look = refl; same_pass = e.same.same }) (can_still refl e.same.same e.same.idle c.requires.finding.can) c.requires.finding
     (get_or words 0 0) (drop 1 words) refl
     (e.read ∙ ap (λ q. probed (begins (not f.begun) (view f.pass.now) q) c.args.row (get_or words 0 0) (drop 1 words)) c.call-call.ensures)
     refl refl (rest_size words e.whole)
@@ -44,7 +44,7 @@ returns-clause-saw c = let f = c.args.rows.now in let e = c.in-Ok.ensures in let
     let items = c.push.ensures.items in
     let spells = subst (λ fact. Spells words (Some fact)) (sym shown) tells.spelled in
     answers_so c.args.row key c.args.before
-    (record { reader = refl; pass = refl; used = refl; look = refl; same_pass = e.same.0 }) (can_still refl e.same.0 e.same.1 c.requires.finding.can) c.requires.finding
+    (record { reader = refl; pass = refl; used = refl; look = refl; same_pass = e.same.same }) (can_still refl e.same.same e.same.idle c.requires.finding.can) c.requires.finding
     (get_or words 0 0) (drop 1 words) refl
     (e.read ∙ ap (λ q. probed (begins (not f.begun) (view f.pass.now) q) c.args.row (get_or words 0 0) (drop 1 words)) c.call-call.ensures)
     tells.fact (use_shown new) (ap (map use_shown) items ∙ map-append use_shown f.used.now.items _)

@@ -1,8 +1,7 @@
-use Rattle.std.proofs.Common.{arith, refl, ap, sym, ◌≡◌, ◌∙◌, ◌<◌, ◌+◌, [], not, suc, ℕ, get_or, length, map, subst}
+use Rattle.std.proofs.Common.{arith, refl, ap, sym, ◌≡◌, ◌∙◌, ◌<◌, ◌+◌, [], not, suc, ℕ, length, map, subst}
 use Rattle.std.proofs.lemmas.List.{length-map}
 use Rattle.dc_plain.specs.Requests.{answer_of}
-use Rattle.dc_events.specs.Effects.{begins, checked, faulted, pivoted}
-use Rattle.dc_events.specs.Views.Fault.{Changed}
+use Rattle.dc_events.specs.Effects.{begins, checked, pivoted}
 use Rattle.dc_table.specs.Passes.{view}
 use Rattle.dc_walk.specs.Looks.{look_shown}
 use Rattle.dc_walk.specs.Settling.{IsChecking}
@@ -10,7 +9,8 @@ use Rattle.dc_walk.specs.Finds.{use_shown}
 use Rattle.dc_walk.specs.Uses.{Use}
 use Rattle.dc_walk.specs.declared.used.Used.{Used}
 use Rattle.dc_walk.proofs.Checks.{first_check, next_check, stopped_check, ready, use_there, begins_book}
-use Rattle.dc_walk.proofs.Seats.{same_passes, fits_still}
+use Rattle.dc_walk.proofs.Seats.{fits_still, row_still, stays_again}
+use Rattle.dc_walk.proofs.Standing.{inside_at}
 use Rattle.dc_walk.proofs.settle.settle.Goals as goal
 
 abbrev blank : Used
@@ -23,20 +23,24 @@ loop-c-init c =
     let seen = ap (λ b. b.seen) (begins_book (not c.args.begun) (view c.args.pass.now) call) in
     let past = pivot.later in
     record {
-      fits = fits_still c.requires.pass.0 pivot.same.0;
-      same = pivot.same.0;
-      idle = pivot.same.1;
+      fits = fits_still c.requires.pass.0 pivot.same.same;
+      stays = pivot.same;
       reply = refl;
       later = omega arith;
       checking = first_check c.words_have_the_fact_they_spell.ensures c.args.look.base c.args.look.path.bytes.now c.args.look.follow c.args.look.path.valid _ _ (map use_shown c.args.used.now) _ c.pivot-at.result c.requires.came
           (pivot.view ∙ ap (λ q. pivoted (begins (not c.args.begun) (view c.args.pass.now) q) c.pivot-at.result) c.call.ensures);
     }
 
-pub check-requires-clause-note : goal.check-requires-clause-note
-check-requires-clause-note c =
+pub check-requires : goal.check-requires
+check-requires c =
     let items = c.args.used.now in
     let less : c.loop-c.c < length (map use_shown items) = omega (arith, length-map items use_shown, c.loop-c-test.true) in
-    ready (use_shown blank) _ c.loop-c.invariant.checking less (use_there use_shown items items c.loop-c.c blank refl)
+    let i = c.loop-c.invariant in let inside = inside_at _ items c.loop-c.c blank c.requires.rows c.loop-c-test.true in record {
+      can = (
+        record { fits = i.fits; idle = i.stays.idle; inside = row_still inside i.stays.same },
+        ready (use_shown blank) _ i.checking less (use_there use_shown items items c.loop-c.c blank refl),
+      );
+    }
 
 pub returns-in-Err-clause-settles : goal.returns-in-Err-clause-settles
 returns-in-Err-clause-settles c =
@@ -53,9 +57,8 @@ loop-c-preserved c =
     let call = look_shown c.args.look in
     let before = begins (not c.args.begun) (view c.args.pass.now) call in
     record {
-      fits = fits_still i.fits e.same.0;
-      same = same_passes i.same e.same.0;
-      idle = e.same.1;
+      fits = fits_still i.fits e.same.same;
+      stays = stays_again i.stays e.same;
       reply = i.reply;
       later = i.later;
       checking = subst (λ (n : ℕ). IsChecking call (answer_of c.args.reply) (map use_shown items) before c.pivot-at.result n (view c.check.new.pass)) next

@@ -1,18 +1,16 @@
-use Rattle.std.proofs.Common.{sym, subst, option_map}
-use Rattle.dc_core.specs.Machine.{Actor, walking}
+use Rattle.std.proofs.Common.{option_map}
+use Rattle.dc_core.specs.Machine.{walking}
 use Rattle.dc_core.specs.Machine.Act.{Check}
 use Rattle.dc_core.specs.Shown.{state_of}
-use Rattle.dc_core.specs.Told.{AreSpelled}
 use Rattle.dc_events.specs.Walks.{walk_marked}
 use Rattle.dc_plain.specs.Requests.{answer_of}
-use Rattle.dc_core.proofs.Acted.{room, this_one, always_err}
+use Rattle.dc_core.proofs.Acted.{room, always_err}
 use Rattle.dc_core.proofs.Recorded.{unturned, turned}
-use Rattle.dc_core.proofs.Spelled.{check_spelled}
+use Rattle.dc_core.proofs.Ready.{check_ready}
 use Rattle.dc_core.proofs.state.State.do_check.Goals as goal
 
 pub check-requires-clause-spelled : goal.check-requires-clause-spelled
-check-requires-clause-spelled c = let s = c.args.self.now in let j = c.args.actor in let same = this_one s.actors.items j c.index_mut-one.result.now (room s j (Check c.args.i) c.requires.may) c.index_mut-one.ensures.value in
-    subst (λ (b : Actor). AreSpelled (walk_marked b.walk c.args.i).notes) (sym same) (check_spelled (state_of s) j c.args.i c.requires.may c.requires.lives)
+check-requires-clause-spelled c = check_ready c.args.self.now c.args.actor c.index_mut-one.result.now c.index_mut-one.ensures.value c.requires.lives c.args.i c.requires.may
 
 pub returns-in_err-reply-clause-err : goal.returns-in_err-reply-clause-err
 returns-in_err-reply-clause-err c = let s = c.args.self.now in let j = c.args.actor in

@@ -1,18 +1,16 @@
-use Rattle.std.proofs.Common.{◌≡◌, ap, sym, ◌∙◌, subst, rules, true, option_map}
-use Rattle.dc_core.specs.Machine.{State, Actor, clock_of, turning}
+use Rattle.std.proofs.Common.{ap, ◌∙◌, rules, option_map}
+use Rattle.dc_core.specs.Machine.{State, clock_of, turning}
 use Rattle.dc_core.specs.Machine.Act.{Pivot}
 use Rattle.dc_core.specs.Shown.{state_of, actor_shown}
-use Rattle.dc_core.specs.Told.{AreSpelled}
 use Rattle.dc_plain.specs.Requests.{answer_of}
-use Rattle.dc_core.proofs.Acted.{room, this_one, always_err}
+use Rattle.dc_core.proofs.Acted.{room, always_err}
 use Rattle.dc_core.proofs.Kept.{number}
 use Rattle.dc_core.proofs.Recorded.{unturned, turned}
-use Rattle.dc_core.proofs.Spelled.{pivot_spelled}
+use Rattle.dc_core.proofs.Ready.{pivot_ready}
 use Rattle.dc_core.proofs.state.State.do_pivot.Goals as goal
 
 pub turn-requires : goal.turn-requires
-turn-requires c = let s = c.args.self.now in let j = c.args.actor in
-    subst (λ (b : Actor). b.walk.busy ≡ true → AreSpelled b.walk.notes) (sym (this_one s.actors.items j c.index_mut-one.result.now (room s j Pivot c.requires.may) c.index_mut-one.ensures.value)) (pivot_spelled (state_of s) j c.requires.lives c.requires.may)
+turn-requires c = pivot_ready c.args.self.now c.args.actor c.index_mut-one.result.now c.index_mut-one.ensures.value c.requires.lives c.requires.may
 
 pub returns-in_err-reply-clause-err : goal.returns-in_err-reply-clause-err
 returns-in_err-reply-clause-err c = let s = c.args.self.now in let j = c.args.actor in

@@ -1,10 +1,10 @@
 use Rattle.std.proofs.Common.{◌∙◌, ap, is_some, map, refl}
-use Rattle.std.specs.FinMap.Entries.{put}
 use Rattle.std.specs.FinMap.Entries.{find as lookup}
 use Rattle.dc_plain.specs.Plain.{entry_shown}
 use Rattle.dc_plain.specs.Trees.{spot_cmp}
 use Rattle.dc_plain.specs.Spots.{spot_shown}
 use Rattle.dc_plain.proofs.Overs.{redirected_sorted, redirected_there}
+use Rattle.dc_plain.proofs.RowSteps.{both_put}
 use Rattle.dc_plain.proofs.Sound.{sound_after}
 use Rattle.dc_plain.proofs.plain.PlainTree.swap.Goals as goal
 
@@ -19,7 +19,5 @@ redirect-requires-2-clause-there c =
 pub invariant_of-self : goal.invariant_of-self
 invariant_of-self c =
     let view = c.self.view_is in
-    let entries = c.redirect-2.ensures
-    ∙ (λ i. put spot_cmp (record { dir = c.args.to.dir; name = c.bytes-2.ensures.bytes i }) c.args.moved.0 (c.redirect.ensures i))
-    ∙ (λ i. put spot_cmp (spot_shown c.args.to) c.args.moved.0 (put spot_cmp (record { dir = c.args.from.dir; name = c.bytes.ensures.bytes i }) c.args.there.0 ((view i).tree.entries))) in
+    let entries = both_put c.args.self.now.tree (spot_shown c.args.from) (spot_shown c.args.to) c.args.moved.0 c.args.there.0 c.redirect-2.ensures c.redirect.ensures c.bytes.ensures.bytes c.bytes-2.ensures.bytes (λ i. (view i).tree.entries) in
     sound_after c.parts_are_names_or_dots.ensures c.self.inside _ _ _ c.self.invariant view c.requires.made (λ i. record { entries = entries i; inodes = (view i).tree.inodes; next = (view i).tree.next }) refl

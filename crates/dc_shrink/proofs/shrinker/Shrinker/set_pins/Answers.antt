@@ -1,13 +1,10 @@
-use Rattle.std.proofs.Common.{◌≡◌, sym, ◌∙◌, refl, subst, true, Result, OnErr, Ok, Err}
+use Rattle.std.proofs.Common.{◌≡◌, sym, ◌∙◌, refl, subst, true}
 use Rattle.dc_shrink.specs.Listings.{Listing, is_used}
 use Rattle.dc_shrink.proofs.Entries.{entries_inserted, get_entries}
+use Rattle.dc_shrink.proofs.Pinned.{on_err}
 use Rattle.dc_shrink.proofs.Steps.{after_pop, kept_pinned, pins_none}
 use Rattle.dc_shrink.proofs.Uses.{used_pinned}
 use Rattle.dc_shrink.proofs.shrinker.Shrinker.set_pins.Goals as goal
-
-on_err : {T E P : Type 0} (r : Result T E) → P → OnErr r P
-on_err (Ok x) h = tt
-on_err (Err e) h = h
 
 pub invariant_of-self-2 : goal.invariant_of-self-2
 invariant_of-self-2 c = let e = after_pop c.self.inside.listed c.pop.new.self c.self.invariant.0 c.args.row c.pop.ensures.entries in

@@ -2,7 +2,8 @@ use Rattle.std.proofs.Common.{◌≡◌, ap, ◌∙◌, is_some, length, rules}
 use Rattle.std.proofs.iter.runs.Made.{chains}
 use Rattle.std.specs.BTreeMap.{keys}
 use Rattle.std.specs.Prelude.{count_by}
-use Rattle.dc_store.specs.Keys.{name_held, names_by}
+use Rattle.dc_plain.specs.BytesShown.{names_by}
+use Rattle.dc_store.specs.Keys.{name_held}
 use Rattle.dc_store.proofs.Counted.{held_counted}
 use Rattle.dc_store.proofs.entries.Entries.held.Goals as goal
 

@@ -3,7 +3,8 @@ use Rattle.std.proofs.lemmas.Map.Iter.{iter_end}
 use Rattle.std.specs.Global.{Vec}
 use Rattle.std.specs.Map.Iter.{deref}
 use Rattle.std.specs.BTreeMap.{keys}
-use Rattle.dc_store.specs.Keys.{names_held, names_by}
+use Rattle.dc_plain.specs.BytesShown.{names_by}
+use Rattle.dc_store.specs.Keys.{names_held}
 use Rattle.dc_store.proofs.Counted.{one_more, map_twice, names_listed}
 use Rattle.dc_store.proofs.entries.Entries.list.Goals as goal
 

@@ -1,9 +1,6 @@
-use Rattle.std.proofs.Common.{IsTrue, refl, subst, ap, sym, ◌∙◌}
-use Rattle.std.specs.FinMap.Entries.{put, is_sorted}
-use Rattle.std.specs.Ordering.{nat_cmp}
-use Rattle.dc_store.specs.Inodes.{inode_at}
-use Rattle.dc_store.proofs.Slots.{in_order}
-use Rattle.dc_store.proofs.SlotSteps.{has_key, slot_is, written, written-IsKept}
+use Rattle.std.proofs.Common.{refl, ◌∙◌}
+use Rattle.dc_store.proofs.SlotSteps.{has_key, written-IsKept}
+use Rattle.dc_store.proofs.SlotsSeen.{seen_in_order, seen_in_slot, seen_written}
 use Rattle.dc_store.proofs.inodes.Inodes.at_mut.Goals as goal
 
 pub index-key-requires : goal.index-key-requires
@@ -14,11 +11,10 @@ invariant_of-self-lent c w = written-IsKept c.self.inside.slab c.self.inside.key
 
 pub returns : goal.returns
 returns c = (
-  (refl, λ w. written c.self.inside.slab c.self.inside.keys c.self.invariant c.args.number c.index-key.result.now c.index-key.ensures w ∙ ap (put nat_cmp c.args.number w) c.self.view_is),
+  (refl, seen_written c.self.inside.slab c.self.inside.keys c.self.view_is c.self.invariant c.args.number c.index-key.result.now c.index-key.ensures),
   record {
     writes_back = tt;
-    value = ap (λ inodes. inode_at inodes c.args.number) (sym c.self.view_is)
-        ∙ slot_is c.self.inside.slab c.self.inside.keys c.self.invariant c.args.number c.index-key.result.now c.index-key.ensures ∙ c.index_mut.ensures.value;
-    in_order = subst (λ inodes. IsTrue (is_sorted nat_cmp inodes)) c.self.view_is (in_order c.self.inside.slab c.self.inside.keys.entries);
+    value = seen_in_slot c.self.inside.slab c.self.inside.keys c.self.view_is c.self.invariant c.args.number c.index-key.result.now c.index-key.ensures ∙ c.index_mut.ensures.value;
+    in_order = seen_in_order c.self.inside.slab c.self.inside.keys c.self.view_is;
   },
 )

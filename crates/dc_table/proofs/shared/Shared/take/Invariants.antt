@@ -1,5 +1,11 @@
-use Rattle.std.proofs.Common.{◌≡◌}
+use Rattle.std.proofs.Common.{◌≡◌, ◌≤◌}
+use Rattle.dc_table.specs.Passes.{IsIdle, IsSamePass, known}
 use Rattle.dc_table.proofs.shared.Shared.take.Given as goal
 
 abbrev pub invariant-loop : goal.invariant-loop
-invariant-loop g l = (l.pass.table_id ≡ l.initial.pass.table_id) × (l.pass.id ≡ l.initial.pass.id) × (l.pass.me ≡ l.initial.pass.me)
+invariant-loop g l = let k = known l.initial.pass in record {
+  same : IsSamePass l.initial.pass l.pass;
+  idle : IsIdle l.pass;
+  now : known l.pass ≡ record k { tries = (known l.pass).tries };
+  tried : k.tries ≤ (known l.pass).tries;
+}

@@ -1,3 +1,5 @@
+//! Facts of a tree, what touches them, and what follows from them.
+
 use crate::{
     Call, Fact, Follow, Label, OwnCall, PlainTree, Reply, answer,
     answers_from_true_facts_are_replies, untouched_facts_stay,

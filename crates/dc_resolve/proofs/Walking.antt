@@ -1,0 +1,76 @@
+-- A walk over bytes with its finder, step by step.
+use Rattle.std.proofs.Common.{◌≡◌, ◌≤◌, ◌&&◌, ℕ, List, Bool, false, Option, Some, IsTrue, ap, subst, ◌∙◌, arith}
+use Rattle.std.specs.Borrow.{Bor}
+use Rattle.dc_names.specs.Bytes.{has_parts, is_empty}
+use Rattle.dc_names.specs.Paths.{parts_of}
+use Rattle.dc_plain.specs.declared.call.Follow.{Follow}
+use Rattle.dc_plain.specs.Facts.{Target}
+use Rattle.dc_plain.specs.Resolution.Met.{Goes}
+use Rattle.dc_plain.specs.Tellers.{Extends}
+use Rattle.dc_resolve.specs.Asked.{IsSaidLink}
+use Rattle.dc_resolve.specs.Needs.{MayAskOver, MayAskThrough}
+use Rattle.dc_resolve.specs.Steps.{met_shown, IsSaidMet, IsTakenFrom, TakesFirst}
+use Rattle.dc_resolve.specs.Walks.{IfThrough, LeadsOver, LeadsThrough}
+use Rattle.dc_resolve.specs.declared.finder.Finder.{Ghosts}
+use Rattle.dc_resolve.specs.declared.outcome.End.{End}
+use Rattle.dc_resolve.specs.declared.outcome.Reached.{Reached}
+use Rattle.dc_resolve.specs.declared.outcome.Reached.TheVariants as mets
+use Rattle.dc_resolve.specs.declared.outcome.Way.{Way}
+use Rattle.dc_resolve.specs.declared.outcome.Way.TheVariants.{Ended, Through}
+use Rattle.dc_resolve.proofs.Needed.{link_over}
+use Rattle.dc_resolve.proofs.Passing.{from_first, came_on, came_to_link, came_through, ended_at_link, CameTo, CameToLink}
+
+-- a walk came on to a finder, with so many links to follow and these bytes left
+abbrev pub Walks : {F T : Type 0} → Ghosts F T → Follow → Bool → Bool → ℕ → Target → List ℕ → F → F → ℕ → Target → List ℕ → Type 0
+Walks g how slash is_last links start bytes finder f left place rest = record {
+  kept : g.becomes finder f;
+  same : g.has_stopped f ≡ g.has_stopped finder;
+  valid : IsTrue (has_parts rest);
+  fewer : left ≤ links;
+  came : CameTo how slash is_last links start bytes (g.said f) left place rest;
+}
+
+module _ {F T : Type 0} (g : Ghosts F T) (goes_on : (a b c : F) → g.becomes a b → g.becomes b c → g.becomes a c) (keeps : (a b : F) → g.becomes a b → Extends (g.said a) (g.said b))
+    {how : Follow} {slash is_last : Bool} {links left : ℕ} {start place : Target} {bytes rest : List ℕ} {finder f later : F} (walks : Walks g how slash is_last links start bytes finder f left place rest)
+    (on : g.becomes f later) (still : g.has_stopped later ≡ g.has_stopped f) {met : Option (Reached × Bor (List ℕ))} {reached : Reached} {after : Bor (List ℕ)} (takes : TakesFirst (g.said later) place rest met) (is : met ≡ Some (reached, after)) where
+  from : IsTakenFrom (g.said later) place rest after.now reached
+  from = from_first takes is
+
+  -- a part leads on
+  pub walked_on : {next : Target} → met_shown reached ≡ Goes next → Walks g how slash is_last links start bytes finder later left next after.now
+  walked_on goes = record {
+    kept = goes_on _ _ _ walks.kept on;
+    same = still ∙ walks.same;
+    valid = from.valid;
+    fewer = walks.fewer;
+    came = came_on walks.came (keeps _ _ on) from goes;
+  }
+
+  -- a part leads to a link
+  module _ {link : ℕ} (meets : reached ≡ mets.Meets link) where
+    met_link : CameToLink how slash is_last links start bytes (g.said later) left place link after.now
+    met_link = came_to_link walks.came (keeps _ _ on) from (ap met_shown meets)
+
+    pub link_said : IsSaidLink (g.said later) link
+    link_said = let taken = from.taken in subst (IsSaidMet (g.said later)) meets taken.link
+
+    module _ {at_end : Bool} (last : at_end ≡ (is_last && is_empty (parts_of after.now))) where
+      pub may_through : MayAskOver g finder how links slash start bytes is_last → MayAskThrough g later how left slash place link at_end
+      may_through may = link_over g goes_on keeps may (goes_on _ _ _ walks.kept on) met_link last
+
+      module _ {over : F} (on_over : g.becomes later over) {way : Way} (leads : LeadsThrough (g.said over) how left slash place link at_end way) where
+        pub walk_ended : {end : End} → way ≡ Ended end → LeadsOver (g.said over) how links slash start bytes is_last (Ended end)
+        walk_ended ends = ended_at_link met_link (keeps _ _ on_over) last leads ends
+
+        pub walked_through : g.has_stopped over ≡ g.has_stopped later → IfThrough way (λ more. (at_end ≡ false) × (more ≤ left)) → {next : Target} {fewer : ℕ} → way ≡ Through next fewer
+            → Walks g how slash is_last links start bytes finder over fewer next after.now
+        walked_through still_over middle through =
+            let less = subst (λ w. IfThrough w (λ more. (at_end ≡ false) × (more ≤ left))) through middle in
+            let less_over = less.1 in
+            let was = walks.fewer in record {
+              kept = goes_on _ _ _ (goes_on _ _ _ walks.kept on) on_over;
+              same = still_over ∙ still ∙ walks.same;
+              valid = from.valid;
+              fewer = omega arith;
+              came = came_through met_link (keeps _ _ on_over) last leads through;
+            }

@@ -1,0 +1,59 @@
+-- What a call leaves: the pass that is back, and the rows that it handed back.
+use Rattle.std.specs.Prelude.{◌≡◌, ℕ, ◌<◌, ◌≤◌, min, List, length, Option, Result, Ok, Err, IfOk, IfErr, IfSome}
+use Rattle.std.specs.Borrow.{MutBor}
+use Rattle.dc_names.specs.declared.NoMemory.{NoMemory}
+use Rattle.dc_plain.specs.Facts.{Key}
+use Rattle.dc_plain.specs.Requests.{Request, answer_of}
+use Rattle.dc_plain.specs.Runs.{tree_after, Touches}
+use Rattle.dc_plain.specs.declared.call.Reply.{Reply}
+use Rattle.dc_events.specs.Rows.{most}
+use Rattle.dc_events.specs.Standing.{tree_of}
+use Rattle.dc_table.specs.Changes.{Recorded}
+use Rattle.dc_table.specs.Passes.{Pass, known, view, share, IsSamePass, IsIdle}
+use Rattle.dc_table.specs.RowStates.{RowState}
+use Rattle.dc_rows.specs.Changes.{Failed}
+use Rattle.dc_rows.specs.Guards.{seat_of, rows_of}
+use Rattle.dc_rows.specs.RowChanges.{EmptiesLast, Gets}
+use Rattle.dc_rows.specs.Refills.{Retold, Turns}
+use Rattle.dc_rows.specs.declared.fault.ChangeFault.{ChangeFault}
+use Rattle.dc_rows.specs.declared.fault.ChangeFault.TheVariants as faults
+use Rattle.dc_rows.specs.declared.guard.Guard.{Guard}
+
+-- the pass of a guard is back without the lock, and has not tried for it again
+pub record IsBack (g : Guard) (back : MutBor Pass) : Type 0 where
+  pub same_reference : back.ghost_name ≡ g.holder.pass.ghost_name
+  pub same : IsSamePass (seat_of g) back.now
+  pub idle : IsIdle back.now
+  pub tries : (known back.now).tries ≡ (known (seat_of g)).tries
+  pub got : (known back.now).got ≡ (known (seat_of g)).got
+
+-- the rows after a change that was made after this history, or wasn't: those whose keys it touches tell what the tree has then, and all others are as they were
+abbrev pub RowsAfter : ℕ → List Request → RowState → RowState → Request → Result (Reply × ℕ) ChangeFault → Type 0
+RowsAfter limit history s t call (Ok made) = let tree = tree_of limit history in Turns (Retold (tree_after limit tree call)) (Touches limit tree call) s t
+RowsAfter limit history s t call (Err faults.NoMemory) = let tree = tree_of limit history in Turns (Retold tree) (Touches limit tree call) s t
+RowsAfter limit history s t call (Err faults.Spent) = t ≡ s
+
+-- a change was recorded with its reply, or none is and why not; the rows were these before, and are those that the pass has left
+pub record Makes (history : List Request) (s : RowState) (p q : Pass) (call : Request) (result : Result (Reply × ℕ) ChangeFault) : Type 0 where
+  pub done : IfOk result (λ made. Recorded (view p) (view q) call (answer_of made.0) made.1)
+  pub fault : IfErr result (Failed (share p).limit (view p) (view q) call)
+  pub within : (view q).book.seen ≤ most
+  pub at : IfOk result (λ made. made.1 ≡ length history)
+  pub rows : RowsAfter (share p).limit history s (known q).left call result
+
+-- the same by a guard's pass, and by a pass that got the lock for it
+abbrev pub MakesHeld : Guard → Pass → Request → Result (Reply × ℕ) ChangeFault → Type 0
+MakesHeld g q call result = Makes (view (seat_of g)).hold.history (rows_of g) (seat_of g) q call result
+
+abbrev pub MakesAlone : Pass → Pass → Request → Result (Reply × ℕ) ChangeFault → Type 0
+MakesAlone p q call result = (history : List Request) × Makes history (known q).got p q call result
+
+-- up to so many rows were emptied, from the rows that the pass got to those that it left
+pub record Shrinks (most n : ℕ) (q : Pass) : Type 0 where
+  pub few : n ≡ min most (length (known q).got.used.listed)
+  pub rows : EmptiesLast n (known q).got (known q).left
+
+-- a row of the table has got the key, and one pin more, from the rows that the pass got to those that it left; or none has
+pub record Pins (key : Key) (q : Pass) (result : Result (Option ℕ) NoMemory) : Type 0 where
+  pub row : IfOk result (λ found. IfSome found (λ row. row < (share q).rows))
+  pub rows : Gets key 1 (known q).got (known q).left result
