@@ -6,10 +6,12 @@ use clap::{Arg, ArgAction, ArgMatches, Command, Error, value_parser};
 use std::alloc::Global;
 use std::time::Duration;
 
-const ABOUT: &str = "Times a cache of directory entries by its public calls, and races look-ups against changes.
+const ABOUT: &str =
+    "Times a cache of directory entries by its public calls, and races look-ups against changes.
 Without a command it prints a table of everything, in under a minute.";
 
 static WORKS: [&str; 6] = ["read", "absent", "mixed", "churn", "miss", "links"];
+
 static RACES: [&str; 2] = ["rename", "exchange"];
 
 /// An option with a number from 1 to `most`.
@@ -55,19 +57,26 @@ fn with_shape<'a>(alloc: Global, command: Command<'a>) -> Result<Command<'a>, Er
         .value_parser(WORKS.as_slice())
         .default_value("read");
     let hot = number(alloc, "hot", 100_000, "1000", "Files that are asked");
-    let buckets = number(alloc, "buckets", 1_024, "1024", "Buckets of four rows: a power of two");
-    Ok(command
-        .arg(work)?
-        .arg(depth(alloc, "Names of a path, from 1 to 64"))?
-        .arg(hot)?
-        .arg(buckets)?)
+    let buckets = number(
+        alloc,
+        "buckets",
+        1_024,
+        "1024",
+        "Buckets of four rows: a power of two",
+    );
+    Ok(
+        command
+            .arg(work)?
+            .arg(depth(alloc, "Names of a path, from 1 to 64"))?
+            .arg(hot)?
+            .arg(buckets)?,
+    )
 }
 
 fn look_command<'a>(alloc: Global) -> Result<Command<'a>, Error> {
-    let tree = Arg::new(alloc, "tree")
-        .long("tree")
-        .value_name("FILE")
-        .help("Looks up the paths of this tree, as the command tree writes one");
+    let tree = Arg::new(alloc, "tree").long("tree").value_name("FILE").help(
+        "Looks up the paths of this tree, as the command tree writes one",
+    );
     let command = Command::new(alloc, "look")
         .about("Times look-ups by 1 to N threads")
         .arg(threads(alloc, "1"))?
@@ -78,11 +87,15 @@ fn look_command<'a>(alloc: Global) -> Result<Command<'a>, Error> {
 }
 
 fn change_command<'a>(alloc: Global) -> Result<Command<'a>, Error> {
-    Ok(Command::new(alloc, "change")
-        .about("Times changes by 1 to N threads, each of which makes and unlinks a file of its own")
-        .arg(threads(alloc, "1"))?
-        .arg(milliseconds(alloc))?
-        .arg(flag(alloc, "json", "A line of JSON for each row"))?)
+    Ok(
+        Command::new(alloc, "change")
+            .about(
+                "Times changes by 1 to N threads, each of which makes and unlinks a file of its own",
+            )
+            .arg(threads(alloc, "1"))?
+            .arg(milliseconds(alloc))?
+            .arg(flag(alloc, "json", "A line of JSON for each row"))?,
+    )
 }
 
 fn race_command<'a>(alloc: Global) -> Result<Command<'a>, Error> {
@@ -90,14 +103,31 @@ fn race_command<'a>(alloc: Global) -> Result<Command<'a>, Error> {
         .required(true)
         .value_parser(RACES.as_slice())
         .help("What is renamed above the path");
-    Ok(Command::new(alloc, "race")
-        .about("Looks up while a directory of the path is renamed, and counts the wrong answers")
-        .arg(sort)?
-        .arg(depth(alloc, "Directories between what is renamed and the file, from 1 to 64"))?
-        .arg(number(alloc, "looks", 1_000_000_000, "1000000", "Look-ups of all threads"))?
-        .arg(threads(alloc, "2"))?
-        .arg(flag(alloc, "json", "One line of JSON"))?
-        .arg(flag(alloc, "wrong-only", "Prints the number of wrong answers alone"))?)
+    Ok(
+        Command::new(alloc, "race")
+            .about(
+                "Looks up while a directory of the path is renamed, and counts the wrong answers",
+            )
+            .arg(sort)?
+            .arg(depth(
+                alloc,
+                "Directories between what is renamed and the file, from 1 to 64",
+            ))?
+            .arg(number(
+                alloc,
+                "looks",
+                1_000_000_000,
+                "1000000",
+                "Look-ups of all threads",
+            ))?
+            .arg(threads(alloc, "2"))?
+            .arg(flag(alloc, "json", "One line of JSON"))?
+            .arg(flag(
+                alloc,
+                "wrong-only",
+                "Prints the number of wrong answers alone",
+            ))?,
+    )
 }
 
 fn tree_command<'a>(alloc: Global) -> Result<Command<'a>, Error> {

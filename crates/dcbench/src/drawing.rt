@@ -61,7 +61,9 @@ impl Drawing {
 
     /// A number below `most`, or 0.
     fn below(&mut self, most: u64) -> u64 {
-        u64::from(self.rng.next_u32()).checked_rem(most).unwrap_or(0)
+        u64::from(self.rng.next_u32())
+            .checked_rem(most)
+            .unwrap_or(0)
     }
 
     fn letter(&mut self, at: u64) -> u8 {
@@ -74,7 +76,11 @@ impl Drawing {
         let mut name = Vec::new(self.alloc);
         let mut rest = index;
         for _ in 0..=length.max(letters_of(index)) {
-            let at = if rest > 0 || name.is_empty() { rest % 36 } else { self.below(36) };
+            let at = if rest > 0 || name.is_empty() {
+                rest % 36
+            } else {
+                self.below(36)
+            };
             rest /= 36;
             let letter = self.letter(at);
             name.push(letter)?;
@@ -103,9 +109,11 @@ impl Drawing {
 
     /// Whether a row is left for a name that is drawn, and for the absent one that is asked beside it.
     fn fits(&self, parent: u64, name: &[u8]) -> Result<bool, Fault> {
-        Ok(self.has_row(parent, name)
-            && (self.shape.work != Work::Absent
-                || self.has_row(parent, &with(self.alloc, name, ABSENT)?)))
+        Ok(
+            self.has_row(parent, name)
+                && (self.shape.work != Work::Absent
+                    || self.has_row(parent, &with(self.alloc, name, ABSENT)?)),
+        )
     }
 
     /// A name in a directory whose row is taken.

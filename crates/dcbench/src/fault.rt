@@ -38,7 +38,10 @@ impl Fault {
                 _ => (2, error.print(rt)),
             },
             Fault::NoText => (2, eprintln!(rt; "dcbench: an argument is no text")),
-            Fault::BadSize => (2, eprintln!(rt; "dcbench: --buckets: a power of two from 1 to 1024")),
+            Fault::BadSize => (
+                2,
+                eprintln!(rt; "dcbench: --buckets: a power of two from 1 to 1024"),
+            ),
             Fault::NoMemory => (3, eprintln!(rt; "dcbench: no memory")),
             Fault::Unread => (4, eprintln!(rt; "dcbench: the tree can't be read")),
             Fault::NoClock => (4, eprintln!(rt; "dcbench: the clock can't be read")),

@@ -26,7 +26,9 @@ impl Gate {
     /// Whether there is nothing left to wait for.
     fn is_open<R: Clock>(&self, rt: &R, start: Instant) -> bool {
         self.arrived.load(Ordering::SeqCst) >= self.expected
-            || start.elapsed(rt).is_ok_and(|waited| waited >= Duration::from_secs(LONGEST))
+            || start
+                .elapsed(rt)
+                .is_ok_and(|waited| waited >= Duration::from_secs(LONGEST))
     }
 
     /// Waits until all have come, and answers when that was. None if the clock can't be read.

@@ -20,8 +20,8 @@ pub const TURN: usize = 64;
 pub struct Looks<'a> {
     pub alloc: Global,
     pub work: Work,
-    /// The paths, in turns: each thread begins with another.
-    pub turns: &'a [&'a [PathText<'a>]],
+    /// The paths in the order of the look-ups: each thread begins at another place.
+    pub paths: &'a [PathText<'a>],
     /// The texts of the paths whose files are changed in between.
     pub files: &'a [&'a [u8]],
     pub threads: u64,
@@ -168,12 +168,20 @@ impl<'a> Looks<'a> {
         tally.looks = tally.looks.saturating_add(paths.len() as u64);
     }
 
-    /// The paths of a thread's turn. None if there are no turns.
-    fn paths_of(&self, thread: u64, turn: u64) -> Option<&'a [PathText<'a>]> {
-        let all = self.turns.len() as u64;
-        let ahead = all.checked_div(self.threads)?.saturating_mul(thread);
-        let at = turn.wrapping_add(ahead).checked_rem(all)?;
-        self.turns.get(at as usize).copied()
+    /// Where the paths of a thread's turn begin.
+    fn begin_of(&self, thread: u64, turn: u64) -> usize {
+        let turns = self.paths.len().div_ceil(TURN) as u64;
+        let share = turns.checked_div(self.threads).unwrap_or(0);
+        let at = turn.wrapping_add(share.saturating_mul(thread));
+        (at.checked_rem(turns).unwrap_or(0) as usize).saturating_mul(TURN)
+    }
+
+    /// The paths of a thread's turn.
+    fn paths_of(&self, thread: u64, turn: u64) -> &'a [PathText<'a>] {
+        let begin = self.begin_of(thread, turn).min(self.paths.len());
+        let (_, rest) = self.paths.split_at(begin);
+        let (paths, _) = rest.split_at(rest.len().min(TURN));
+        paths
     }
 
     /// Times turns until the time is over. None if the clock can't be read.
@@ -193,7 +201,7 @@ impl<'a> Looks<'a> {
         let mut last = begin;
         'turns: for turn in 0..u64::MAX {
             let before = tally.calls();
-            self.turn(rt, cache, pass, self.paths_of(thread, turn)?, own, tally);
+            self.turn(rt, cache, pass, self.paths_of(thread, turn), own, tally);
             let now = Instant::now(rt).ok()?;
             let calls = tally.calls().saturating_sub(before);
             tally.turn(now.saturating_duration_since(last), calls);

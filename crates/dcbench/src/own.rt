@@ -77,7 +77,11 @@ impl Own {
         let step = usize::try_from(threads).unwrap_or(1).max(1);
         let mut pairs = Vec::new(alloc);
         let skipped = usize::try_from(thread).unwrap_or(0);
-        let most = if work == Work::Mixed { MOST_RENAMED } else { MOST_MADE };
+        let most = if work == Work::Mixed {
+            MOST_RENAMED
+        } else {
+            MOST_MADE
+        };
         for (at, path) in paths.iter().enumerate() {
             if pairs.len() < most && at % step == skipped {
                 pairs.push(match work {
@@ -117,7 +121,10 @@ impl Own {
         ensures { IfSome result IsChange }
     {
         let round = self.round();
-        let at = self.done.checked_div(round)?.checked_rem(self.pairs.len() as u64)?;
+        let at = self
+            .done
+            .checked_div(round)?
+            .checked_rem(self.pairs.len() as u64)?;
         let Pair { first, second } = self.pairs.get(at as usize)?;
         let step = self.done.checked_rem(round)?;
         let base = ROOT;

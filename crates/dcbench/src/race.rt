@@ -207,8 +207,9 @@ impl<'a> Race<'a> {
         self.done.fetch_add(1, Ordering::SeqCst);
         if let (Some(begin), Ok(end)) = (begin, Instant::now(rt)) {
             let took = end.saturating_duration_since(begin);
-            tally.rate = a_second(tally.looks, took);
-            tally.turn(took, tally.looks);
+            let looks = tally.looks;
+            tally.rate = a_second(looks, took);
+            tally.turn(took, looks);
         }
         tally
     }
@@ -225,7 +226,5 @@ pub fn answer<R: Wait>(
     requires { Fits cache.now pass.old }
     ensures { Fits cache.now pass.new }
 {
-    cache
-        .look(rt, alloc, pass, ROOT, asked, Follow::Yes)
-        .reply
+    cache.look(rt, alloc, pass, ROOT, asked, Follow::Yes).reply
 }

@@ -35,10 +35,31 @@ work   names threads   median ns      99th     calls a s  without lock   filled 
 impl fmt::Display for LookRow {
     fn fmt<W: fmt::Write>(&self, f: &mut fmt::Formatter<W>) -> fmt::Result {
         let tally = &self.tally;
-        write!(f, "{:<6} {:>5} {:>7}", self.shape.work.name(), self.shape.depth, self.threads)?;
-        write!(f, "   {} {}", Nanoseconds(tally.quantile(50)), Nanoseconds(tally.quantile(99)))?;
-        write!(f, " {:>13} {:>13} {:>13}", tally.rate, tally.by_fast(), tally.by_rows)?;
-        write!(f, " {:>7} {:>11} {:>12}", tally.by_lock, tally.missed, self.filled)
+        write!(
+            f,
+            "{:<6} {:>5} {:>7}",
+            self.shape.work.name(),
+            self.shape.depth,
+            self.threads
+        )?;
+        write!(
+            f,
+            "   {} {}",
+            Nanoseconds(tally.quantile(50)),
+            Nanoseconds(tally.quantile(99))
+        )?;
+        write!(
+            f,
+            " {:>13} {:>13} {:>13}",
+            tally.rate,
+            tally.by_fast(),
+            tally.by_rows
+        )?;
+        write!(
+            f,
+            " {:>7} {:>11} {:>12}",
+            tally.by_lock, tally.missed, self.filled
+        )
     }
 }
 
@@ -86,7 +107,12 @@ impl fmt::Display for ChangeRow {
     fn fmt<W: fmt::Write>(&self, f: &mut fmt::Formatter<W>) -> fmt::Result {
         let tally = &self.tally;
         write!(f, "       {:>7}", self.threads)?;
-        write!(f, "   {} {}", Nanoseconds(tally.quantile(50)), Nanoseconds(tally.quantile(99)))?;
+        write!(
+            f,
+            "   {} {}",
+            Nanoseconds(tally.quantile(50)),
+            Nanoseconds(tally.quantile(99))
+        )?;
         write!(f, " {:>13}", tally.rate)
     }
 }
@@ -125,7 +151,13 @@ pub const RACE_HEAD: &str =
 impl fmt::Display for RaceRow {
     fn fmt<W: fmt::Write>(&self, f: &mut fmt::Formatter<W>) -> fmt::Result {
         let tally = &self.tally;
-        write!(f, "{:<8} {:>7} {:>12}", self.sort.name(), self.depth, tally.looks)?;
+        write!(
+            f,
+            "{:<8} {:>7} {:>12}",
+            self.sort.name(),
+            self.depth,
+            tally.looks
+        )?;
         write!(f, " {:>7} {:>13}", tally.wrong, tally.by_fast())?;
         write!(f, " {:>11} {:>7}", tally.changes, self.milliseconds)
     }

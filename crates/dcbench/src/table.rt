@@ -7,7 +7,7 @@ use crate::change::Changes;
 use crate::drawing::{ABSENT, draw};
 use crate::fault::Fault;
 use crate::gate::Gate;
-use crate::look::{Looks, TURN};
+use crate::look::Looks;
 use crate::race::{Course, Race, answer};
 use crate::report::{CHANGE_HEAD, ChangeRow, LOOK_HEAD, LookRow, RACE_HEAD, RaceRow};
 use crate::tally::{Tally, nanoseconds};
@@ -40,7 +40,7 @@ struct Plan<'a> {
     lines: &'a [&'a [u8]],
     files: &'a [&'a [u8]],
     paths: &'a [PathText<'a>],
-    turns: &'a [&'a [PathText<'a>]],
+    order: &'a [PathText<'a>],
 }
 
 /// So many of some paths, in a random order.
@@ -48,7 +48,9 @@ fn shuffled<'a>(alloc: Global, paths: &[PathText<'a>]) -> Result<Vec<PathText<'a
     let mut order = Vec::new(alloc);
     let mut rng = Pcg32::new(1, 54);
     for _ in 0..ORDER {
-        let at = (rng.next_u32() as usize).checked_rem(paths.len()).unwrap_or(0);
+        let at = (rng.next_u32() as usize)
+            .checked_rem(paths.len())
+            .unwrap_or(0);
         if let Some(path) = paths.get(at) {
             order.push(*path)?;
         }
@@ -69,18 +71,19 @@ fn ordered<'a>(
     }
 }
 
-/// How many absent names there are beside each file.
-fn absent_to_a_file(shape: Shape, files: usize) -> u64 {
+/// How many names that miss there are to each file: four times as many as there are rows in all.
+fn missing_to_a_file(shape: Shape, files: usize) -> u64 {
+    let names = shape.buckets.saturating_mul(16);
+    let each = names.checked_div(files as u64).unwrap_or(0);
+    each.saturating_add(1)
+}
+
+/// The texts that are looked up: those of the files, or of absent names beside them.
+fn texts_of(alloc: Global, shape: Shape, files: &[&[u8]]) -> Result<Vec<Vec<u8>>, Fault> {
     match shape.work {
-        Work::Absent => 1,
-        Work::Miss => {
-            let names = shape.buckets.saturating_mul(16);
-            names
-                .checked_div(files as u64)
-                .unwrap_or(0)
-                .saturating_add(1)
-        }
-        _ => 0,
+        Work::Absent => extended(alloc, files, ABSENT, 1),
+        Work::Miss => extended(alloc, files, ABSENT, missing_to_a_file(shape, files.len())),
+        _ => extended(alloc, files, "", 1),
     }
 }
 
@@ -112,7 +115,7 @@ fn look_row<R: Threads + Wait + Clock + Sync>(
     let job = Job::Look(Looks {
         alloc,
         work: plan.shape.work,
-        turns: plan.turns,
+        paths: plan.order,
         files: plan.files,
         threads,
         time: plan.time,
@@ -165,23 +168,19 @@ fn look_by<R: Threads + Wait + Clock + Sync + Print + Files + AllocGlobal>(
 ) -> Result<(), Fault>
     requires { IsSync R.row }
 {
-    let (shape, work) = (task.shape, task.shape.work);
     let text = text_of(rt, alloc, task)?;
     let lines = lines_in(alloc, &text)?;
     let files = asked_in(alloc, &lines)?;
-    let absent = extended(alloc, &files, ABSENT, absent_to_a_file(shape, files.len()))?;
-    let names: Vec<&[u8]> = absent.iter().map(|name| name.as_slice()).collect(alloc)?;
-    let texts = if work.is_absent() { &names } else { &files };
-    let paths = parsed(alloc, texts)?;
-    let order = ordered(alloc, work, &paths)?;
-    let turns: Vec<&[PathText<'_>]> = order.chunks(TURN).collect(alloc)?;
+    let texts = texts_of(alloc, task.shape, &files)?;
+    let paths = parsed(alloc, &texts)?;
+    let order = ordered(alloc, task.shape.work, &paths)?;
     let plan = Plan {
-        shape,
+        shape: task.shape,
         time: task.time,
         lines: &lines,
         files: &files,
         paths: &paths,
-        turns: &turns,
+        order: &order,
     };
     look_rows(rt, alloc, &plan, threads, task.json)
 }

@@ -56,6 +56,7 @@ pub fn spread<R: Threads + Wait + Clock + Sync>(
         return work(rt, cache, job, pass, thread);
     }
     let other = cache.split(&mut pass);
+    let rest = others - 1;
     let ((mut pass, mut tally), (other, more)) = join(
         rt,
         move || -> (Pass, Tally)
@@ -65,7 +66,7 @@ pub fn spread<R: Threads + Wait + Clock + Sync>(
         move || -> (Pass, Tally)
             requires { IsSync R.row × Fits cache.now other }
             ensures { Fits cache.entry.now result.0 }
-        { spread(rt, cache, job, other, thread.saturating_add(1), others - 1) },
+        { spread(rt, cache, job, other, thread.saturating_add(1), rest) },
     );
     cache.join(&mut pass, other);
     tally.take_in(more);

@@ -141,7 +141,7 @@ pub fn extended(
 }
 
 /// The texts that are paths.
-pub fn parsed<'a>(alloc: Global, texts: &[&'a [u8]]) -> Result<Vec<PathText<'a>>, Fault> {
+pub fn parsed<'a>(alloc: Global, texts: &'a [Vec<u8>]) -> Result<Vec<PathText<'a>>, Fault> {
     let mut paths = Vec::new(alloc);
     for text in texts {
         if let Ok(path) = parse(text) {
@@ -155,13 +155,7 @@ pub fn parsed<'a>(alloc: Global, texts: &[&'a [u8]]) -> Result<Vec<PathText<'a>>
 }
 
 /// Looks each path up, which fills the rows that it wants.
-pub fn warm<R: Wait>(
-    rt: &R,
-    alloc: Global,
-    cache: &Dcache,
-    pass: &mut Pass,
-    paths: &[PathText<'_>],
-)
+pub fn warm<R: Wait>(rt: &R, alloc: Global, cache: &Dcache, pass: &mut Pass, paths: &[PathText<'_>])
     requires { Fits cache.now pass.old }
     ensures { Fits cache.now pass.new }
 {

@@ -62,11 +62,6 @@ impl Work {
             Work::Read | Work::Absent | Work::Miss | Work::Links => None,
         }
     }
-
-    /// Whether what is looked up is never there.
-    pub fn is_absent(self) -> bool {
-        matches!(self, Work::Absent | Work::Miss)
-    }
 }
 
 impl fmt::Display for Work {
