@@ -121,7 +121,8 @@ fn look_row<R: Threads + Wait + Clock + Sync>(
         time: plan.time,
         gate: &gate,
     });
-    let (mut pass, mut tally) = spread(rt, &cache, &job, pass, 0, threads.saturating_sub(1));
+    let other = cache.split(&mut pass);
+    let mut tally = spread(rt, &cache, &job, other, 0, threads.saturating_sub(1));
     tally.sort();
     Ok(LookRow {
         shape: plan.shape,
@@ -210,7 +211,7 @@ fn change_row<R: Threads + Wait + Clock + Sync>(
         time,
         gate: &gate,
     });
-    let (_pass, mut tally) = spread(rt, &cache, &job, pass, 0, threads.saturating_sub(1));
+    let mut tally = spread(rt, &cache, &job, pass, 0, threads.saturating_sub(1));
     tally.sort();
     Ok(ChangeRow { threads, tally })
 }
@@ -261,8 +262,7 @@ fn run_race<R: Threads + Wait + Clock + Sync>(
         done: &done,
         gate: &gate,
     });
-    let (_pass, tally) = spread(rt, cache, &job, pass, 0, task.threads);
-    Ok(tally)
+    Ok(spread(rt, cache, &job, pass, 0, task.threads))
 }
 
 /// One race, on a cache made for it.

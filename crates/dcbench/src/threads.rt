@@ -20,26 +20,24 @@ pub enum Job<'a> {
     Race(Race<'a>),
 }
 
-/// What one thread does, which hands its pass back.
+/// What one thread does.
 fn work<R: Wait + Clock>(
     rt: &R,
     cache: &Dcache,
     job: &Job<'_>,
     mut pass: Pass,
     thread: u64,
-) -> (Pass, Tally)
+) -> Tally
     requires { Fits cache.now pass }
-    ensures { Fits cache.now result.0 }
 {
-    let tally = match job {
+    match job {
         Job::Look(looks) => looks.run(rt, cache, &mut pass, thread),
         Job::Change(changes) => changes.run(rt, cache, &mut pass, thread),
         Job::Race(race) => race.run(rt, cache, &mut pass, thread),
-    };
-    (pass, tally)
+    }
 }
 
-/// Does a job in a thread, and in so many others at the same time.
+/// Does a job in a thread, and in so many others at the same time. Their passes end with them.
 pub fn spread<R: Threads + Wait + Clock + Sync>(
     rt: &R,
     cache: &Dcache,
@@ -47,28 +45,24 @@ pub fn spread<R: Threads + Wait + Clock + Sync>(
     mut pass: Pass,
     thread: u64,
     others: u64,
-) -> (Pass, Tally)
+) -> Tally
     requires sync { IsSync R.row }
     requires pass { Fits cache.now pass }
-    ensures { Fits cache.now result.0 }
 {
     if others == 0 {
         return work(rt, cache, job, pass, thread);
     }
     let other = cache.split(&mut pass);
     let rest = others - 1;
-    let ((mut pass, mut tally), (other, more)) = join(
+    let (mut tally, more) = join(
         rt,
-        move || -> (Pass, Tally)
+        move || -> Tally
             requires { Fits cache.now pass }
-            ensures { Fits cache.entry.now result.0 }
         { work(rt, cache, job, pass, thread) },
-        move || -> (Pass, Tally)
+        move || -> Tally
             requires { IsSync R.row × Fits cache.now other }
-            ensures { Fits cache.entry.now result.0 }
         { spread(rt, cache, job, other, thread.saturating_add(1), rest) },
     );
-    cache.join(&mut pass, other);
     tally.take_in(more);
-    (pass, tally)
+    tally
 }
