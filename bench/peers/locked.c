@@ -1,0 +1,105 @@
+/* A hash table of names behind one lock for readers and a writer, taken once for a path. */
+#define _GNU_SOURCE
+#include "peer.h"
+#include <pthread.h>
+#include <stdint.h>
+#include <stdlib.h>
+#include <string.h>
+
+enum { SLOTS = 1 << 16 };
+
+const char *const peer_name = "rwlock";
+
+/* A name of a directory: the number that it leads to, and whether that is a directory. */
+struct entry {
+    uint64_t parent, number;
+    const char *name;
+    size_t length;
+    int is_directory;
+};
+
+static struct entry entries[SLOTS];
+static size_t entry_count;
+static uint64_t next_number;
+static pthread_rwlock_t lock = PTHREAD_RWLOCK_INITIALIZER;
+
+static uint64_t hash(uint64_t parent, const char *name, size_t length)
+{
+    uint64_t hash = parent * 0x9e3779b97f4a7c15u;
+    while (length >= 8) {
+        uint64_t word;
+        memcpy(&word, name, 8);
+        hash = (hash ^ word) * 0xff51afd7ed558ccdu;
+        hash ^= hash >> 32;
+        name += 8, length -= 8;
+    }
+    uint64_t word = 0;
+    memcpy(&word, name, length);
+    hash = (hash ^ word ^ length << 56) * 0xff51afd7ed558ccdu;
+    return hash ^ hash >> 32;
+}
+
+/* The slot of a name: its own, or the free one where it would stand. */
+static struct entry *slot_of(uint64_t parent, const char *name, size_t length)
+{
+    for (uint64_t at = hash(parent, name, length);; at++) {
+        struct entry *entry = &entries[at % SLOTS];
+        if (!entry->name)
+            return entry;
+        if (entry->parent == parent && entry->length == length && !memcmp(entry->name, name, length))
+            return entry;
+    }
+}
+
+static struct entry *walk(const char *path, size_t length, int all)
+{
+    static struct entry root = {0, 1, "", 0, 1};
+    struct entry *found = &root;
+    const char *end = path + length;
+    while (path < end) {
+        const char *name = path + 1, *stop = memchr(name, '/', (size_t)(end - name));
+        path = stop ? stop : end;
+        if (!found->is_directory || (!all && path == end))
+            break;
+        found = slot_of(found->number, name, (size_t)(path - name));
+        if (!found->name)
+            return NULL;
+    }
+    return found;
+}
+
+void peer_begin(void)
+{
+    next_number = 2;
+}
+
+int peer_make(char kind, const char *path)
+{
+    char *copy = strdup(path);
+    if (!copy || ++entry_count > SLOTS / 2)
+        return 0;
+    struct entry *parent = walk(copy, strlen(copy), 0);
+    const char *name = strrchr(copy, '/') + 1;
+    if (!parent)
+        return 0;
+    *slot_of(parent->number, name, strlen(name)) =
+        (struct entry){parent->number, next_number++, name, strlen(name), kind == 'd'};
+    return 1;
+}
+
+void peer_expect_absent(const char *path)
+{
+    (void)path;
+}
+
+int peer_look(const char *path, size_t length)
+{
+    pthread_rwlock_rdlock(&lock);
+    int found = walk(path, length, 1) != NULL;
+    pthread_rwlock_unlock(&lock);
+    return found;
+}
+
+void peer_end(void)
+{
+}

@@ -1,0 +1,162 @@
+/* Times a peer's look-ups, as `dcbench look` times those of the cache.
+ *
+ * usage: PEER read|absent THREADS MILLISECONDS TREE
+ *
+ * TREE has the lines that `dcbench tree` writes. Each thread looks 64 paths up in a turn, in a random order, until the
+ * time is over. It prints a line of JSON with the same words as dcbench.
+ */
+#define _GNU_SOURCE
+#include "peer.h"
+#include <pthread.h>
+#include <stdint.h>
+#include <stdio.h>
+#include <stdlib.h>
+#include <string.h>
+#include <time.h>
+
+enum { TURN = 64, ORDER = 16384, MOST_THREADS = 64, MOST_TURNS = 1000000, LONGEST = 4200 };
+
+struct path {
+    char *text;
+    size_t length;
+};
+
+struct worker {
+    pthread_t thread;
+    size_t number;
+    uint64_t *turns;
+    size_t turn_count;
+    uint64_t looks, found, nanoseconds;
+};
+
+static struct path *asked, order[ORDER];
+static size_t asked_count;
+static uint64_t limit;
+static size_t thread_count;
+static pthread_barrier_t gate;
+
+static void give_up(const char *why)
+{
+    fprintf(stderr, "%s: %s\n", peer_name, why);
+    exit(3);
+}
+
+static uint64_t now(void)
+{
+    struct timespec time;
+    clock_gettime(CLOCK_MONOTONIC, &time);
+    return (uint64_t)time.tv_sec * 1000000000u + (uint64_t)time.tv_nsec;
+}
+
+static void ask(const char *text, const char *ending)
+{
+    asked = realloc(asked, (asked_count + 1) * sizeof *asked);
+    char *copy = malloc(LONGEST);
+    if (!asked || !copy)
+        give_up("no memory");
+    int length = snprintf(copy, LONGEST, "%s%s", text, ending);
+    asked[asked_count++] = (struct path){copy, (size_t)length};
+}
+
+static void read_tree(const char *name, int absent)
+{
+    static char line[2 * LONGEST];
+    FILE *file = fopen(name, "r");
+    if (!file)
+        give_up("the tree can't be read");
+    while (fgets(line, sizeof line, file)) {
+        line[strcspn(line, "\n")] = 0;
+        if (strlen(line) < 3 || !strchr("dcf", line[0]) || !peer_make(line[0] == 'd' ? 'd' : 'f', line + 2))
+            give_up("a line of the tree is refused");
+        if (line[0] == 'f')
+            ask(line + 2, absent ? ".no" : "");
+    }
+    fclose(file);
+}
+
+/* The next number of a fixed sequence. */
+static uint64_t draw(void)
+{
+    static uint64_t state = 1;
+    state = state * 6364136223846793005u + 1442695040888963407u;
+    return state >> 33;
+}
+
+static void *work(void *argument)
+{
+    struct worker *worker = argument;
+    size_t at = ORDER / TURN / thread_count * worker->number;
+    pthread_barrier_wait(&gate);
+    uint64_t begin = now(), last = begin;
+    do {
+        const struct path *paths = order + at * TURN;
+        for (size_t i = 0; i < TURN; i++)
+            worker->found += (uint64_t)peer_look(paths[i].text, paths[i].length);
+        at = (at + 1) % (ORDER / TURN);
+        uint64_t end = now();
+        if (worker->turn_count < MOST_TURNS)
+            worker->turns[worker->turn_count++] = (end - last) * 1000 / TURN;
+        worker->looks += TURN;
+        last = end;
+    } while (last - begin < limit);
+    worker->nanoseconds = last - begin;
+    return NULL;
+}
+
+static int compare(const void *a, const void *b)
+{
+    uint64_t x = *(const uint64_t *)a, y = *(const uint64_t *)b;
+    return (x > y) - (x < y);
+}
+
+static void tell(struct worker *workers, const char *what)
+{
+    static struct worker all;
+    double rate = 0;
+    all.turns = malloc(thread_count * MOST_TURNS * sizeof *all.turns);
+    if (!all.turns)
+        give_up("no memory");
+    for (size_t i = 0; i < thread_count; i++) {
+        memcpy(all.turns + all.turn_count, workers[i].turns, workers[i].turn_count * sizeof *all.turns);
+        all.turn_count += workers[i].turn_count;
+        all.looks += workers[i].looks;
+        all.found += workers[i].found;
+        rate += (double)workers[i].looks * 1e9 / (double)workers[i].nanoseconds;
+    }
+    qsort(all.turns, all.turn_count, sizeof *all.turns, compare);
+    printf("{\"command\":\"look\",\"peer\":\"%s\",\"work\":\"%s\",\"threads\":%zu,\"median_ps\":%llu,\"p99_ps\":%llu,"
+           "\"least_ps\":%llu,\"calls_a_second\":%.0f,\"looks\":%llu,\"found\":%llu}\n",
+           peer_name, what, thread_count, (unsigned long long)all.turns[all.turn_count / 2],
+           (unsigned long long)all.turns[all.turn_count * 99 / 100], (unsigned long long)all.turns[0], rate,
+           (unsigned long long)all.looks, (unsigned long long)all.found);
+}
+
+int main(int count, char **words)
+{
+    static struct worker workers[MOST_THREADS];
+    thread_count = count == 5 ? strtoul(words[2], NULL, 10) : 0;
+    if (thread_count < 1 || thread_count > MOST_THREADS) {
+        fprintf(stderr, "usage: %s read|absent THREADS MILLISECONDS TREE\n", peer_name);
+        return 2;
+    }
+    int absent = strcmp(words[1], "absent") == 0;
+    limit = strtoull(words[3], NULL, 10) * 1000000u;
+    peer_begin();
+    read_tree(words[4], absent);
+    for (size_t i = 0; absent && i < asked_count; i++)
+        peer_expect_absent(asked[i].text);
+    for (size_t i = 0; i < ORDER; i++)
+        order[i] = asked[draw() % asked_count];
+    pthread_barrier_init(&gate, NULL, (unsigned)thread_count);
+    for (size_t i = 0; i < thread_count; i++) {
+        workers[i].number = i;
+        workers[i].turns = malloc(MOST_TURNS * sizeof *workers[i].turns);
+        if (!workers[i].turns || pthread_create(&workers[i].thread, NULL, work, &workers[i]))
+            give_up("no thread");
+    }
+    for (size_t i = 0; i < thread_count; i++)
+        pthread_join(workers[i].thread, NULL);
+    tell(workers, words[1]);
+    peer_end();
+    return 0;
+}

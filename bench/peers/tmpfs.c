@@ -1,0 +1,54 @@
+/* The kernel's tmpfs: faccessat by paths below a folder of /dev/shm, one system call a look-up. */
+#define _GNU_SOURCE
+#include "peer.h"
+#include <fcntl.h>
+#include <ftw.h>
+#include <stdio.h>
+#include <stdlib.h>
+#include <sys/stat.h>
+#include <unistd.h>
+
+const char *const peer_name = "tmpfs";
+
+static char folder[] = "/dev/shm/peer-XXXXXX";
+static int top = -1;
+
+void peer_begin(void)
+{
+    if (mkdtemp(folder))
+        top = open(folder, O_DIRECTORY | O_RDONLY);
+    if (top < 0) {
+        perror(folder);
+        exit(3);
+    }
+}
+
+int peer_make(char kind, const char *path)
+{
+    if (kind == 'd')
+        return mkdirat(top, path + 1, 0700) == 0;
+    int file = openat(top, path + 1, O_CREAT | O_EXCL | O_WRONLY, 0600);
+    return file >= 0 && close(file) == 0;
+}
+
+void peer_expect_absent(const char *path)
+{
+    (void)path;
+}
+
+int peer_look(const char *path, size_t length)
+{
+    (void)length;
+    return faccessat(top, path + 1, F_OK, 0) == 0;
+}
+
+static int drop(const char *path, const struct stat *stat, int kind, struct FTW *walk)
+{
+    (void)stat, (void)kind, (void)walk;
+    return remove(path);
+}
+
+void peer_end(void)
+{
+    nftw(folder, drop, 16, FTW_DEPTH | FTW_PHYS);
+}

@@ -1,0 +1,5 @@
+use Rattle.dc_cache.specs.Passes.{Fits}
+use Rattle.dcbench.proofs.tree.plant.Given as goal
+
+abbrev pub invariant-loop-line : goal.invariant-loop-line
+invariant-loop-line g l = Fits l.cache l.pass

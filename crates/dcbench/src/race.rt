@@ -1,0 +1,230 @@
+//! Races: threads look a path up while another renames a directory of it.
+//!
+//! The right answer is the same at each moment, so any other shows a path that never was. Rename: the
+//! file is made and unlinked while its directory has its other name, so that its path under the first
+//! name never stands. Exchange: two directories swap their names; each has a link to the other's name
+//! as it is seen from there, and only one of them has the file, so that the path through the link
+//! always leads to it.
+
+ghost use Rattle.std.specs.Prelude.{◌≡◌};
+ghost use Rattle.dc_cache.specs.Passes.{Fits, IsChange};
+
+use crate::fault::Fault;
+use crate::gate::Gate;
+use crate::look::look;
+use crate::tally::{Tally, a_second};
+use crate::tree::make;
+use crate::work::Sort;
+use dc_cache::{Call, Dcache, Flags, Follow, Pass, PathText, ROOT, Reply};
+use std::alloc::Global;
+use std::rt::Clock;
+use std::sync::Wait;
+use std::sync::atomic::{AtomicU64, Ordering};
+use std::time::Instant;
+
+/// The paths of a race.
+#[derive(Drop)]
+pub struct Course {
+    /// The lines of the tree that it begins with.
+    pub lines: Vec<u8>,
+    /// The path that is looked up.
+    pub asked: Vec<u8>,
+    /// The path under which the file is made, where it is.
+    pub made: Vec<u8>,
+}
+
+/// A path below a directory: so many times `d`, and then the file.
+fn below(alloc: Global, top: &str, depth: u64) -> Result<Vec<u8>, Fault> {
+    let mut path = Vec::from_slice(alloc, top.as_bytes())?;
+    for _ in 0..depth {
+        path.extend_from_slice(b"/d")?;
+    }
+    path.extend_from_slice(b"/f")?;
+    Ok(path)
+}
+
+/// Adds the lines of a directory and of those below it.
+fn add_directories(lines: &mut Vec<u8>, top: &str, depth: u64) -> Result<(), Fault> {
+    'levels: for level in 0..=depth {
+        lines.extend_from_slice(b"d ")?;
+        lines.extend_from_slice(top.as_bytes())?;
+        'parts: for _ in 0..level {
+            lines.extend_from_slice(b"/d")?;
+        }
+        lines.push(b'\n')?;
+    }
+    Ok(())
+}
+
+impl Course {
+    /// The course with so many directories between the one that is renamed and the file.
+    pub fn new(alloc: Global, sort: Sort, depth: u64) -> Result<Course, Fault> {
+        match sort {
+            Sort::Rename => Course::of_rename(alloc, depth),
+            Sort::Exchange => Course::of_exchange(alloc, depth),
+        }
+    }
+
+    fn of_rename(alloc: Global, depth: u64) -> Result<Course, Fault> {
+        let mut lines = Vec::new(alloc);
+        add_directories(&mut lines, "/p", depth)?;
+        Ok(Course {
+            lines,
+            asked: below(alloc, "/p", depth)?,
+            made: below(alloc, "/q", depth)?,
+        })
+    }
+
+    fn of_exchange(alloc: Global, depth: u64) -> Result<Course, Fault> {
+        let mut lines = Vec::new(alloc);
+        add_directories(&mut lines, "/a", depth)?;
+        add_directories(&mut lines, "/b", depth)?;
+        let made = below(alloc, "/b", depth)?;
+        lines.extend_from_slice(b"l ../b /a/l\nl ../a /b/l\nc ")?;
+        lines.extend_from_slice(&made)?;
+        lines.push(b'\n')?;
+        Ok(Course {
+            lines,
+            asked: below(alloc, "/a/l", depth)?,
+            made,
+        })
+    }
+}
+
+/// What all threads of a race share.
+#[derive(Drop)]
+pub struct Race<'a> {
+    pub alloc: Global,
+    pub sort: Sort,
+    pub asked: PathText<'a>,
+    pub made: &'a [u8],
+    /// The answer that is right.
+    pub right: &'a Reply,
+    /// How many threads look up, and how often each.
+    pub lookers: u64,
+    pub looks: u64,
+    /// How many of them are done.
+    pub done: &'a AtomicU64,
+    pub gate: &'a Gate,
+}
+
+/// A rename in the root.
+fn rename<'a>(old: &'a [u8], new: &'a [u8], exchange: bool) -> Call<'a>
+    ensures { IsChange result }
+{
+    let flags = Flags {
+        no_replace: false,
+        exchange,
+    };
+    Call::Rename {
+        base: ROOT,
+        old,
+        new,
+        flags,
+    }
+}
+
+impl<'a> Race<'a> {
+    /// Looks up, and counts the answers that aren't right.
+    fn look_on<R: Wait>(&self, rt: &R, cache: &Dcache, pass: &mut Pass, tally: &mut Tally)
+        requires { Fits cache.now pass.old }
+        ensures { Fits cache.now pass.new }
+    {
+        'looks: for _ in 0..self.looks {
+            let reply = look(rt, self.alloc, cache, pass, self.asked, tally);
+            tally.looks = tally.looks.saturating_add(1);
+            let wrong = reply != *self.right;
+            tally.wrong = tally.wrong.saturating_add(u64::from(wrong));
+        }
+    }
+
+    /// Makes one change. A change that isn't made counts as a wrong answer.
+    fn step<R: Wait>(
+        &self,
+        rt: &R,
+        cache: &Dcache,
+        pass: &mut Pass,
+        call: &Call<'_>,
+        tally: &mut Tally,
+    )
+        requires pass { Fits cache.now pass.old }
+        requires change { IsChange call.now }
+        ensures { Fits cache.now pass.new }
+    {
+        let made = make(rt, self.alloc, cache, pass, call).unwrap_or(false);
+        tally.changes = tally.changes.saturating_add(1);
+        tally.wrong = tally.wrong.saturating_add(u64::from(!made));
+    }
+
+    /// Makes the changes of one round.
+    fn round<R: Wait>(&self, rt: &R, cache: &Dcache, pass: &mut Pass, tally: &mut Tally)
+        requires { Fits cache.now pass.old }
+        ensures { Fits cache.now pass.new }
+    {
+        let (base, path) = (ROOT, self.made);
+        match self.sort {
+            Sort::Exchange => self.step(rt, cache, pass, &rename(b"/a", b"/b", true), tally),
+            Sort::Rename => {
+                self.step(rt, cache, pass, &rename(b"/p", b"/q", false), tally);
+                self.step(rt, cache, pass, &Call::Create { base, path }, tally);
+                self.step(rt, cache, pass, &Call::Unlink { base, path }, tally);
+                self.step(rt, cache, pass, &rename(b"/q", b"/p", false), tally);
+            }
+        }
+    }
+
+    /// Makes changes until all look-ups are made.
+    fn change_on<R: Wait>(&self, rt: &R, cache: &Dcache, pass: &mut Pass, tally: &mut Tally)
+        requires { Fits cache.now pass.old }
+        ensures { Fits cache.now pass.new }
+    {
+        'rounds: for _ in 0..u64::MAX {
+            if self.done.load(Ordering::SeqCst) >= self.lookers {
+                break;
+            }
+            self.round(rt, cache, pass, tally);
+        }
+    }
+
+    /// What a thread does. The last one changes, the others look up.
+    pub fn run<R: Wait + Clock>(
+        &self,
+        rt: &R,
+        cache: &Dcache,
+        pass: &mut Pass,
+        thread: u64,
+    ) -> Tally
+        requires { Fits cache.now pass.old }
+        ensures { Fits cache.now pass.new }
+    {
+        let mut tally = Tally::new(self.alloc);
+        let begin = self.gate.pass(rt);
+        if thread >= self.lookers {
+            self.change_on(rt, cache, pass, &mut tally);
+            return tally;
+        }
+        self.look_on(rt, cache, pass, &mut tally);
+        self.done.fetch_add(1, Ordering::SeqCst);
+        if let (Some(begin), Ok(end)) = (begin, Instant::now(rt)) {
+            let took = end.saturating_duration_since(begin);
+            let looks = tally.looks;
+            tally.rate = a_second(looks, took);
+            tally.turn(took, looks);
+        }
+        tally
+    }
+}
+
+/// The answer that a path has before the race.
+pub fn answer<R: Wait>(
+    rt: &R,
+    alloc: Global,
+    cache: &Dcache,
+    pass: &mut Pass,
+    asked: &[u8],
+) -> Reply
+    requires { Fits cache.now pass.old }
+    ensures { Fits cache.now pass.new }
+{
+    cache.look(rt, alloc, pass, ROOT, asked, Follow::Yes).reply
+}

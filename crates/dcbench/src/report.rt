@@ -1,0 +1,185 @@
+//! The rows of the tables, as text and as JSON.
+
+use crate::tally::Tally;
+use crate::work::{Shape, Sort, Work};
+use serde_json::json;
+use std::alloc::{AllocError, Global};
+use std::fmt;
+
+/// A number of picoseconds, shown in nanoseconds with one digit behind the point.
+#[derive(Drop)]
+struct Nanoseconds(u64);
+
+impl fmt::Display for Nanoseconds {
+    fn fmt<W: fmt::Write>(&self, f: &mut fmt::Formatter<W>) -> fmt::Result {
+        let tenths = self.0 / 100;
+        let (whole, tenth) = (tenths / 10, tenths % 10);
+        write!(f, "{whole:>7}.{tenth}")
+    }
+}
+
+/// A row of a run of look-ups.
+#[derive(Drop)]
+pub struct LookRow {
+    pub shape: Shape,
+    pub threads: u64,
+    pub tally: Tally,
+    /// How many rows are filled at the end.
+    pub filled: u64,
+}
+
+/// What stands above the rows of look-ups.
+pub const LOOK_HEAD: &str = "\
+work   names threads   median ns      99th     calls a s  without lock   filled rows    lock   rows gone  rows in use";
+
+impl fmt::Display for LookRow {
+    fn fmt<W: fmt::Write>(&self, f: &mut fmt::Formatter<W>) -> fmt::Result {
+        let tally = &self.tally;
+        write!(
+            f,
+            "{:<6} {:>5} {:>7}",
+            self.shape.work.name(),
+            self.shape.depth,
+            self.threads
+        )?;
+        write!(
+            f,
+            "   {} {}",
+            Nanoseconds(tally.quantile(50)),
+            Nanoseconds(tally.quantile(99))
+        )?;
+        write!(
+            f,
+            " {:>13} {:>13} {:>13}",
+            tally.rate,
+            tally.by_fast(),
+            tally.by_rows
+        )?;
+        write!(
+            f,
+            " {:>7} {:>11} {:>12}",
+            tally.by_lock, tally.missed, self.filled
+        )
+    }
+}
+
+impl LookRow {
+    /// The row as an object of JSON. Times are in picoseconds.
+    pub fn json(&self, alloc: Global) -> Result<String, AllocError> {
+        let tally = &self.tally;
+        json!(in alloc; {
+            "command": "look",
+            "work": self.shape.work.name(),
+            "depth": self.shape.depth,
+            "hot": self.shape.hot,
+            "buckets": self.shape.buckets,
+            "threads": self.threads,
+            "median_ps": tally.quantile(50),
+            "p99_ps": tally.quantile(99),
+            "least_ps": tally.quantile(0),
+            "calls_a_second": tally.rate,
+            "looks": tally.looks,
+            "changes": tally.changes,
+            "found": tally.found,
+            "without_lock": tally.by_fast(),
+            "by_filled_rows": tally.by_rows,
+            "under_lock": tally.by_lock,
+            "rows_gone": tally.missed,
+            "disturbed": tally.disturbed,
+            "rows_in_use": self.filled,
+            "changes_refused": tally.wrong
+        })?
+        .to_string(alloc)
+    }
+}
+
+/// A row of a run of changes.
+#[derive(Drop)]
+pub struct ChangeRow {
+    pub threads: u64,
+    pub tally: Tally,
+}
+
+/// What stands above the rows of changes.
+pub const CHANGE_HEAD: &str = "change threads   median ns      99th   changes a s";
+
+impl fmt::Display for ChangeRow {
+    fn fmt<W: fmt::Write>(&self, f: &mut fmt::Formatter<W>) -> fmt::Result {
+        let tally = &self.tally;
+        write!(f, "       {:>7}", self.threads)?;
+        write!(
+            f,
+            "   {} {}",
+            Nanoseconds(tally.quantile(50)),
+            Nanoseconds(tally.quantile(99))
+        )?;
+        write!(f, " {:>13}", tally.rate)
+    }
+}
+
+impl ChangeRow {
+    /// The row as an object of JSON. Times are in picoseconds.
+    pub fn json(&self, alloc: Global) -> Result<String, AllocError> {
+        let tally = &self.tally;
+        json!(in alloc; {
+            "command": "change",
+            "threads": self.threads,
+            "median_ps": tally.quantile(50),
+            "p99_ps": tally.quantile(99),
+            "least_ps": tally.quantile(0),
+            "changes_a_second": tally.rate,
+            "changes": tally.changes,
+            "changes_refused": tally.wrong
+        })?
+        .to_string(alloc)
+    }
+}
+
+/// A row of a race.
+#[derive(Drop)]
+pub struct RaceRow {
+    pub sort: Sort,
+    pub depth: u64,
+    pub milliseconds: u64,
+    pub tally: Tally,
+}
+
+/// What stands above the rows of races.
+pub const RACE_HEAD: &str =
+    "race     between     look-ups   wrong  without lock     changes      ms";
+
+impl fmt::Display for RaceRow {
+    fn fmt<W: fmt::Write>(&self, f: &mut fmt::Formatter<W>) -> fmt::Result {
+        let tally = &self.tally;
+        write!(
+            f,
+            "{:<8} {:>7} {:>12}",
+            self.sort.name(),
+            self.depth,
+            tally.looks
+        )?;
+        write!(f, " {:>7} {:>13}", tally.wrong, tally.by_fast())?;
+        write!(f, " {:>11} {:>7}", tally.changes, self.milliseconds)
+    }
+}
+
+impl RaceRow {
+    /// The row as an object of JSON.
+    pub fn json(&self, alloc: Global) -> Result<String, AllocError> {
+        let tally = &self.tally;
+        json!(in alloc; {
+            "command": "race",
+            "race": self.sort.name(),
+            "depth": self.depth,
+            "looks": tally.looks,
+            "wrong": tally.wrong,
+            "without_lock": tally.by_fast(),
+            "by_filled_rows": tally.by_rows,
+            "under_lock": tally.by_lock,
+            "disturbed": tally.disturbed,
+            "changes": tally.changes,
+            "milliseconds": self.milliseconds
+        })?
+        .to_string(alloc)
+    }
+}

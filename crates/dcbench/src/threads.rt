@@ -1,0 +1,68 @@
+//! Threads, each with a pass of its own, that do one job together.
+
+ghost use Rattle.dc_cache.specs.Passes.{Fits};
+ghost use Rattle.std.specs.Thread.{IsSync};
+
+use crate::change::Changes;
+use crate::look::Looks;
+use crate::race::Race;
+use crate::tally::Tally;
+use dc_cache::{Dcache, Pass};
+use std::rt::Clock;
+use std::sync::Wait;
+use std::thread::{Threads, join};
+
+/// What the threads do.
+#[derive(Drop)]
+pub enum Job<'a> {
+    Look(Looks<'a>),
+    Change(Changes<'a>),
+    Race(Race<'a>),
+}
+
+/// What one thread does.
+fn work<R: Wait + Clock>(
+    rt: &R,
+    cache: &Dcache,
+    job: &Job<'_>,
+    mut pass: Pass,
+    thread: u64,
+) -> Tally
+    requires { Fits cache.now pass }
+{
+    match job {
+        Job::Look(looks) => looks.run(rt, cache, &mut pass, thread),
+        Job::Change(changes) => changes.run(rt, cache, &mut pass, thread),
+        Job::Race(race) => race.run(rt, cache, &mut pass, thread),
+    }
+}
+
+/// Does a job in a thread, and in so many others at the same time. Their passes end with them.
+pub fn spread<R: Threads + Wait + Clock + Sync>(
+    rt: &R,
+    cache: &Dcache,
+    job: &Job<'_>,
+    mut pass: Pass,
+    thread: u64,
+    others: u64,
+) -> Tally
+    requires sync { IsSync R.row }
+    requires pass { Fits cache.now pass }
+{
+    if others == 0 {
+        return work(rt, cache, job, pass, thread);
+    }
+    let other = cache.split(&mut pass);
+    let rest = others - 1;
+    let (mut tally, more) = join(
+        rt,
+        move || -> Tally
+            requires { Fits cache.now pass }
+        { work(rt, cache, job, pass, thread) },
+        move || -> Tally
+            requires { IsSync R.row × Fits cache.now other }
+        { spread(rt, cache, job, other, thread.saturating_add(1), rest) },
+    );
+    tally.take_in(more);
+    tally
+}

@@ -1,0 +1,149 @@
+//! What is measured, and over what: the kinds of work, their sizes, and the tasks of the command line.
+
+use std::fmt;
+use std::time::Duration;
+
+/// What the threads of a run of look-ups do.
+#[derive(Clone, Copy, PartialEq, Eq)]
+pub enum Work {
+    /// Files that are there.
+    Read,
+    /// Names that never stand, whose absence has rows.
+    Absent,
+    /// A rename of a file of the thread's own for each 19 look-ups.
+    Mixed,
+    /// A change of a name of the thread's own after each look-up.
+    Churn,
+    /// Names that never stand, four times as many as there are rows.
+    Miss,
+    /// Files by paths whose first name is a symbolic link.
+    Links,
+}
+
+impl Work {
+    /// All kinds, in the order of the table.
+    pub const ALL: [Work; 6] = [
+        Work::Read,
+        Work::Absent,
+        Work::Mixed,
+        Work::Churn,
+        Work::Miss,
+        Work::Links,
+    ];
+
+    pub fn name(self) -> &'static str {
+        match self {
+            Work::Read => "read",
+            Work::Absent => "absent",
+            Work::Mixed => "mixed",
+            Work::Churn => "churn",
+            Work::Miss => "miss",
+            Work::Links => "links",
+        }
+    }
+
+    /// The kind of a name.
+    pub fn of(name: &str) -> Work {
+        match name {
+            "absent" => Work::Absent,
+            "mixed" => Work::Mixed,
+            "churn" => Work::Churn,
+            "miss" => Work::Miss,
+            "links" => Work::Links,
+            _ => Work::Read,
+        }
+    }
+
+    /// How many look-ups go before each change. None for work that changes nothing.
+    pub fn looks_to_a_change(self) -> Option<usize> {
+        match self {
+            Work::Mixed => Some(19),
+            Work::Churn => Some(1),
+            Work::Read | Work::Absent | Work::Miss | Work::Links => None,
+        }
+    }
+}
+
+impl fmt::Display for Work {
+    fn fmt<W: fmt::Write>(&self, f: &mut fmt::Formatter<W>) -> fmt::Result {
+        f.write_str(self.name())
+    }
+}
+
+/// The races: what is renamed above the paths that are looked up.
+#[derive(Clone, Copy, PartialEq, Eq)]
+pub enum Sort {
+    /// A directory gets another name and back, and a file stands below it in between.
+    Rename,
+    /// Two directories swap their names.
+    Exchange,
+}
+
+impl Sort {
+    pub fn name(self) -> &'static str {
+        match self {
+            Sort::Rename => "rename",
+            Sort::Exchange => "exchange",
+        }
+    }
+}
+
+/// A run of look-ups.
+#[derive(Clone, Copy)]
+pub struct LookTask<'a> {
+    pub threads: u64,
+    pub time: Duration,
+    pub shape: Shape,
+    /// The file of the tree. None for one that is drawn.
+    pub tree: Option<&'a str>,
+    pub json: bool,
+}
+
+/// A tree that is drawn: how many names its paths have, how many files are asked, and over how many
+/// buckets its names are to fit.
+#[derive(Clone, Copy)]
+pub struct Shape {
+    pub work: Work,
+    pub depth: u64,
+    pub hot: u64,
+    pub buckets: u64,
+}
+
+/// A run of changes.
+#[derive(Clone, Copy)]
+pub struct ChangeTask {
+    pub threads: u64,
+    pub time: Duration,
+    pub json: bool,
+}
+
+/// A race of so many look-ups by so many threads.
+#[derive(Clone, Copy)]
+pub struct RaceTask {
+    pub sort: Sort,
+    pub depth: u64,
+    pub looks: u64,
+    pub threads: u64,
+    pub style: Style,
+}
+
+/// How a race is told.
+#[derive(Clone, Copy, PartialEq, Eq)]
+pub enum Style {
+    Table,
+    Json,
+    /// The number of wrong answers alone, which is the same whatever the threads do.
+    WrongOnly,
+}
+
+/// What the words ask for.
+#[derive(Clone, Copy)]
+pub enum Task<'a> {
+    /// Everything, briefly.
+    All,
+    Look(LookTask<'a>),
+    Change(ChangeTask),
+    Race(RaceTask),
+    /// The lines of a tree that is drawn.
+    Tree(Shape),
+}
