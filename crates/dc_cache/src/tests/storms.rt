@@ -146,22 +146,46 @@ fn work_in_four<R: Threads + Wait + Sync>(
     pass
 }
 
+/// Whether a name is found to be absent, at the point that is answered.
+fn absent_at<R: Wait>(
+    rt: &R,
+    alloc: Global,
+    cache: &Dcache,
+    pass: &mut Pass,
+    name: &[u8],
+) -> Option<u64>
+    requires { Fits cache.now pass.old }
+    ensures { Fits cache.now pass.new }
+{
+    let found = cache.look(rt, alloc, pass, ROOT, name, Follow::Yes);
+    if found.reply == Reply::Refused(2) {
+        Some(found.at)
+    } else {
+        None
+    }
+}
+
+/// Whether a row tells that a name is absent.
+fn is_told(cache: &Dcache, pass: &mut Pass, name: &[u8], at: u64) -> bool
+    requires { Fits cache.now pass.old }
+    ensures { Fits cache.now pass.new }
+{
+    is_done(&look_fast(cache, pass, name), &Reply::Refused(2), at)
+}
+
 #[test]
 fn no_pin_outlives_its_walk(rt: HostRuntime) -> Result<(), Fail> {
     let (cache, pass) = Dcache::new(rt.alloc(), 1, 64).expect(&rt, "memory");
     let mut pass = work_in_four(&rt, rt.alloc(), &cache, pass);
     assert!(rt; cache.shrink(&rt, &mut pass, 4) <= 4);
     assert!(rt; cache.shrink(&rt, &mut pass, 4) == 0);
-    let absent = [b"w".as_slice(), b"x", b"y", b"z"];
-    let mut clock = 0;
-    for name in absent {
-        let found = cache.look(&rt, rt.alloc(), &mut pass, ROOT, name, Follow::Yes);
-        assert!(rt; found.reply == Reply::Refused(2));
-        clock = found.at;
-    }
-    for name in absent {
-        let found = look_fast(&cache, &mut pass, name);
-        assert!(rt; is_done(&found, &Reply::Refused(2), clock));
-    }
+    assert!(rt; absent_at(&rt, rt.alloc(), &cache, &mut pass, b"w").is_some());
+    assert!(rt; absent_at(&rt, rt.alloc(), &cache, &mut pass, b"x").is_some());
+    assert!(rt; absent_at(&rt, rt.alloc(), &cache, &mut pass, b"y").is_some());
+    let at = absent_at(&rt, rt.alloc(), &cache, &mut pass, b"z").expect(&rt, "an absent name");
+    assert!(rt; is_told(&cache, &mut pass, b"w", at));
+    assert!(rt; is_told(&cache, &mut pass, b"x", at));
+    assert!(rt; is_told(&cache, &mut pass, b"y", at));
+    assert!(rt; is_told(&cache, &mut pass, b"z", at));
     Ok(())
 }
