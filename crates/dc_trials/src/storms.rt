@@ -1,13 +1,15 @@
 //! Eight sessions that rename directories above one another's paths, a hundred times, each time judged by
 //! the checker.
 
+ghost use Rattle.std.specs.Thread.{IsSync};
+
 use crate::changes::next;
 use crate::sessions::{INODES, record, verdict};
 use dc_check::{PhasedVerdict, Verdict, check};
 use std::alloc::{AllocError, Global};
+use std::sync::Wait;
 use std::test::Fail;
-
-const RUNS: u64 = 100;
+use std::thread::Threads;
 
 const SESSIONS: u64 = 8;
 
@@ -77,20 +79,53 @@ fn lines(alloc: Global, mut seed: u64) -> Result<(Vec<u8>, u64), AllocError> {
     Ok((input, seed))
 }
 
+/// Runs the lines of one run, and says whether each was answered, and the checker finds the record legal, by
+/// phases too; and the seed of the next run.
+fn storm<R: Threads + Wait + Sync>(
+    rt: &R,
+    alloc: Global,
+    buckets: u64,
+    seed: u64,
+) -> Result<(bool, u64), Fail>
+    requires sync { IsSync R.row }
+{
+    let (input, later) = lines(alloc, seed)?;
+    let stamps = record(rt, alloc, buckets, &input)?;
+    let answered = stamps.len() as u64 == SESSIONS * PHASES * LINES;
+    let alone = check(alloc, INODES, &stamps)? == Verdict::Legal;
+    let phased = verdict(alloc, &input, &stamps)? == PhasedVerdict::Legal;
+    Ok((answered && alone && phased, later))
+}
+
 #[test]
-fn storms_of_sessions_are_legal(rt: HostRuntime) -> Result<(), Fail> {
-    let alloc = rt.alloc();
+fn storms_on_one_bucket_are_legal(rt: HostRuntime) -> Result<(), Fail> {
     let mut seed = 1;
-    for run in 0..RUNS {
-        let (input, later) = lines(alloc, seed)?;
+    for run in 0..34 {
+        let (legal, later) = storm(&rt, rt.alloc(), 1, seed)?;
+        assert!(rt; legal, "run {run}");
         seed = later;
-        let buckets = [1, 16, 256][run as usize % 3];
-        let stamps = record(&rt, alloc, buckets, &input)?;
-        assert_eq!(rt; stamps.len() as u64, SESSIONS * PHASES * LINES);
-        let alone = check(alloc, INODES, &stamps)?;
-        assert!(rt; alone == Verdict::Legal, "run {run}: {alone:?}");
-        let phased = verdict(alloc, &input, &stamps)?;
-        assert!(rt; phased == PhasedVerdict::Legal, "run {run}: {phased:?}");
+    }
+    Ok(())
+}
+
+#[test]
+fn storms_on_sixteen_buckets_are_legal(rt: HostRuntime) -> Result<(), Fail> {
+    let mut seed = 2;
+    for run in 0..33 {
+        let (legal, later) = storm(&rt, rt.alloc(), 16, seed)?;
+        assert!(rt; legal, "run {run}");
+        seed = later;
+    }
+    Ok(())
+}
+
+#[test]
+fn storms_on_many_buckets_are_legal(rt: HostRuntime) -> Result<(), Fail> {
+    let mut seed = 3;
+    for run in 0..33 {
+        let (legal, later) = storm(&rt, rt.alloc(), 256, seed)?;
+        assert!(rt; legal, "run {run}");
+        seed = later;
     }
     Ok(())
 }
