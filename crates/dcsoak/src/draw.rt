@@ -7,7 +7,7 @@ use rand_pcg::rand_core::Rng;
 use std::alloc::Global;
 
 /// What a path leads through.
-const INNER: [&[u8]; 8] = [b"a", b"b", b"c", b"a", b"b", b"l", b"..", b"."];
+const INNER: [&[u8]; 8] = [b"a", b"a", b"a", b"b", b"b", b"c", b"l", b".."];
 
 /// What a path ends in.
 const LAST: [&[u8]; 8] = [b"a", b"b", b"c", b"x", b"y", b"l", b"m", b".."];
@@ -45,13 +45,22 @@ impl Draw {
         names.get(at).copied().unwrap_or(b"a")
     }
 
+    /// How many names a path leads through.
+    fn depth(&mut self) -> u32 {
+        match self.below(8) {
+            0..=3 => 0,
+            4..=6 => 1,
+            _ => 2,
+        }
+    }
+
     /// A path of one to three names.
     fn names(&mut self) -> Result<Vec<u8>, NoMemory> {
         let mut path = Vec::new(self.alloc);
         if self.below(4) > 0 {
             path.push(b'/')?;
         }
-        for _ in 0..self.below(3) {
+        for _ in 0..self.depth() {
             path.extend_from_slice(self.name(&INNER))?;
             path.push(b'/')?;
         }
@@ -93,7 +102,12 @@ impl Draw {
 
     /// A call.
     pub fn call(&mut self) -> Result<OwnCall, NoMemory> {
-        let (base, path) = (self.base, self.path()?);
+        let base = if self.below(2) == 0 {
+            ROOT.0
+        } else {
+            self.base
+        };
+        let path = self.path()?;
         Ok(match self.below(64) {
             0..=29 => OwnCall::Look {
                 base,

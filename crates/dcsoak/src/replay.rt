@@ -109,12 +109,14 @@ fn agree_at(
     number: u64,
 ) -> Result<bool, NoMemory> {
     let names = one.list(alloc, number)?;
-    Ok(one.kind(number) == other.kind(number)
-        && one.parent(number) == other.parent(number)
-        && one.text(number) == other.text(number)
-        && one.count(number) == other.count(number)
-        && names == other.list(alloc, number)?
-        && lead_alike(one, other, number, &names))
+    Ok(
+        one.kind(number) == other.kind(number)
+            && one.parent(number) == other.parent(number)
+            && one.text(number) == other.text(number)
+            && one.count(number) == other.count(number)
+            && names == other.list(alloc, number)?
+            && lead_alike(one, other, number, &names),
+    )
 }
 
 /// Whether both hold the same tree.

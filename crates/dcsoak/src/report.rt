@@ -36,7 +36,11 @@ impl Report {
 fn write_row<W: fmt::Write>(f: &mut fmt::Formatter<W>, row: &Tally) -> fmt::Result {
     let (calls, refused) = (sum(&row.calls), sum(&row.refused));
     let [looks, ..] = row.calls;
-    write!(f, " {:>7} {calls:>11} {refused:>11} {:>11}", row.rounds, row.changes)?;
+    write!(
+        f,
+        " {:>7} {calls:>11} {refused:>11} {:>11}",
+        row.rounds, row.changes
+    )?;
     write!(f, " {looks:>11} {:>13} {:>11}", row.hits, row.disturbed)?;
     writeln!(f, " {:>11} {:>13} {:>9}", row.held, row.emptied, row.splits)
 }

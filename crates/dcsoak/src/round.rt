@@ -22,6 +22,7 @@ pub const BUCKETS: [u64; 4] = [1, 2, 16, 1_024];
 
 /// The fewest threads of a round, and how many numbers of them there are.
 const LEAST: u64 = 2;
+
 const THREADS: u64 = 15;
 
 /// The sizes of a round, and what its calls are drawn by.
@@ -55,7 +56,10 @@ impl fmt::Display for Wrong {
             Wrong::Record(line, None) => write!(f, "record {line} is illegal"),
             Wrong::Tree => f.write_str("the tree isn't the one that the changes make"),
             Wrong::Clock(counted, made) => {
-                write!(f, "the cache counts {counted} changes, and {made} were made")
+                write!(
+                    f,
+                    "the cache counts {counted} changes, and {made} were made"
+                )
             }
             Wrong::Lost => f.write_str("the tree was lost"),
         }

@@ -43,13 +43,7 @@ impl Answers {
 }
 
 /// What one thread does. It gives its pass back.
-fn work<R: Wait>(
-    rt: &R,
-    cache: &Dcache,
-    job: Job,
-    mut pass: Pass,
-    number: u64,
-) -> (Pass, Worked)
+fn work<R: Wait>(rt: &R, cache: &Dcache, job: Job, mut pass: Pass, number: u64) -> (Pass, Worked)
     requires { Fits cache.now pass }
     ensures { Fits cache.now result.0 }
 {

@@ -153,9 +153,7 @@ fn change<R: Wait>(
             None => tally.count_held(),
         }
     }
-    cache
-        .change(rt, alloc, pass, call)
-        .map_err(|_| NoMemory)
+    cache.change(rt, alloc, pass, call).map_err(|_| NoMemory)
 }
 
 /// Empties rows.
