@@ -4,6 +4,7 @@
 mod args;
 mod draw;
 mod fault;
+mod gate;
 mod replay;
 mod report;
 mod round;

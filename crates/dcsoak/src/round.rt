@@ -1,8 +1,12 @@
 //! A round: a cache from its making to its end, shaken by some threads, and what is found out about it.
 
+ghost use Rattle.std.specs.Prelude.{◌≡◌, None, IfOk};
 ghost use Rattle.std.specs.Thread.{IsSync};
+ghost use Rattle.dc_check.specs.Stamps.{stamps_of};
+ghost use Rattle.dc_plain.specs.Legal.{IsLegal};
 
 use crate::fault::Fault;
+use crate::gate::Gate;
 use crate::replay::{Replay, agree};
 use crate::tally::Tally;
 use crate::threads::{Job, spread};
@@ -95,10 +99,12 @@ impl Round {
         requires sync { IsSync R.row }
     {
         let (cache, pass) = Dcache::new(alloc, self.buckets(), INODES)?;
+        let gate = Gate::new(self.threads);
         let job = Job {
             alloc,
             seed: self.seed,
             steps: self.steps,
+            gate: &gate,
         };
         let (pass, worked) = spread(rt, &cache, job, pass, 0, self.threads.saturating_sub(1));
         let answers = worked?;
@@ -133,7 +139,10 @@ pub fn judge(
     alloc: Global,
     stamps: Vec<Stamp>,
     ended: Option<Ended>,
-) -> Result<Option<Wrong>, NoMemory> {
+) -> Result<Option<Wrong>, NoMemory>
+    // Where nothing is wrong, the records are legal.
+    ensures { IfOk result (λ wrong. wrong ≡ None → IsLegal INODES (stamps_of stamps.items)) }
+{
     match check(alloc, INODES, &stamps)? {
         Verdict::BadReply(line) | Verdict::BadOrder(line) => {
             return Ok(Some(Wrong::Record(line, at_line(stamps, line))));

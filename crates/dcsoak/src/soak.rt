@@ -16,9 +16,9 @@ use std::time::Instant;
 const LEGAL: &str = "every record is legal, and each tree is the one that its changes make";
 
 /// Tells what is wrong about a round.
-fn tell_wrong<R: Print>(rt: &R, round: &Round, wrong: &Wrong) -> Result<(), Fault> {
+fn tell_wrong<R: Print>(rt: &R, round: &Round, calls: u64, wrong: &Wrong) -> Result<(), Fault> {
     let (seed, threads, buckets) = (round.seed, round.threads, round.buckets());
-    println!(rt; "{threads} threads on {buckets} buckets, --seed {seed}: {wrong}")?;
+    println!(rt; "--seed {seed} --calls {calls}, {threads} threads on {buckets} buckets: {wrong}")?;
     Ok(())
 }
 
@@ -46,7 +46,7 @@ pub fn soak<R: Threads + Wait + Clock + Sync + Print>(
         report.take_in(round.place, &played.tally);
         if let Some(wrong) = &played.wrong {
             tell(rt, &report, task)?;
-            tell_wrong(rt, &round, wrong)?;
+            tell_wrong(rt, &round, task.calls, wrong)?;
             return Err(Fault::Wrong);
         }
         let took = begin.elapsed(rt).map_err(|_| Fault::NoClock)?;

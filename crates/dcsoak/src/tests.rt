@@ -3,6 +3,7 @@
 ghost use Rattle.std.specs.Thread.{IsSync};
 
 use crate::draw::Draw;
+use crate::gate::Gate;
 use crate::replay::agree;
 use crate::round::{BUCKETS, INODES, Round, Wrong, judge};
 use crate::tally::{NAMES, Tally};
@@ -24,10 +25,12 @@ fn shaken<R: Threads + Wait + Sync>(
     requires sync { IsSync R.row }
 {
     let (cache, pass) = Dcache::new(alloc, 2, INODES)?;
+    let gate = Gate::new(1);
     let job = Job {
         alloc,
         seed,
         steps: 200,
+        gate: &gate,
     };
     let (pass, worked) = spread(rt, &cache, job, pass, 0, 0);
     Ok((worked?.stamps, cache.close(pass)))

@@ -3,6 +3,7 @@
 ghost use Rattle.dc_cache.specs.Passes.{Fits};
 ghost use Rattle.std.specs.Thread.{IsSync};
 
+use crate::gate::Gate;
 use crate::tally::Tally;
 use crate::thread::Thread;
 use dc_cache::{Dcache, Pass};
@@ -24,11 +25,12 @@ type Worked = Result<Answers, NoMemory>;
 
 /// What each of the threads does.
 #[derive(Clone, Copy)]
-pub struct Job {
+pub struct Job<'a> {
     pub alloc: Global,
     pub seed: u64,
     /// How many steps each takes.
     pub steps: u64,
+    pub gate: &'a Gate,
 }
 
 impl Answers {
@@ -43,11 +45,18 @@ impl Answers {
 }
 
 /// What one thread does. It gives its pass back.
-fn work<R: Wait>(rt: &R, cache: &Dcache, job: Job, mut pass: Pass, number: u64) -> (Pass, Worked)
+fn work<R: Wait>(
+    rt: &R,
+    cache: &Dcache,
+    job: Job<'_>,
+    mut pass: Pass,
+    number: u64,
+) -> (Pass, Worked)
     requires { Fits cache.now pass }
     ensures { Fits cache.now result.0 }
 {
     let mut thread = Thread::new(job.alloc, job.seed, number);
+    job.gate.pass();
     let done = thread.run(rt, job.alloc, cache, &mut pass, job.steps);
     let Thread { stamps, tally, .. } = thread;
     (pass, done.map(|()| Answers { stamps, tally }))
@@ -62,7 +71,7 @@ fn both(mine: Worked, others: Worked) -> Worked {
 pub fn spread<R: Threads + Wait + Sync>(
     rt: &R,
     cache: &Dcache,
-    job: Job,
+    job: Job<'_>,
     mut pass: Pass,
     number: u64,
     others: u64,
