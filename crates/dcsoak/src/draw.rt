@@ -1,7 +1,8 @@
 //! Calls that are drawn: of all eleven kinds, with paths of few names, so that threads meet one another.
 
+use dc_cache::ROOT;
 use dc_names::NoMemory;
-use dc_plain::{Flags, Follow, OwnCall, ROOT};
+use dc_plain::{Flags, Follow, OwnCall};
 use rand_pcg::Pcg32;
 use rand_pcg::rand_core::Rng;
 use std::alloc::Global;
@@ -30,7 +31,7 @@ impl Draw {
         Draw {
             alloc,
             rng: Pcg32::new(seed, thread),
-            base: ROOT.0,
+            base: ROOT,
         }
     }
 
@@ -102,11 +103,7 @@ impl Draw {
 
     /// A call.
     pub fn call(&mut self) -> Result<OwnCall, NoMemory> {
-        let base = if self.below(2) == 0 {
-            ROOT.0
-        } else {
-            self.base
-        };
+        let base = if self.below(2) == 0 { ROOT } else { self.base };
         let path = self.path()?;
         Ok(match self.below(64) {
             0..=29 => OwnCall::Look {

@@ -1,6 +1,6 @@
 //! The table of a run: a row for each number of buckets, and the calls by kind.
 
-use crate::round::BUCKETS;
+use crate::round::{BUCKETS, SORTS};
 use crate::tally::{NAMES, Tally, sum};
 use std::fmt;
 
@@ -11,7 +11,7 @@ buckets  caches       calls     refused     changes    look-ups  without lock   
 /// What was counted, by the place of the number of buckets.
 #[derive(Clone, Copy, Default)]
 pub struct Report {
-    rows: [Tally; BUCKETS.len()],
+    rows: [Tally; SORTS],
 }
 
 impl Report {

@@ -21,8 +21,11 @@ use std::thread::Threads;
 /// How many inodes may live in a cache. Threads meet this limit.
 pub const INODES: u64 = 48;
 
+/// How many numbers of buckets there are.
+pub const SORTS: usize = 4;
+
 /// The numbers of buckets, which caches have in turns.
-pub const BUCKETS: [u64; 4] = [1, 2, 16, 1_024];
+pub const BUCKETS: [u64; SORTS] = [1, 2, 16, 1_024];
 
 /// The fewest threads of a round, and how many numbers of them there are.
 const LEAST: u64 = 2;
@@ -80,10 +83,10 @@ pub struct Played {
 impl Round {
     /// The round of a number, with about so many calls.
     pub fn of(seed: u64, calls: u64) -> Round {
-        let threads = LEAST.saturating_add(seed / BUCKETS.len() as u64 % THREADS);
+        let threads = LEAST.saturating_add(seed / SORTS as u64 % THREADS);
         Round {
             seed,
-            place: (seed % BUCKETS.len() as u64) as usize,
+            place: (seed % SORTS as u64) as usize,
             threads,
             steps: calls.checked_div(threads).unwrap_or(1),
         }

@@ -63,6 +63,13 @@ fn add_at(counts: &mut [u64; KINDS], place: usize, more: u64) {
     }
 }
 
+/// Adds to all counts.
+fn add_all(counts: &mut [u64; KINDS], more: &[u64; KINDS]) {
+    for (count, more) in counts.iter_mut().zip(more) {
+        add(count, *more);
+    }
+}
+
 /// The sum of some counts.
 pub fn sum(counts: &[u64; KINDS]) -> u64 {
     counts
@@ -105,10 +112,8 @@ impl Tally {
 
     /// Takes in what another thread counted, or another cache.
     pub fn take_in(&mut self, other: &Tally) {
-        for kind in 0..KINDS {
-            add_at(&mut self.calls, kind, other.calls[kind]);
-            add_at(&mut self.refused, kind, other.refused[kind]);
-        }
+        add_all(&mut self.calls, &other.calls);
+        add_all(&mut self.refused, &other.refused);
         add(&mut self.hits, other.hits);
         add(&mut self.disturbed, other.disturbed);
         add(&mut self.held, other.held);

@@ -51,10 +51,10 @@ fn rounds_are_legal(rt: HostRuntime) -> Result<(), Fail> {
     assert!(rt; whole.rounds == 8 && whole.changes > 100);
     assert!(rt; whole.hits > 100 && whole.emptied > 10 && whole.splits > 10);
     // Calls of each kind are made and refused.
-    for (kind, name) in NAMES.iter().enumerate() {
-        let (made, refused) = (whole.calls[kind], whole.refused[kind]);
+    let counts = whole.calls.iter().zip(&whole.refused);
+    for (name, (made, refused)) in NAMES.iter().zip(counts) {
         assert!(rt;
-            0 < refused && refused < made,
+            0 < *refused && refused < made,
             "{name}: {refused} of {made}"
         );
     }
@@ -97,7 +97,9 @@ fn wrong_records_are_told(rt: HostRuntime) -> Result<(), Fail> {
     let (stamps, ended) = shaken(&rt, rt.alloc(), 1)?;
     assert!(rt; judge(rt.alloc(), stamps, ended)?.is_none());
     let (mut stamps, ended) = shaken(&rt, rt.alloc(), 1)?;
-    stamps[100].reply = Reply::Refused(99);
+    if let Some(stamp) = stamps.get_mut(100) {
+        stamp.reply = Reply::Refused(99);
+    }
     let wrong = judge(rt.alloc(), stamps, ended)?;
     assert!(rt; matches!(wrong, Some(Wrong::Record(101, Some(_)))));
     let (mut stamps, ended) = shaken(&rt, rt.alloc(), 1)?;
