@@ -101,7 +101,7 @@ impl Round {
     pub fn play<R: Threads + Wait + Sync>(&self, rt: &R, alloc: Global) -> Result<Played, Fault>
         requires sync { IsSync R.row }
     {
-        let (cache, pass) = Dcache::new(alloc, self.buckets(), INODES)?;
+        let (cache, mut pass) = Dcache::new(alloc, self.buckets(), INODES)?;
         let gate = Gate::new(self.threads);
         let job = Job {
             alloc,
@@ -109,8 +109,8 @@ impl Round {
             steps: self.steps,
             gate: &gate,
         };
-        let (pass, worked) = spread(rt, &cache, job, pass, 0, self.threads.saturating_sub(1));
-        let answers = worked?;
+        let other = cache.split(&mut pass);
+        let answers = spread(rt, &cache, job, other, 0, self.threads.saturating_sub(1))?;
         let ended = cache.close(pass);
         let mut tally = answers.tally;
         tally.rounds = 1;

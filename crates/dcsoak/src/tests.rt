@@ -24,7 +24,7 @@ fn shaken<R: Threads + Wait + Sync>(
 ) -> Result<(Vec<Stamp>, Option<Ended>), Fail>
     requires sync { IsSync R.row }
 {
-    let (cache, pass) = Dcache::new(alloc, 2, INODES)?;
+    let (cache, mut pass) = Dcache::new(alloc, 2, INODES)?;
     let gate = Gate::new(1);
     let job = Job {
         alloc,
@@ -32,8 +32,9 @@ fn shaken<R: Threads + Wait + Sync>(
         steps: 200,
         gate: &gate,
     };
-    let (pass, worked) = spread(rt, &cache, job, pass, 0, 0);
-    Ok((worked?.stamps, cache.close(pass)))
+    let other = cache.split(&mut pass);
+    let answers = spread(rt, &cache, job, other, 0, 0)?;
+    Ok((answers.stamps, cache.close(pass)))
 }
 
 #[test]

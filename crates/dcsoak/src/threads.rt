@@ -44,22 +44,15 @@ impl Answers {
     }
 }
 
-/// What one thread does. It gives its pass back.
-fn work<R: Wait>(
-    rt: &R,
-    cache: &Dcache,
-    job: Job<'_>,
-    mut pass: Pass,
-    number: u64,
-) -> (Pass, Worked)
+/// What one thread does. Its pass ends with it.
+fn work<R: Wait>(rt: &R, cache: &Dcache, job: Job<'_>, mut pass: Pass, number: u64) -> Worked
     requires { Fits cache.now pass }
-    ensures { Fits cache.now result.0 }
 {
     let mut thread = Thread::new(job.alloc, job.seed, number);
     job.gate.pass();
     let done = thread.run(rt, job.alloc, cache, &mut pass, job.steps);
     let Thread { stamps, tally, .. } = thread;
-    (pass, done.map(|()| Answers { stamps, tally }))
+    done.map(|()| Answers { stamps, tally })
 }
 
 /// Both answers, where there was memory for them.
@@ -67,7 +60,7 @@ fn both(mine: Worked, others: Worked) -> Worked {
     mine?.with(others?)
 }
 
-/// A thread at work, and so many others at the same time. Their passes are one again afterwards.
+/// A thread at work, and so many others at the same time. Their passes end with them.
 pub fn spread<R: Threads + Wait + Sync>(
     rt: &R,
     cache: &Dcache,
@@ -75,27 +68,23 @@ pub fn spread<R: Threads + Wait + Sync>(
     mut pass: Pass,
     number: u64,
     others: u64,
-) -> (Pass, Worked)
+) -> Worked
     requires sync { IsSync R.row }
     requires pass { Fits cache.now pass }
-    ensures { Fits cache.now result.0 }
 {
     if others == 0 {
         return work(rt, cache, job, pass, number);
     }
     let other = cache.split(&mut pass);
     let rest = others - 1;
-    let ((mut pass, mine), (other, theirs)) = join(
+    let (mine, theirs) = join(
         rt,
-        move || -> (Pass, Worked)
+        move || -> Worked
             requires { Fits cache.now pass }
-            ensures { Fits cache.entry.now result.0 }
         { work(rt, cache, job, pass, number) },
-        move || -> (Pass, Worked)
+        move || -> Worked
             requires { IsSync R.row × Fits cache.now other }
-            ensures { Fits cache.entry.now result.0 }
         { spread(rt, cache, job, other, number.saturating_add(1), rest) },
     );
-    cache.join(&mut pass, other);
-    (pass, both(mine, theirs))
+    both(mine, theirs)
 }

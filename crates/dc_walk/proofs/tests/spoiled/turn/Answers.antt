@@ -6,7 +6,7 @@ use Rattle.dc_walk.proofs.Probed.{rest_size}
 use Rattle.dc_walk.proofs.tests.spoiled.turn.Goals as goal
 
 pub check-third-requires : goal.check-third-requires
-check-third-requires c =
+check-third-requires g c =
     let e = c.in-Ok.ensures in let last = c.in-Ok.last in let path = c.args.path.now in
     let x = note_of 0 c.args.noted.now.0 in let y = note_of 1 c.args.noted.now.1 in
     let turned = by_hand 1 path (view c.args.pass.now) (view c.probe.new.pass) (view c.pivot-at.new.pass) x y 2 (get_or last 0 0) c.pivot-at.result (drop 1 last) c.requires.noted e.read c.pivot-at.ensures.view in
