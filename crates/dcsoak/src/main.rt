@@ -10,8 +10,6 @@ mod report;
 mod round;
 mod soak;
 mod tally;
-#[cfg(test)]
-mod tests;
 mod thread;
 mod threads;
 mod ways;
