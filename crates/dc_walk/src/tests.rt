@@ -6,6 +6,7 @@ ghost use Rattle.dc_walk.specs.Findings.{CanWalk};
 mod by_hand;
 mod causes;
 mod pinned;
+mod spoiled;
 
 use crate::{Fast, Look, Room, Why, walk_counted, walk_fast};
 use dc_names::{Kind, Name, parse};

@@ -1,0 +1,80 @@
+//! Why the program ends otherwise than well.
+
+use clap::error::ErrorKind;
+use dc_cache::MakeFault;
+use dc_names::NoMemory;
+use std::alloc::{AllocError, AllocFailed};
+use std::io;
+
+/// What ends the program early.
+#[derive(Drop)]
+pub enum Fault {
+    /// The words aren't those of the command line, or ask for help.
+    Words(clap::Error),
+    /// A word is no text.
+    NoText,
+    /// A cache was wrong, which has been told.
+    Wrong,
+    /// The clock can't be read.
+    NoClock,
+    /// The table couldn't be written.
+    Write,
+    /// Memory was refused.
+    NoMemory,
+}
+
+impl Fault {
+    /// Tells the fault, help on standard output and all else on standard error. Answers the status.
+    pub fn tell<R: Print + Eprint>(&self, rt: &R) -> u8 {
+        let (status, told) = match self {
+            Fault::Words(error) => match error.kind() {
+                ErrorKind::DisplayHelp => (0, error.print(rt)),
+                ErrorKind::OutOfMemory => (3, eprintln!(rt; "dcsoak: no memory")),
+                _ => (2, error.print(rt)),
+            },
+            Fault::Wrong => (1, Ok(())),
+            Fault::NoText => (2, eprintln!(rt; "dcsoak: an argument is no text")),
+            Fault::NoMemory => (3, eprintln!(rt; "dcsoak: no memory")),
+            Fault::NoClock => (4, eprintln!(rt; "dcsoak: the clock can't be read")),
+            Fault::Write => (4, eprintln!(rt; "dcsoak: write fault")),
+        };
+        let _ = told;
+        status
+    }
+}
+
+impl From<clap::Error> for Fault {
+    fn from(error: clap::Error) -> Fault {
+        Fault::Words(error)
+    }
+}
+
+impl From<MakeFault> for Fault {
+    fn from(_fault: MakeFault) -> Fault {
+        Fault::NoMemory
+    }
+}
+
+impl From<NoMemory> for Fault {
+    fn from(_fault: NoMemory) -> Fault {
+        Fault::NoMemory
+    }
+}
+
+impl From<AllocError> for Fault {
+    fn from(_fault: AllocError) -> Fault {
+        Fault::NoMemory
+    }
+}
+
+impl<T: Drop> From<AllocFailed<T>> for Fault {
+    fn from(_fault: AllocFailed<T>) -> Fault {
+        Fault::NoMemory
+    }
+}
+
+impl From<io::Error> for Fault {
+    fn from(_error: io::Error) -> Fault {
+        Fault::Write
+    }
+}
