@@ -12,4 +12,5 @@ pub mod Sorted
 pub mod Ends
 pub mod Items
 pub mod InOrder
+pub mod PhaseOrder
 pub mod Pairing

@@ -1,6 +1,5 @@
 -- What the judge of the program stands for.
-use Rattle.std.specs.Prelude.{ℕ, ◌+◌, List, Bool, map, option_map, nat_lt, ◌&&◌, if◌then◌else◌}
-use Rattle.std.specs.List.{list_any}
+use Rattle.std.specs.Prelude.{ℕ, ◌+◌, List, map, option_map, if◌then◌else◌}
 use Rattle.dc_lang.specs.Spans.{Span}
 use Rattle.dc_plain.specs.Legal.{Stamp}
 use Rattle.dc_check.specs.declared.fault.Fault as rust_fault
@@ -50,7 +49,3 @@ span_of mark = record { phase = mark.phase; at = mark.at; end = end_of mark }
 
 abbrev pub all_spans : List rust_mark.Mark → List Span
 all_spans marks = map span_of marks
-
--- some call of an earlier phase ends above its point
-abbrev pub is_behind : List rust_mark.Mark → rust_mark.Mark → Bool
-is_behind marks mark = list_any (λ other. nat_lt other.phase mark.phase && nat_lt mark.at (end_of other)) marks

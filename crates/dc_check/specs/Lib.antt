@@ -3,5 +3,6 @@ pub mod Stamps
 pub mod Judging
 pub mod Judges
 pub mod Phases
+pub mod Reaches
 pub mod Verdicts
 pub mod Records

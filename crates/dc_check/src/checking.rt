@@ -111,7 +111,7 @@ pub fn check_phases(
         (said ≡ PhasedVerdict.Legal) ↔ AreExplained max_inodes phases.now stamps.now) }
 {
     match judge_stamps(alloc, max_inodes, stamps, phases)? {
-        Judged::Legal(marks) => match first_behind(&marks) {
+        Judged::Legal(marks) => match first_behind(marks)? {
             None => Ok(PhasedVerdict::Legal),
             Some(line) => Ok(PhasedVerdict::BadPhase(line)),
         },

@@ -1,23 +1,24 @@
 //! The judge: it takes stamps by their points, one after the other.
 
-ghost use Rattle.std.specs.Prelude.{◌≡◌, ◌≤◌, ◌↔◌, false, IsTrue, IfOk, OnOk, IfErr};
+ghost use Rattle.std.specs.Prelude.{◌≡◌, ◌≤◌, ◌↔◌, IsTrue, IfOk, OnOk, IfErr};
 ghost use Rattle.dc_plain.specs.Requests.{answer_of};
+ghost use Rattle.dc_plain.specs.Runs.{reply_of};
 ghost use Rattle.dc_names.specs.declared.limits.TheConstants.{MOST_INODES};
-ghost use Rattle.dc_check.specs.Stamps.{stamp_of};
 ghost use Rattle.dc_check.specs.Judges.{judge_of, numbered_of, Blames};
 ghost use Rattle.dc_check.specs.Judging.{opening, is_change, IsGood, IsPassed, with_met, IsSettled, settled, Reaches, reached, Takes, taken, alters_at};
 
 use crate::fault::Fault;
-use crate::stamp::{Numbered, Stamp};
+use crate::stamp::Numbered;
+use crate::tree::QuickTree;
 use dc_names::NoMemory;
-use dc_plain::{PlainTree, Reply, same_tree_tells_whether_trees_are_one};
+use dc_plain::Reply;
 use std::alloc::Global;
 
 /// The tree after so many changes, and of the stamps with this point the one that alters it, once it
 /// is met.
 #[derive(Drop)]
 pub struct Judge<'a> {
-    tree: PlainTree,
+    tree: QuickTree,
     clock: u64,
     change: Option<Numbered<'a>>,
 }
@@ -37,18 +38,10 @@ impl<'a> Judge<'a> {
         ensures { IfOk result (λ judge. judge_of judge ≡ opening max_inodes) }
     {
         Ok(Judge {
-            tree: PlainTree::new(alloc, max_inodes)?,
+            tree: QuickTree::new(alloc, max_inodes)?,
             clock: 0,
             change: None,
         })
-    }
-
-    /// Whether the call of a stamp alters the tree.
-    fn is_change(&self, alloc: Global, stamp: &Stamp) -> Result<bool, NoMemory>
-        ensures { IfOk result (λ alters.
-            alters ≡ is_change (judge_of self.now) (stamp_of stamp.now)) }
-    {
-        self.tree.alters(alloc, &stamp.call.as_call())
     }
 
     /// Makes the change that was met, if any, and then judges its reply.
@@ -95,18 +88,17 @@ impl<'a> Judge<'a> {
         }
     }
 
-    /// Judges a stamp that doesn't alter the tree.
-    fn judge_read(&mut self, alloc: Global, numbered: Numbered) -> Result<(), Fault>
-        requires { is_change (judge_of self.old) (numbered_of numbered) ≡ false }
+    /// Judges a stamp that doesn't alter the tree, by the reply that its call gives.
+    fn judge_read(&mut self, alloc: Global, numbered: Numbered, reply: &Reply) -> Result<(), Fault>
+        requires { let stamp = numbered_of numbered in let judge = judge_of self.old in
+            answer_of reply.now ≡ reply_of judge.limit judge.tree stamp.request }
         ensures ok { OnOk result (IsPassed (judge_of self.old) (numbered_of numbered.entry)) }
         ensures same { OnOk result (judge_of self.new ≡ judge_of self.old) }
         ensures err { IfErr result (λ fault. Blames fault
             → IsPassed (judge_of self.old) (numbered_of numbered.entry) → ⊥) }
     {
-        same_tree_tells_whether_trees_are_one();
         let Numbered { line, stamp, .. } = numbered;
-        let reply = self.tree.apply(alloc, &stamp.call.as_call())?;
-        if !is_same(&reply, &stamp.reply) {
+        if !is_same(reply, &stamp.reply) {
             return Err(self.first_fault(alloc, Fault::Reply(line)));
         }
         match self.change {
@@ -127,8 +119,8 @@ impl<'a> Judge<'a> {
         ensures err { IfErr result (λ fault. Blames fault
             → IsGood (judge_of self.old) (numbered_of numbered.entry) → ⊥) }
     {
-        if !self.is_change(alloc, numbered.stamp)? {
-            self.judge_read(alloc, numbered)?;
+        if let Some(reply) = self.tree.answer(alloc, &numbered.stamp.call.as_call())? {
+            self.judge_read(alloc, numbered, &reply)?;
             return Ok(false);
         }
         if self.change.is_some() {

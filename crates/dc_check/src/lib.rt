@@ -8,10 +8,12 @@ mod order;
 mod phases;
 mod record;
 mod stamp;
+mod tree;
 
 pub use checking::{check, check_phases};
 pub use record::{RecordFault, record_of};
 pub use stamp::{PhasedVerdict, Stamp, Verdict};
+pub use tree::QuickTree;
 
 #[cfg(test)]
 mod tests;

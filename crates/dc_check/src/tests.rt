@@ -1,6 +1,7 @@
 //! Records that are read and judged.
 
 mod hostile;
+mod slow;
 
 use crate::{PhasedVerdict, RecordFault, Stamp, Verdict, check, check_phases, record_of};
 use dc_lang::{read_lines, serving_order};

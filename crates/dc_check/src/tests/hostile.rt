@@ -139,8 +139,8 @@ fn points_at_the_end_of_all_numbers(rt: HostRuntime) -> Result<(), Fail> {
 #[test]
 fn many_equal_lines_and_sixteen_sessions(rt: HostRuntime) -> Result<(), Fail> {
     let alloc = rt.alloc();
-    let input = copies(alloc, b"0 look /\n", 20_000)?;
-    let output = copies(alloc, b"0 is 1 dir @0\n", 20_000)?;
+    let input = copies(alloc, b"0 look /\n", 1_000_000)?;
+    let output = copies(alloc, b"0 is 1 dir @0\n", 1_000_000)?;
     assert_eq!(rt; verdict(alloc, &input, &output)?, Verdict::Legal);
     let mut input = Vec::new(alloc);
     let mut output = Vec::new(alloc);
