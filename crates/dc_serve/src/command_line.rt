@@ -1,12 +1,12 @@
 //! The words of the command line.
 
-ghost use Rattle.std.specs.Prelude.{◌≡◌, [], IfOk, IfErr, unwrap_or, map, string_bytes};
+ghost use Rattle.std.specs.Prelude.{◌≡◌, ◌↔◌, [], true, IfOk, IfErr, unwrap_or, map, string_bytes};
 ghost use Rattle.clap.specs.Words.{FailsBy, first_of, found_of, matches_of, rows_of};
 ghost use Rattle.clap.specs.Faults.{fault_of};
 ghost use Rattle.dc_serve.specs.CommandLine.{app, IsSize, Spells, Chooses, Refuses};
 
 use crate::{Options, OptionsFault};
-use clap::{Arg, ArgMatches, Command, Error};
+use clap::{Arg, ArgAction, ArgMatches, Command, Error};
 use std::alloc::Global;
 
 /// What clap finds among the words.
@@ -25,10 +25,15 @@ fn matches_in<'a>(alloc: Global, words: &'a [String]) -> Result<ArgMatches<'a>, 
         .value_name("N")
         .help("How many inodes may live: from 1 to 1048576")
         .default_value("65536");
+    let stats = Arg::new(alloc, "stats")
+        .long("stats")
+        .help("Tells how look-ups were answered, on standard error")
+        .action(ArgAction::SetTrue);
     let command = Command::new(alloc, "dcserve")
         .no_binary_name(true)
         .arg(buckets)?
-        .arg(inodes)?;
+        .arg(inodes)?
+        .arg(stats)?;
     command.try_get_matches_from(words)
 }
 
@@ -50,8 +55,8 @@ fn size(text: &str) -> Result<u64, OptionsFault>
     text.parse::<u64>().map_err(|_| OptionsFault::BadSize)
 }
 
-/// The sizes that the words after the program's name choose, where clap takes them. Whether they
-/// are within their limits isn't tested here. `BadSize` where the text of a size isn't what the
+/// What the words after the program's name choose, where clap takes them. Whether the sizes are
+/// within their limits isn't tested here. `BadSize` where the text of a size isn't what the
 /// number's `parse` reads.
 pub fn options(alloc: Global, words: &[String]) -> Result<Options, OptionsFault>
     ensures ok { IfOk result (Chooses (map string_bytes words.now)) }
@@ -61,5 +66,6 @@ pub fn options(alloc: Global, words: &[String]) -> Result<Options, OptionsFault>
     Ok(Options {
         buckets: size(text_of(&matches, "buckets"))?,
         inodes: size(text_of(&matches, "inodes"))?,
+        stats: text_of(&matches, "stats") == "true",
     })
 }

@@ -84,7 +84,11 @@ pub fn serve<R: Threads + Wait + Sync, G: Gate, W: Write>(
     records_are_legal();
     let phases = phases(alloc, lines)?;
     let (cache, pass) = Dcache::new(alloc, options.buckets, options.inodes)?;
-    let (pass, result) = serve_phases(rt, &cache, alloc, pass, &phases, gate, writer);
+    let (mut pass, result) = serve_phases(rt, &cache, alloc, pass, &phases, gate, writer);
+    if options.stats {
+        // What is emptied was filled: the cache tells its rows in no other way.
+        gate.ended(cache.shrink(rt, &mut pass, u64::MAX));
+    }
     // What was answered, after a fault too, is known to be a run once the cache is closed with the
     // pass that took all others in.
     let _ended = cache.close(pass);
