@@ -62,7 +62,10 @@ fn look_by<R: Threads + Wait + Clock + Sync + Print + Files + AllocGlobal>(
     let paths = parsed(alloc, &texts)?;
     let order = ordered(alloc, task.shape.work, &paths)?;
     let plan = Plan {
-        shape: task.shape,
+        shape: Shape {
+            hot: files.len() as u64,
+            ..task.shape
+        },
         time: task.time,
         lines: &lines,
         files: &files,
