@@ -72,6 +72,7 @@ pub fn change_row<R: Threads + Wait + Clock + Sync>(
 ) -> Result<ChangeRow, Fault>
     requires { IsSync R.row }
 {
+    let (lines, paths): ([&[u8]; 0], [PathText<'_>; 0]) = ([], []);
     let plan = Plan {
         shape: Shape {
             work: Work::Change,
@@ -80,10 +81,10 @@ pub fn change_row<R: Threads + Wait + Clock + Sync>(
             buckets: 256,
         },
         time,
-        lines: &[],
-        files: &[],
-        paths: &[],
-        order: &[],
+        lines: &lines,
+        files: &lines,
+        paths: &paths,
+        order: &paths,
     };
     let LookRow { tally, .. } = look_row(rt, alloc, &plan, threads)?;
     Ok(ChangeRow { threads, tally })
