@@ -166,6 +166,19 @@ int peer_make(char kind, const char *path)
     return 1;
 }
 
+/* Its rows stay as they were filled. */
+int peer_rename(const char *old, const char *new)
+{
+    (void)old, (void)new;
+    return 0;
+}
+
+int peer_unlink(const char *path)
+{
+    (void)path;
+    return 0;
+}
+
 void peer_expect_absent(const char *path)
 {
     const char *last;

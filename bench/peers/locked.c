@@ -6,11 +6,11 @@
 #include <stdlib.h>
 #include <string.h>
 
-enum { SLOTS = 1 << 16 };
+enum { SLOTS = 1 << 18 };
 
 const char *const peer_name = "rwlock";
 
-/* A name of a directory: the number that it leads to, and whether that is a directory. */
+/* A name of a directory: the number that it leads to, 0 where it is gone, and whether that is a directory. */
 struct entry {
     uint64_t parent, number;
     const char *name;
@@ -62,7 +62,7 @@ static struct entry *walk(const char *path, size_t length, int all)
         if (!found->is_directory || (!all && path == end))
             break;
         found = slot_of(found->number, name, (size_t)(path - name));
-        if (!found->name)
+        if (!found->number)
             return NULL;
     }
     return found;
@@ -73,18 +73,63 @@ void peer_begin(void)
     next_number = 2;
 }
 
+/* The slot of a path's last name, or none where its directory isn't there. */
+static struct entry *last_of(const char *path, const char **name)
+{
+    struct entry *parent = walk(path, strlen(path), 0);
+    *name = strrchr(path, '/') + 1;
+    return parent && parent->is_directory ? slot_of(parent->number, *name, strlen(*name)) : NULL;
+}
+
+/* Has a path lead to a number that it doesn't lead to. */
+static int put(const char *path, uint64_t number, int is_directory)
+{
+    const char *name;
+    struct entry *parent = walk(path, strlen(path), 0), *entry = last_of(path, &name);
+    if (!entry || entry->number || (!entry->name && ++entry_count > SLOTS / 2))
+        return 0;
+    if (!entry->name)
+        *entry = (struct entry){parent->number, 0, name, strlen(name), 0};
+    entry->number = number;
+    entry->is_directory = is_directory;
+    return 1;
+}
+
+/* Has a file's path lead nowhere, and answers the number. */
+static uint64_t take(const char *path)
+{
+    const char *name;
+    struct entry *entry = last_of(path, &name);
+    uint64_t number = entry && !entry->is_directory ? entry->number : 0;
+    if (number)
+        entry->number = 0;
+    return number;
+}
+
 int peer_make(char kind, const char *path)
 {
-    char *copy = strdup(path);
-    if (!copy || ++entry_count > SLOTS / 2)
-        return 0;
-    struct entry *parent = walk(copy, strlen(copy), 0);
-    const char *name = strrchr(copy, '/') + 1;
-    if (!parent)
-        return 0;
-    *slot_of(parent->number, name, strlen(name)) =
-        (struct entry){parent->number, next_number++, name, strlen(name), kind == 'd'};
-    return 1;
+    pthread_rwlock_wrlock(&lock);
+    int made = put(path, next_number, kind == 'd');
+    next_number += (uint64_t)made;
+    pthread_rwlock_unlock(&lock);
+    return made;
+}
+
+int peer_rename(const char *old, const char *new)
+{
+    pthread_rwlock_wrlock(&lock);
+    uint64_t number = take(old);
+    int renamed = number && put(new, number, 0);
+    pthread_rwlock_unlock(&lock);
+    return renamed;
+}
+
+int peer_unlink(const char *path)
+{
+    pthread_rwlock_wrlock(&lock);
+    uint64_t number = take(path);
+    pthread_rwlock_unlock(&lock);
+    return number != 0;
 }
 
 void peer_expect_absent(const char *path)

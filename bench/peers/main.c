@@ -1,9 +1,10 @@
 /* Times a peer's look-ups, as `dcbench look` times those of the cache.
  *
- * usage: PEER read|absent THREADS MILLISECONDS TREE
+ * usage: PEER read|absent|mixed|churn THREADS MILLISECONDS TREE
  *
  * TREE has the lines that `dcbench tree` writes. Each thread looks 64 paths up in a turn, in a random order, until the
- * time is over. It prints a line of JSON with the same words as dcbench.
+ * time is over. With `mixed` it renames a file of its own to and fro after each 19 of them, with `churn` it makes,
+ * renames and unlinks one after each. It prints a line of JSON with the same words as dcbench.
  */
 #define _GNU_SOURCE
 #include "peer.h"
@@ -14,11 +15,16 @@
 #include <string.h>
 #include <time.h>
 
-enum { TURN = 64, ORDER = 16384, MOST_THREADS = 64, MOST_TURNS = 1000000, LONGEST = 4200 };
+enum { TURN = 64, LEAST_ORDER = 16384, MOST_THREADS = 64, MOST_TURNS = 1000000, LONGEST = 4200, MOST_PAIRS = 50 };
 
 struct path {
     char *text;
     size_t length;
+};
+
+/* The two names of a file. */
+struct pair {
+    char *first, *second;
 };
 
 struct worker {
@@ -26,11 +32,15 @@ struct worker {
     size_t number;
     uint64_t *turns;
     size_t turn_count;
-    uint64_t looks, found, nanoseconds;
+    uint64_t looks, changes, found, nanoseconds;
+    struct pair pairs[MOST_PAIRS];
+    size_t pair_count;
 };
 
-static struct path *asked, order[ORDER];
-static size_t asked_count;
+static struct path *asked, *order;
+static size_t asked_count, order_count;
+/* How many look-ups go before a change, or 0 where nothing changes. */
+static size_t few;
 static uint64_t limit;
 static size_t thread_count;
 static pthread_barrier_t gate;
@@ -48,14 +58,23 @@ static uint64_t now(void)
     return (uint64_t)time.tv_sec * 1000000000u + (uint64_t)time.tv_nsec;
 }
 
+/* A path with something behind it. */
+static char *with(const char *text, const char *ending)
+{
+    char *copy = malloc(strlen(text) + strlen(ending) + 1);
+    if (!copy)
+        give_up("no memory");
+    return strcat(strcpy(copy, text), ending);
+}
+
 static void ask(const char *text, const char *ending)
 {
-    asked = realloc(asked, (asked_count + 1) * sizeof *asked);
-    char *copy = malloc(LONGEST);
-    if (!asked || !copy)
+    if (!(asked_count & (asked_count - 1)))
+        asked = realloc(asked, (2 * asked_count + 1) * sizeof *asked);
+    if (!asked)
         give_up("no memory");
-    int length = snprintf(copy, LONGEST, "%s%s", text, ending);
-    asked[asked_count++] = (struct path){copy, (size_t)length};
+    char *copy = with(text, ending);
+    asked[asked_count++] = (struct path){copy, strlen(copy)};
 }
 
 static void read_tree(const char *name, int absent)
@@ -66,7 +85,7 @@ static void read_tree(const char *name, int absent)
         give_up("the tree can't be read");
     while (fgets(line, sizeof line, file)) {
         line[strcspn(line, "\n")] = 0;
-        if (strlen(line) < 3 || !strchr("dcf", line[0]) || !peer_make(line[0] == 'd' ? 'd' : 'f', line + 2))
+        if (strlen(line) < 3 || !strchr("dcf", line[0]) || !peer_make(line[0] == 'd' ? 'd' : 'f', with(line + 2, "")))
             give_up("a line of the tree is refused");
         if (line[0] == 'f')
             ask(line + 2, absent ? ".no" : "");
@@ -82,20 +101,52 @@ static uint64_t draw(void)
     return state >> 33;
 }
 
+/* The files that a thread changes: every so many of those that are asked, or names beside them. */
+static void own(struct worker *worker)
+{
+    size_t most = few > 1 ? MOST_PAIRS : 32;
+    char first[32], second[32];
+    snprintf(first, sizeof first, few > 1 ? "" : ".of%zu", worker->number);
+    snprintf(second, sizeof second, ".to%zu", worker->number);
+    for (size_t i = worker->number; i < asked_count && worker->pair_count < most; i += thread_count)
+        worker->pairs[worker->pair_count++] = (struct pair){with(asked[i].text, first), with(asked[i].text, second)};
+}
+
+/* The thread's next change. */
+static void change(struct worker *worker)
+{
+    size_t steps = few > 1 ? 2 : 3, step = worker->changes % steps;
+    struct pair *pair = &worker->pairs[worker->changes / steps % worker->pair_count];
+    int made;
+    if (few > 1)
+        made = step ? peer_rename(pair->second, pair->first) : peer_rename(pair->first, pair->second);
+    else if (step == 0)
+        made = peer_make('f', pair->first);
+    else
+        made = step == 1 ? peer_rename(pair->first, pair->second) : peer_unlink(pair->second);
+    if (!made)
+        give_up("a change is refused");
+    worker->changes++;
+}
+
 static void *work(void *argument)
 {
     struct worker *worker = argument;
-    size_t at = ORDER / TURN / thread_count * worker->number;
+    size_t at = order_count / TURN / thread_count * worker->number;
     pthread_barrier_wait(&gate);
     uint64_t begin = now(), last = begin;
     do {
         const struct path *paths = order + at * TURN;
-        for (size_t i = 0; i < TURN; i++)
+        uint64_t before = worker->changes;
+        for (size_t i = 0; i < TURN; i++) {
             worker->found += (uint64_t)peer_look(paths[i].text, paths[i].length);
-        at = (at + 1) % (ORDER / TURN);
+            if (few && (i % few == few - 1 || i == TURN - 1))
+                change(worker);
+        }
+        at = (at + 1) % (order_count / TURN);
         uint64_t end = now();
         if (worker->turn_count < MOST_TURNS)
-            worker->turns[worker->turn_count++] = (end - last) * 1000 / TURN;
+            worker->turns[worker->turn_count++] = (end - last) * 1000 / (TURN + worker->changes - before);
         worker->looks += TURN;
         last = end;
     } while (last - begin < limit);
@@ -120,15 +171,16 @@ static void tell(struct worker *workers, const char *what)
         memcpy(all.turns + all.turn_count, workers[i].turns, workers[i].turn_count * sizeof *all.turns);
         all.turn_count += workers[i].turn_count;
         all.looks += workers[i].looks;
+        all.changes += workers[i].changes;
         all.found += workers[i].found;
-        rate += (double)workers[i].looks * 1e9 / (double)workers[i].nanoseconds;
+        rate += (double)(workers[i].looks + workers[i].changes) * 1e9 / (double)workers[i].nanoseconds;
     }
     qsort(all.turns, all.turn_count, sizeof *all.turns, compare);
     printf("{\"command\":\"look\",\"peer\":\"%s\",\"work\":\"%s\",\"threads\":%zu,\"median_ps\":%llu,\"p99_ps\":%llu,"
-           "\"least_ps\":%llu,\"calls_a_second\":%.0f,\"looks\":%llu,\"found\":%llu}\n",
+           "\"least_ps\":%llu,\"calls_a_second\":%.0f,\"looks\":%llu,\"changes\":%llu,\"found\":%llu}\n",
            peer_name, what, thread_count, (unsigned long long)all.turns[all.turn_count / 2],
            (unsigned long long)all.turns[all.turn_count * 99 / 100], (unsigned long long)all.turns[0], rate,
-           (unsigned long long)all.looks, (unsigned long long)all.found);
+           (unsigned long long)all.looks, (unsigned long long)all.changes, (unsigned long long)all.found);
 }
 
 int main(int count, char **words)
@@ -136,20 +188,26 @@ int main(int count, char **words)
     static struct worker workers[MOST_THREADS];
     thread_count = count == 5 ? strtoul(words[2], NULL, 10) : 0;
     if (thread_count < 1 || thread_count > MOST_THREADS) {
-        fprintf(stderr, "usage: %s read|absent THREADS MILLISECONDS TREE\n", peer_name);
+        fprintf(stderr, "usage: %s read|absent|mixed|churn THREADS MILLISECONDS TREE\n", peer_name);
         return 2;
     }
     int absent = strcmp(words[1], "absent") == 0;
+    few = strcmp(words[1], "mixed") == 0 ? 19 : strcmp(words[1], "churn") == 0;
     limit = strtoull(words[3], NULL, 10) * 1000000u;
     peer_begin();
     read_tree(words[4], absent);
     for (size_t i = 0; absent && i < asked_count; i++)
         peer_expect_absent(asked[i].text);
-    for (size_t i = 0; i < ORDER; i++)
+    order_count = 4 * asked_count > LEAST_ORDER ? 4 * asked_count / TURN * TURN : LEAST_ORDER;
+    order = malloc(order_count * sizeof *order);
+    if (!order)
+        give_up("no memory");
+    for (size_t i = 0; i < order_count; i++)
         order[i] = asked[draw() % asked_count];
     pthread_barrier_init(&gate, NULL, (unsigned)thread_count);
     for (size_t i = 0; i < thread_count; i++) {
         workers[i].number = i;
+        own(&workers[i]);
         workers[i].turns = malloc(MOST_TURNS * sizeof *workers[i].turns);
         if (!workers[i].turns || pthread_create(&workers[i].thread, NULL, work, &workers[i]))
             give_up("no thread");

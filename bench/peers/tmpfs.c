@@ -31,6 +31,16 @@ int peer_make(char kind, const char *path)
     return file >= 0 && close(file) == 0;
 }
 
+int peer_rename(const char *old, const char *new)
+{
+    return renameat(top, old + 1, top, new + 1) == 0;
+}
+
+int peer_unlink(const char *path)
+{
+    return unlinkat(top, path + 1, 0) == 0;
+}
+
 void peer_expect_absent(const char *path)
 {
     (void)path;

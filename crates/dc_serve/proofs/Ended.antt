@@ -12,16 +12,18 @@ use Rattle.dc_events.specs.Views.{Record}
 use Rattle.dc_lang.specs.Commands.{Order, Meaning}
 use Rattle.dc_lang.specs.declared.TheConstants.{SESSIONS}
 use Rattle.dc_plain.specs.Trees.{Tree}
+use Rattle.dc_table.specs.Changes.{NothingNew}
 use Rattle.dc_table.specs.Ends.{Ends}
-use Rattle.dc_table.specs.Shares.{IsWhole, Known, first_known}
+use Rattle.dc_table.specs.Shares.{IsWhole, Known, Share, first_known}
 use Rattle.dc_names.specs.declared.sizes.MakeFault.{MakeFault}
 use Rattle.dc_names.specs.declared.sizes.MakeFault.TheVariants as makings
 use Rattle.dc_serve.specs.Bytes.{AppendsFront}
 use Rattle.dc_serve.specs.Endings.{Answers, AnswersFront, AnswersPlainly, EndsBy, Serves, ServesFront, Streams, Understood}
 use Rattle.dc_serve.specs.Faults.{from_making}
 use Rattle.dc_lang.specs.Phases.{phases}
-use Rattle.dc_serve.specs.Rounds.{StopsBy, Wrote}
-use Rattle.dc_serve.specs.Turns.{IsRun, strands}
+use Rattle.dc_serve.specs.Rounds.{Holds, StopsBy, Wrote}
+use Rattle.dc_serve.specs.Sessions.{size}
+use Rattle.dc_serve.specs.Turns.{IsRun, Turn, strands}
 use Rattle.dc_serve.specs.declared.fault.ServeFault.{ServeFault}
 use Rattle.dc_serve.specs.declared.fault.ServeFault.TheVariants.{BadSize, Read, BadLine, NoMemory, Spent, Write}
 use Rattle.dc_serve.proofs.BytesLemmas.{front_whole}
@@ -122,15 +124,59 @@ pub record Closed (limit : ℕ) (phases : List (List Order)) (old new : Option (
   pub ok : OnOk result (Serves limit phases (Appends old new))
   pub err : IfErr result (ServesFront limit phases old new)
 
-pub closed : RecordsAreLegal → (limit rows : ℕ) (phases parts : List (List Order)) (old new : Option (List ℕ)) (first last : Known) (result : Result (Unit {0}) ServeFault) (ended : Option Ended) → first ≡ first_known limit rows
-    → parts ≡ phases → Closes last ended → OnOk result (Wrote first.share.limit parts (Appends old new) last) → IfErr result (StopsBy first.share.limit parts old new last) → Closed limit phases old new result
-closed legal limit rows phases parts old new first last result ended made are closes wrote stops =
+-- nothing was recorded since, and the share is the same
+pub record Rests (k l : Known) : Type 0 where
+  pub same : l.share ≡ k.share
+  pub nothing : NothingNew k.view l.view
+
+holds_still : {limit : ℕ} {phases : List (List Order)} {turns : List (List Turn)} {clock : ℕ} {more : List (List Record)} (k l : Known) → Rests k l → Holds limit phases turns clock more k → Holds limit phases turns clock more l
+holds_still k l rests h = record {
+  orders_are = h.orders_are;
+  asked = h.asked;
+  own = rests.nothing.own ∙ h.own;
+  joined = rests.nothing.joined ∙ h.joined;
+  rounds = h.rounds;
+  rise = h.rise;
+  limit_is = ap (λ (s : Share). s.limit) rests.same ∙ h.limit_is;
+  whole = subst (λ (s : Share). IsWhole s) (sym rests.same) h.whole;
+}
+
+wrote_still : (limit : ℕ) (phases : List (List Order)) (Written : List ℕ → Type 0) (k l : Known) → Rests k l → Wrote limit phases Written k → Wrote limit phases Written l
+wrote_still limit phases Written k l rests w = record { turns = w.turns; clock = w.clock; more = w.more; holds = holds_still k l rests w.holds; written = w.written }
+
+stops_still : (limit : ℕ) (phases : List (List Order)) (old new : Option (List ℕ)) (k l : Known) (fault : ServeFault) → Rests k l → StopsBy limit phases old new k fault → StopsBy limit phases old new l fault
+stops_still limit phases old new k l BadSize rests stops = absurd stops
+stops_still limit phases old new k l Read rests stops = absurd stops
+stops_still limit phases old new k l (BadLine n) rests stops = absurd stops
+stops_still limit phases old new k l NoMemory rests stops = (stops.0, wrote_still limit (take stops.0 phases) (Appends old new) k l rests stops.1)
+stops_still limit phases old new k l Spent rests stops =
+    let seen = stops.seen in
+    let later = rests.nothing.later in
+    let few = stops.few in
+    let joined = ap size rests.nothing.joined in
+    record { seen = omega arith; own = rests.nothing.own ∙ stops.own; few = omega arith; whole = subst (λ (s : Share). IsWhole s) (sym rests.same) stops.whole }
+stops_still limit phases old new k l Write rests stops = (stops.0, wrote_still limit (take stops.0 phases) (AppendsFront old new) k l rests stops.1)
+
+all_still : (limit : ℕ) (phases : List (List Order)) (old new : Option (List ℕ)) (k l : Known) (result : Result (Unit {0}) ServeFault) → Rests k l
+    → OnOk result (Wrote limit phases (Appends old new) k) → OnOk result (Wrote limit phases (Appends old new) l)
+all_still limit phases old new k l (Err fault) rests wrote = tt
+all_still limit phases old new k l (Ok x) rests wrote = wrote_still limit phases (Appends old new) k l rests wrote
+
+part_still : (limit : ℕ) (phases : List (List Order)) (old new : Option (List ℕ)) (k l : Known) (result : Result (Unit {0}) ServeFault) → Rests k l
+    → IfErr result (StopsBy limit phases old new k) → IfErr result (StopsBy limit phases old new l)
+part_still limit phases old new k l (Ok x) rests stops = tt
+part_still limit phases old new k l (Err fault) rests stops = stops_still limit phases old new k l fault rests stops
+
+-- phases were served with a pass, and the cache closed with it once nothing more was recorded
+pub closed : RecordsAreLegal → (limit rows : ℕ) (phases parts : List (List Order)) (old new : Option (List ℕ)) (first then last : Known) (result : Result (Unit {0}) ServeFault) (ended : Option Ended) → first ≡ first_known limit rows
+    → parts ≡ phases → Rests then last → Closes last ended → OnOk result (Wrote first.share.limit parts (Appends old new) then) → IfErr result (StopsBy first.share.limit parts old new then) → Closed limit phases old new result
+closed legal limit rows phases parts old new first then last result ended made are rests closes wrote stops =
     let is : first.share.limit ≡ limit = ap (λ (k : Known). k.share.limit) made in
     record {
-      ok = closed_ok legal limit phases old new last result ended closes
-          (subst (λ (n : ℕ). OnOk result (Wrote n phases (Appends old new) last)) is (subst (λ (l : List (List Order)). OnOk result (Wrote first.share.limit l (Appends old new) last)) are wrote));
-      err = closed_err legal limit phases old new last result ended closes
-          (subst (λ (n : ℕ). IfErr result (StopsBy n phases old new last)) is (subst (λ (l : List (List Order)). IfErr result (StopsBy first.share.limit l old new last)) are stops));
+      ok = closed_ok legal limit phases old new last result ended closes (all_still limit phases old new then last result rests
+          (subst (λ (n : ℕ). OnOk result (Wrote n phases (Appends old new) then)) is (subst (λ (l : List (List Order)). OnOk result (Wrote first.share.limit l (Appends old new) then)) are wrote)));
+      err = closed_err legal limit phases old new last result ended closes (part_still limit phases old new then last result rests
+          (subst (λ (n : ℕ). IfErr result (StopsBy n phases old new then)) is (subst (λ (l : List (List Order)). IfErr result (StopsBy first.share.limit l old new then)) are stops)));
     }
 
 take_every : (phases : List (List Order)) → take (length phases) phases ≡ phases

@@ -1,26 +1,62 @@
-//! Which call of the cache answers a call of a session.
+//! Which calls of the cache answer a call of a session.
 
 ghost use Rattle.std.specs.Prelude.{◌≡◌, IfOk, IfErr};
 ghost use Rattle.dc_cache.specs.Answers.{Answered};
 ghost use Rattle.dc_cache.specs.Passes.{share, view, Fits};
 ghost use Rattle.dc_plain.specs.Requests.{request_of};
+ghost use Rattle.dc_plain.specs.Requests.Request.{Look};
 ghost use Rattle.dc_serve.specs.Bytes.{IsServiceFault};
 ghost use Rattle.dc_serve.specs.Threads.{book};
 ghost use Rattle.dc_table.specs.Changes.{NothingNew};
 
-use crate::ServeFault;
-use dc_cache::{Dcache, Pass};
-use dc_plain::{Call, Stamped};
+use crate::{Gate, Looked, ServeFault};
+use dc_cache::{Dcache, Fast, Pass, parse};
+use dc_plain::{Call, Follow, Stamped};
 use std::alloc::Global;
 use std::sync::Wait;
 
-/// Answers a call. Where it answers a fault, nothing is recorded.
-pub fn answer<R: Wait>(
+/// Answers a look-up by the steps that the cache's `look` takes, and says which of them it took.
+fn look<R: Wait>(
+    rt: &R,
+    cache: &Dcache,
+    alloc: Global,
+    pass: &mut Pass,
+    base: u64,
+    path: &[u8],
+    follow: Follow,
+) -> (Stamped, Looked)
+    requires { Fits cache.now pass.old }
+    ensures same { Fits cache.now pass.new × (share pass.new ≡ share pass.old) }
+    ensures answered { Answered pass.old pass.new (Look base path.now follow) result.0 }
+{
+    let Ok(text) = parse(path) else {
+        return (
+            cache.look(rt, alloc, pass, base, path, follow),
+            Looked::NoPath,
+        );
+    };
+    let why = match cache.look_fast(pass, base, text, follow) {
+        Fast::Done(stamped) => return (stamped, Looked::ByRows),
+        Fast::Again(why) => why,
+    };
+    let filled = cache.look_counted(rt, alloc, pass, base, text, follow);
+    if let Fast::Done(stamped) = filled {
+        return (stamped, Looked::ByFilled(why));
+    }
+    // The cache has no call that asks the tree alone.
+    let stamped = cache.look(rt, alloc, pass, base, path, follow);
+    (stamped, Looked::UnderLock(why))
+}
+
+/// Answers a call, and tells the gate how where it looks up. Where it answers a fault, nothing is
+/// recorded.
+pub fn answer<R: Wait, G: Gate>(
     rt: &R,
     cache: &Dcache,
     alloc: Global,
     pass: &mut Pass,
     call: &Call<'_>,
+    gate: &G,
 ) -> Result<Stamped, ServeFault>
     requires { Fits cache.now pass.old }
     ensures same { Fits cache.now pass.new × (share pass.new ≡ share pass.old) }
@@ -29,7 +65,11 @@ pub fn answer<R: Wait>(
     ensures err { IfErr result (IsServiceFault (book pass.new).seen) }
 {
     match *call {
-        Call::Look { base, path, follow } => Ok(cache.look(rt, alloc, pass, base, path, follow)),
+        Call::Look { base, path, follow } => {
+            let (stamped, looked) = look(rt, cache, alloc, pass, base, path, follow);
+            gate.looked(looked);
+            Ok(stamped)
+        }
         Call::Stat { base, path } => Ok(cache.stat(rt, pass, base, path)),
         Call::Readlink { base, path } => Ok(cache.readlink(rt, alloc, pass, base, path)?),
         Call::List { base, path } => Ok(cache.list(rt, alloc, pass, base, path)?),

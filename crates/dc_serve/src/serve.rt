@@ -1,9 +1,10 @@
 //! How phases are served, one after the other.
 
 ghost use Rattle.std.specs.Prelude.{◌≡◌, true, OnOk, IfErr};
-ghost use Rattle.dc_cache.specs.Passes.{known, share, Fits};
+ghost use Rattle.dc_cache.specs.Passes.{known, share, view, Fits};
 ghost use Rattle.dc_names.specs.Sizes.{are_right};
 ghost use Rattle.dc_serve.specs.Served.{ServesLines, ServesUntil, WroteAll, WroteUntil};
+ghost use Rattle.dc_table.specs.Changes.{NothingNew};
 ghost use Rattle.dc_table.specs.Shares.{first_known};
 
 use crate::bytes::write_whole;
@@ -66,6 +67,18 @@ fn serve_phases<R: Threads + Wait + Sync, G: Gate, W: Write>(
     (pass, Ok(()))
 }
 
+/// Tells the gate how many rows are filled, where that is wanted.
+fn tell_rows<R: Wait, G: Gate>(rt: &R, cache: &Dcache, pass: &mut Pass, options: Options, gate: &G)
+    requires { Fits cache.now pass.old }
+    ensures same { Fits cache.now pass.new × (share pass.new ≡ share pass.old) }
+    ensures nothing { NothingNew (view pass.old) (view pass.new) }
+{
+    if options.stats {
+        // What is emptied was filled: the cache tells of its rows in no other way.
+        gate.ended(cache.shrink(rt, pass, u64::MAX));
+    }
+}
+
 /// Serves what lines say, phase by phase, and writes the replies.
 pub fn serve<R: Threads + Wait + Sync, G: Gate, W: Write>(
     rt: &R,
@@ -84,7 +97,8 @@ pub fn serve<R: Threads + Wait + Sync, G: Gate, W: Write>(
     records_are_legal();
     let phases = phases(alloc, lines)?;
     let (cache, pass) = Dcache::new(alloc, options.buckets, options.inodes)?;
-    let (pass, result) = serve_phases(rt, &cache, alloc, pass, &phases, gate, writer);
+    let (mut pass, result) = serve_phases(rt, &cache, alloc, pass, &phases, gate, writer);
+    tell_rows(rt, &cache, &mut pass, options, gate);
     // What was answered, after a fault too, is known to be a run once the cache is closed with the
     // pass that took all others in.
     let _ended = cache.close(pass);

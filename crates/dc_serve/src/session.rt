@@ -37,30 +37,30 @@ pub struct Phase<'a, G: Gate> {
     pub refused: &'a AtomicU64,
 }
 
-/// Answers a command, after the text.
-fn obey<R: Wait>(
-    rt: &R,
-    cache: &Dcache,
-    alloc: Global,
-    pass: &mut Pass,
-    command: &Command,
-    replies: &mut SessionReplies,
-) -> Result<(), ServeFault>
-    requires { Fits cache.now pass.old }
-    ensures same { Fits cache.now pass.new × (share pass.new ≡ share pass.old) }
-    ensures recorded { RecordedSome 1 (book pass.old) (book pass.new) }
-    ensures ok { OnOk result (Obeys pass.old replies.old (order_of command.now ∷ [])
-        replies.new pass.new) }
-    ensures err { IfErr result (IsServiceFault (book pass.new).seen) }
-{
-    let stamped = answer(rt, cache, alloc, pass, &call(command, replies.base))?;
-    let line = write_reply(alloc, command.session, &stamped)?;
-    replies.text.extend_from_slice(&line)?;
-    replies.base = base_after(command, &stamped.reply, replies.base);
-    Ok(())
-}
-
 impl<'a, G: Gate> Phase<'a, G> {
+    /// Answers a command, after the text.
+    fn obey<R: Wait>(
+        &self,
+        rt: &R,
+        pass: &mut Pass,
+        command: &Command,
+        replies: &mut SessionReplies,
+    ) -> Result<(), ServeFault>
+        requires { Fits self.now.cache.now pass.old }
+        ensures same { Fits self.now.cache.now pass.new × (share pass.new ≡ share pass.old) }
+        ensures recorded { RecordedSome 1 (book pass.old) (book pass.new) }
+        ensures ok { OnOk result (Obeys pass.old replies.old (order_of command.now ∷ [])
+            replies.new pass.new) }
+        ensures err { IfErr result (IsServiceFault (book pass.new).seen) }
+    {
+        let (cache, alloc, gate) = (self.cache, self.alloc, self.gate);
+        let stamped = answer(rt, cache, alloc, pass, &call(command, replies.base), gate)?;
+        let line = write_reply(alloc, command.session, &stamped)?;
+        replies.text.extend_from_slice(&line)?;
+        replies.base = base_after(command, &stamped.reply, replies.base);
+        Ok(())
+    }
+
     /// Answers a line if it is a command of the session, after the text.
     fn serve_line<R: Wait>(
         &self,
@@ -86,7 +86,7 @@ impl<'a, G: Gate> Phase<'a, G> {
             return Ok(());
         }
         self.gate.before(session, number);
-        obey(rt, self.cache, self.alloc, pass, command, replies)?;
+        self.obey(rt, pass, command, replies)?;
         self.gate.after(session, number);
         Ok(())
     }

@@ -1,17 +1,19 @@
-//! The sizes that a server is started with.
+//! What a server is started with.
 
 ghost use Rattle.std.specs.Prelude.{◌≡◌};
 ghost use Rattle.dc_names.specs.Sizes.{are_right};
 
 use dc_names::are_right;
 
-/// The sizes that a server is started with.
+/// What a server is started with.
 #[derive(Clone, Copy, Debug, PartialEq, Eq)]
 pub struct Options {
     /// Buckets of the cache: a power of two from 1 to 1,024.
     pub buckets: u64,
     /// How many inodes may live: from 1 to 1,048,576.
     pub inodes: u64,
+    /// Whether the gate is told at the end how many rows are filled.
+    pub stats: bool,
 }
 
 impl Options {

@@ -2,6 +2,7 @@
 
 mod cut;
 mod rows;
+mod stats;
 mod streams;
 
 use crate::{FreeGate, Options, OptionsFault, ServeFault, options, run, understand};
@@ -14,6 +15,7 @@ use std::thread::Threads;
 pub const USUAL: Options = Options {
     buckets: 256,
     inodes: 65536,
+    stats: false,
 };
 
 /// What a run with these sizes answers and writes.
@@ -194,6 +196,7 @@ fn one_bucket(rt: HostRuntime) {
     let sizes = Options {
         buckets: 1,
         inodes: 16,
+        stats: false,
     };
     let input = b"0 create /a\n0 look /a\n0 create /b\n0 look /b\n0 create /c\n0 look /c\n\
         0 create /d\n0 look /d\n0 create /e\n0 look /e\n0 look /a\n";
@@ -244,12 +247,22 @@ fn refused_inputs(rt: HostRuntime) {
 #[test]
 fn refused_sizes(rt: HostRuntime) {
     for (buckets, inodes) in [(0, 16), (3, 16), (2048, 16), (1, 0), (1, 1_048_577)] {
-        let (result, output) = served(&rt, rt.alloc(), Options { buckets, inodes }, b"0 look /\n");
+        let sizes = Options {
+            buckets,
+            inodes,
+            ..USUAL
+        };
+        let (result, output) = served(&rt, rt.alloc(), sizes, b"0 look /\n");
         assert_eq!(rt; result, Err(ServeFault::BadSize), "{buckets} {inodes}");
         assert!(rt; output.is_empty());
     }
     for (buckets, inodes) in [(1, 1), (1024, 1_048_576)] {
-        let (result, _) = served(&rt, rt.alloc(), Options { buckets, inodes }, b"0 look /\n");
+        let sizes = Options {
+            buckets,
+            inodes,
+            ..USUAL
+        };
+        let (result, _) = served(&rt, rt.alloc(), sizes, b"0 look /\n");
         assert_eq!(rt; result, Ok(()));
     }
 }
@@ -279,18 +292,23 @@ fn largest_inputs(rt: HostRuntime) -> Result<(), Fail> {
 #[test]
 fn words_of_the_command_line(rt: HostRuntime) -> Result<(), Fail> {
     for (line, want) in [
-        ("", Some((256, 65536))),
-        ("--buckets 8", Some((8, 65536))),
-        ("--inodes=7 --buckets=3", Some((3, 7))),
-        ("--buckets +4", Some((4, 65536))),
-        ("--buckets 0016", Some((16, 65536))),
+        ("", Some((256, 65536, false))),
+        ("--buckets 8", Some((8, 65536, false))),
+        ("--inodes=7 --buckets=3", Some((3, 7, false))),
+        ("--buckets +4", Some((4, 65536, false))),
+        ("--stats --buckets 0016", Some((16, 65536, true))),
         ("--inodes 18446744073709551616", None),
         ("--inodes x", None),
     ] {
         let found = options(rt.alloc(), &words_of(rt.alloc(), line)?);
         match (found, want) {
-            (Ok(sizes), Some((buckets, inodes))) => {
-                assert_eq!(rt; sizes, Options { buckets, inodes }, "{line}");
+            (Ok(found), Some((buckets, inodes, stats))) => {
+                let want = Options {
+                    buckets,
+                    inodes,
+                    stats,
+                };
+                assert_eq!(rt; found, want, "{line}");
             }
             (Err(OptionsFault::BadSize), None) => {}
             _ => panic!(rt; "{line}"),
@@ -315,6 +333,7 @@ fn words_that_are_refused(rt: HostRuntime) -> Result<(), Fail> {
         ("--buckets", 2),
         ("--buckets 1 --buckets 2", 2),
         ("--buckets=", 2),
+        ("--stats=true", 2),
         ("--inodes -1", 2),
         ("-h", 0),
         ("--help", 0),

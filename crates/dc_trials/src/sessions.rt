@@ -110,6 +110,7 @@ pub fn record<R: Threads + Wait + Sync>(
     let sizes = Options {
         buckets,
         inodes: INODES,
+        stats: false,
     };
     run(rt, alloc, &mut rest, &mut output, sizes, &FreeGate)?;
     Ok(record_of(alloc, input, &output)?)

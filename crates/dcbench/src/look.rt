@@ -1,4 +1,4 @@
-//! Look-ups in turns, by one thread of several.
+//! Look-ups and changes in turns, by one thread of several.
 
 ghost use Rattle.dc_cache.specs.Passes.{Fits};
 
@@ -12,10 +12,10 @@ use std::rt::Clock;
 use std::sync::Wait;
 use std::time::{Duration, Instant};
 
-/// How many look-ups a turn has, which is timed as a whole.
-pub const TURN: usize = 64;
+/// How many calls a turn has, which is timed as a whole, without the changes in between.
+const TURN: usize = 64;
 
-/// What all threads of a run of look-ups share.
+/// What all threads of a run share.
 #[derive(Drop)]
 pub struct Looks<'a> {
     pub alloc: Global,
@@ -103,7 +103,7 @@ fn look_each<R: Wait>(
 }
 
 /// Makes the thread's next change, and counts it if the tree was asked.
-pub fn change<R: Wait>(
+fn change<R: Wait>(
     rt: &R,
     alloc: Global,
     cache: &Dcache,
@@ -145,6 +145,23 @@ fn look_and_change<R: Wait>(
     found
 }
 
+/// Makes the changes of a turn.
+fn change_each<R: Wait>(
+    rt: &R,
+    alloc: Global,
+    cache: &Dcache,
+    pass: &mut Pass,
+    own: &mut Own,
+    tally: &mut Tally,
+)
+    requires { Fits cache.now pass.old }
+    ensures { Fits cache.now pass.new }
+{
+    'changes: for _ in 0..TURN {
+        change(rt, alloc, cache, pass, own, tally);
+    }
+}
+
 impl<'a> Looks<'a> {
     /// One turn.
     fn turn<R: Wait>(
@@ -162,6 +179,10 @@ impl<'a> Looks<'a> {
         let alloc = self.alloc;
         let found = match self.work.looks_to_a_change() {
             None => look_each(rt, alloc, cache, pass, paths, tally),
+            Some(0) => {
+                change_each(rt, alloc, cache, pass, own, tally);
+                0
+            }
             Some(few) => look_and_change(rt, alloc, cache, pass, paths, few, own, tally),
         };
         tally.found = tally.found.saturating_add(found);
@@ -214,7 +235,7 @@ impl<'a> Looks<'a> {
         Some(())
     }
 
-    /// What a thread does: the time's worth of look-ups.
+    /// What a thread does: the time's worth of calls.
     pub fn run<R: Wait + Clock>(
         &self,
         rt: &R,

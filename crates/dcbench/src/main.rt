@@ -2,14 +2,16 @@
 #![tactic(auto)]
 
 mod args;
-mod change;
 mod drawing;
 mod fault;
 mod gate;
 mod look;
+mod order;
 mod own;
 mod race;
+mod racing;
 mod report;
+mod rows;
 mod table;
 mod tally;
 mod threads;

@@ -66,7 +66,7 @@ impl Pair {
 }
 
 impl Own {
-    /// The files of one of so many threads, beside the paths that are asked.
+    /// The files of one of so many threads: one in the root, or some beside the paths that are asked.
     pub fn new(
         alloc: Global,
         work: Work,
@@ -74,38 +74,41 @@ impl Own {
         thread: u64,
         threads: u64,
     ) -> Result<Own, Fault> {
+        let mut own = Own {
+            work,
+            pairs: Vec::new(alloc),
+            done: 0,
+        };
+        match work {
+            Work::Change => own.pairs.push(Pair::made(alloc, b"/", thread)?)?,
+            _ => own.add(alloc, paths, thread, threads)?,
+        }
+        Ok(own)
+    }
+
+    /// Adds the files of one of so many threads, beside the paths that are asked.
+    fn add(
+        &mut self,
+        alloc: Global,
+        paths: &[&[u8]],
+        thread: u64,
+        threads: u64,
+    ) -> Result<(), Fault> {
         let step = usize::try_from(threads).unwrap_or(1).max(1);
-        let mut pairs = Vec::new(alloc);
         let skipped = usize::try_from(thread).unwrap_or(0);
-        let most = if work == Work::Mixed {
-            MOST_RENAMED
-        } else {
-            MOST_MADE
+        let (renames, most) = match self.work {
+            Work::Mixed => (true, MOST_RENAMED),
+            _ => (false, MOST_MADE),
         };
         for (at, path) in paths.iter().enumerate() {
-            if pairs.len() < most && at % step == skipped {
-                pairs.push(match work {
-                    Work::Mixed => Pair::renamed(alloc, path, thread)?,
-                    _ => Pair::made(alloc, path, thread)?,
+            if self.pairs.len() < most && at % step == skipped {
+                self.pairs.push(match renames {
+                    true => Pair::renamed(alloc, path, thread)?,
+                    false => Pair::made(alloc, path, thread)?,
                 })?;
             }
         }
-        Ok(Own {
-            work,
-            pairs,
-            done: 0,
-        })
-    }
-
-    /// The files of a thread that only makes and unlinks, in the root.
-    pub fn alone(alloc: Global, thread: u64) -> Result<Own, Fault> {
-        let mut pairs = Vec::new(alloc);
-        pairs.push(Pair::made(alloc, b"/", thread)?)?;
-        Ok(Own {
-            work: Work::Read,
-            pairs,
-            done: 0,
-        })
+        Ok(())
     }
 
     /// How many changes go by before the next file's turn.

@@ -6,6 +6,12 @@ use serde_json::json;
 use std::alloc::{AllocError, Global};
 use std::fmt;
 
+/// A row of a table.
+pub trait Row: fmt::Display {
+    /// The row as an object of JSON. Times are in picoseconds.
+    fn json(&self, alloc: Global) -> Result<String, AllocError>;
+}
+
 /// A number of picoseconds, shown in nanoseconds with one digit behind the point.
 #[derive(Drop)]
 struct Nanoseconds(u64);
@@ -63,9 +69,8 @@ impl fmt::Display for LookRow {
     }
 }
 
-impl LookRow {
-    /// The row as an object of JSON. Times are in picoseconds.
-    pub fn json(&self, alloc: Global) -> Result<String, AllocError> {
+impl Row for LookRow {
+    fn json(&self, alloc: Global) -> Result<String, AllocError> {
         let tally = &self.tally;
         json!(in alloc; {
             "command": "look",
@@ -117,9 +122,8 @@ impl fmt::Display for ChangeRow {
     }
 }
 
-impl ChangeRow {
-    /// The row as an object of JSON. Times are in picoseconds.
-    pub fn json(&self, alloc: Global) -> Result<String, AllocError> {
+impl Row for ChangeRow {
+    fn json(&self, alloc: Global) -> Result<String, AllocError> {
         let tally = &self.tally;
         json!(in alloc; {
             "command": "change",
@@ -163,9 +167,8 @@ impl fmt::Display for RaceRow {
     }
 }
 
-impl RaceRow {
-    /// The row as an object of JSON.
-    pub fn json(&self, alloc: Global) -> Result<String, AllocError> {
+impl Row for RaceRow {
+    fn json(&self, alloc: Global) -> Result<String, AllocError> {
         let tally = &self.tally;
         json!(in alloc; {
             "command": "race",

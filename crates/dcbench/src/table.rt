@@ -1,90 +1,37 @@
 //! The tasks of the command line: each prints its table.
 
 ghost use Rattle.std.specs.Thread.{IsSync};
-ghost use Rattle.dc_cache.specs.Passes.{Fits};
 
-use crate::change::Changes;
-use crate::drawing::{ABSENT, draw};
+use crate::drawing::draw;
 use crate::fault::Fault;
-use crate::gate::Gate;
-use crate::look::Looks;
-use crate::race::{Course, Race, answer};
-use crate::report::{CHANGE_HEAD, ChangeRow, LOOK_HEAD, LookRow, RACE_HEAD, RaceRow};
-use crate::tally::{Tally, nanoseconds};
-use crate::threads::{Job, spread};
-use crate::tree::{asked_in, extended, lines_in, parsed, plant, warm};
+use crate::order::{ordered, texts_of};
+use crate::racing::race_row;
+use crate::report::{CHANGE_HEAD, LOOK_HEAD, RACE_HEAD, Row};
+use crate::rows::{Plan, change_row, look_row};
+use crate::tree::{asked_in, lines_in, parsed};
 use crate::work::{ChangeTask, LookTask, RaceTask, Shape, Sort, Style, Task, Work};
-use dc_cache::{Dcache, Pass, PathText, parse};
-use rand_pcg::Pcg32;
-use rand_pcg::rand_core::Rng;
 use std::alloc::Global;
 use std::fs;
 use std::io::Write;
 use std::rt::{Clock, Files};
 use std::sync::Wait;
-use std::sync::atomic::AtomicU64;
 use std::thread::Threads;
-use std::time::{Duration, Instant};
+use std::time::Duration;
 
-/// How many inodes may live.
-const INODES: u64 = 1_048_576;
-
-/// How many paths a thread goes through before it begins anew.
-const ORDER: u64 = 16_384;
-
-/// A tree and the paths that are looked up in it.
-#[derive(Drop)]
-struct Plan<'a> {
-    shape: Shape,
-    time: Duration,
-    lines: &'a [&'a [u8]],
-    files: &'a [&'a [u8]],
-    paths: &'a [PathText<'a>],
-    order: &'a [PathText<'a>],
+/// Prints a line.
+fn say<R: Print>(rt: &R, line: &str) -> Result<(), Fault> {
+    println!(rt; "{line}")?;
+    Ok(())
 }
 
-/// So many of some paths, in a random order.
-fn shuffled<'a>(alloc: Global, paths: &[PathText<'a>]) -> Result<Vec<PathText<'a>>, Fault> {
-    let mut order = Vec::new(alloc);
-    let mut rng = Pcg32::new(1, 54);
-    for _ in 0..ORDER {
-        let at = (rng.next_u32() as usize)
-            .checked_rem(paths.len())
-            .unwrap_or(0);
-        if let Some(path) = paths.get(at) {
-            order.push(*path)?;
-        }
-    }
-    Ok(order)
-}
-
-/// The paths in the order in which they are looked up: names that are to miss come in turns, so that
-/// each is gone before it comes again.
-fn ordered<'a>(
-    alloc: Global,
-    work: Work,
-    paths: &[PathText<'a>],
-) -> Result<Vec<PathText<'a>>, Fault> {
-    match work {
-        Work::Miss => Ok(Vec::from_slice(alloc, paths)?),
-        _ => shuffled(alloc, paths),
-    }
-}
-
-/// How many names that miss there are to each file: four times as many as there are rows in all.
-fn missing_to_a_file(shape: Shape, files: usize) -> u64 {
-    let names = shape.buckets.saturating_mul(16);
-    let each = names.checked_div(files as u64).unwrap_or(0);
-    each.saturating_add(1)
-}
-
-/// The texts that are looked up: those of the files, or of absent names beside them.
-fn texts_of(alloc: Global, shape: Shape, files: &[&[u8]]) -> Result<Vec<Vec<u8>>, Fault> {
-    match shape.work {
-        Work::Absent => extended(alloc, files, ABSENT, 1),
-        Work::Miss => extended(alloc, files, ABSENT, missing_to_a_file(shape, files.len())),
-        _ => extended(alloc, files, "", 1),
-    }
+/// Tells a row, as text or as a line of JSON.
+fn tell<R: Print, T: Row>(rt: &R, alloc: Global, row: &T, json: bool) -> Result<(), Fault> {
+    let line = if json {
+        row.json(alloc)?
+    } else {
+        format!(in alloc; "{row}")?
+    };
+    say(rt, &line)
 }
 
 /// The text of the tree: that of a file, or one that is drawn.
@@ -97,67 +44,6 @@ fn text_of<R: Files + AllocGlobal>(
         Some(path) => fs::read(rt, path).map_err(|_| Fault::Unread),
         None => draw(alloc, task.shape),
     }
-}
-
-/// Times one row of look-ups, on a cache made for it.
-fn look_row<R: Threads + Wait + Clock + Sync>(
-    rt: &R,
-    alloc: Global,
-    plan: &Plan<'_>,
-    threads: u64,
-) -> Result<LookRow, Fault>
-    requires { IsSync R.row }
-{
-    let (cache, mut pass) = Dcache::new(alloc, plan.shape.buckets, INODES)?;
-    plant(rt, alloc, &cache, &mut pass, plan.lines)?;
-    warm(rt, alloc, &cache, &mut pass, plan.paths);
-    let gate = Gate::new(threads);
-    let job = Job::Look(Looks {
-        alloc,
-        work: plan.shape.work,
-        paths: plan.order,
-        files: plan.files,
-        threads,
-        time: plan.time,
-        gate: &gate,
-    });
-    let other = cache.split(&mut pass);
-    let mut tally = spread(rt, &cache, &job, other, 0, threads.saturating_sub(1));
-    tally.sort();
-    Ok(LookRow {
-        shape: plan.shape,
-        threads,
-        tally,
-        filled: cache.shrink(rt, &mut pass, u64::MAX),
-    })
-}
-
-/// Prints a line.
-fn say<R: Print>(rt: &R, line: &str) -> Result<(), Fault> {
-    println!(rt; "{line}")?;
-    Ok(())
-}
-
-/// Times the rows of a run of look-ups, by these numbers of threads.
-fn look_rows<R: Threads + Wait + Clock + Sync + Print>(
-    rt: &R,
-    alloc: Global,
-    plan: &Plan<'_>,
-    threads: &[u64],
-    json: bool,
-) -> Result<(), Fault>
-    requires { IsSync R.row }
-{
-    for threads in threads {
-        let row = look_row(rt, alloc, plan, *threads)?;
-        let line = if json {
-            row.json(alloc)?
-        } else {
-            format!(in alloc; "{row}")?
-        };
-        say(rt, &line)?;
-    }
-    Ok(())
 }
 
 /// Times look-ups by these numbers of threads.
@@ -176,14 +62,21 @@ fn look_by<R: Threads + Wait + Clock + Sync + Print + Files + AllocGlobal>(
     let paths = parsed(alloc, &texts)?;
     let order = ordered(alloc, task.shape.work, &paths)?;
     let plan = Plan {
-        shape: task.shape,
+        shape: Shape {
+            hot: files.len() as u64,
+            ..task.shape
+        },
         time: task.time,
         lines: &lines,
         files: &files,
         paths: &paths,
         order: &order,
     };
-    look_rows(rt, alloc, &plan, threads, task.json)
+    for threads in threads {
+        let row = look_row(rt, alloc, &plan, *threads)?;
+        tell(rt, alloc, &row, task.json)?;
+    }
+    Ok(())
 }
 
 /// The numbers from 1 to this.
@@ -193,27 +86,6 @@ fn up_to(alloc: Global, most: u64) -> Result<Vec<u64>, Fault> {
         all.push(number.saturating_add(1))?;
     }
     Ok(all)
-}
-
-/// Times one row of changes.
-fn change_row<R: Threads + Wait + Clock + Sync>(
-    rt: &R,
-    alloc: Global,
-    time: Duration,
-    threads: u64,
-) -> Result<ChangeRow, Fault>
-    requires { IsSync R.row }
-{
-    let (cache, pass) = Dcache::new(alloc, 256, INODES)?;
-    let gate = Gate::new(threads);
-    let job = Job::Change(Changes {
-        alloc,
-        time,
-        gate: &gate,
-    });
-    let mut tally = spread(rt, &cache, &job, pass, 0, threads.saturating_sub(1));
-    tally.sort();
-    Ok(ChangeRow { threads, tally })
 }
 
 /// Times changes by these numbers of threads.
@@ -227,65 +99,9 @@ fn change_by<R: Threads + Wait + Clock + Sync + Print>(
 {
     for threads in threads {
         let row = change_row(rt, alloc, task.time, *threads)?;
-        let line = if task.json {
-            row.json(alloc)?
-        } else {
-            format!(in alloc; "{row}")?
-        };
-        say(rt, &line)?;
+        tell(rt, alloc, &row, task.json)?;
     }
     Ok(())
-}
-
-/// Runs a race on a course whose tree is made.
-fn run_race<R: Threads + Wait + Clock + Sync>(
-    rt: &R,
-    alloc: Global,
-    task: &RaceTask,
-    course: &Course,
-    cache: &Dcache,
-    mut pass: Pass,
-) -> Result<Tally, Fault>
-    requires sync { IsSync R.row }
-    requires pass { Fits cache.now pass }
-{
-    let right = answer(rt, alloc, cache, &mut pass, &course.asked);
-    let (done, gate) = (AtomicU64::new(0), Gate::new(task.threads.saturating_add(1)));
-    let job = Job::Race(Race {
-        alloc,
-        sort: task.sort,
-        asked: parse(&course.asked).map_err(|_| Fault::NoPaths)?,
-        made: &course.made,
-        right: &right,
-        lookers: task.threads,
-        looks: task.looks.checked_div(task.threads).unwrap_or(0),
-        done: &done,
-        gate: &gate,
-    });
-    Ok(spread(rt, cache, &job, pass, 0, task.threads))
-}
-
-/// One race, on a cache made for it.
-fn race_row<R: Threads + Wait + Clock + Sync>(
-    rt: &R,
-    alloc: Global,
-    task: &RaceTask,
-) -> Result<RaceRow, Fault>
-    requires { IsSync R.row }
-{
-    let course = Course::new(alloc, task.sort, task.depth)?;
-    let lines = lines_in(alloc, &course.lines)?;
-    let (cache, mut pass) = Dcache::new(alloc, 256, INODES)?;
-    plant(rt, alloc, &cache, &mut pass, &lines)?;
-    let begin = Instant::now(rt).map_err(|_| Fault::NoClock)?;
-    let tally = run_race(rt, alloc, task, &course, &cache, pass)?;
-    let took = begin.elapsed(rt).map_err(|_| Fault::NoClock)?;
-    Ok(RaceRow {
-        sort: task.sort,
-        depth: task.depth,
-        milliseconds: nanoseconds(took) / 1_000_000,
-        tally,
-    })
 }
 
 /// Tells a race in its style.
@@ -297,12 +113,13 @@ fn race<R: Threads + Wait + Clock + Sync + Print>(
     requires { IsSync R.row }
 {
     let row = race_row(rt, alloc, task)?;
-    let line = match task.style {
-        Style::Table => format!(in alloc; "{row}")?,
-        Style::Json => row.json(alloc)?,
-        Style::WrongOnly => format!(in alloc; "wrong answers: {}", row.tally.wrong)?,
-    };
-    say(rt, &line)
+    match task.style {
+        Style::WrongOnly => {
+            println!(rt; "wrong answers: {}", row.tally.wrong)?;
+            Ok(())
+        }
+        style => tell(rt, alloc, &row, style == Style::Json),
+    }
 }
 
 /// Races of both kinds, each with 1 and 16 directories in between.

@@ -3,7 +3,6 @@
 ghost use Rattle.dc_cache.specs.Passes.{Fits};
 ghost use Rattle.std.specs.Thread.{IsSync};
 
-use crate::change::Changes;
 use crate::look::Looks;
 use crate::race::Race;
 use crate::tally::Tally;
@@ -16,7 +15,6 @@ use std::thread::{Threads, join};
 #[derive(Drop)]
 pub enum Job<'a> {
     Look(Looks<'a>),
-    Change(Changes<'a>),
     Race(Race<'a>),
 }
 
@@ -32,7 +30,6 @@ fn work<R: Wait + Clock>(
 {
     match job {
         Job::Look(looks) => looks.run(rt, cache, &mut pass, thread),
-        Job::Change(changes) => changes.run(rt, cache, &mut pass, thread),
         Job::Race(race) => race.run(rt, cache, &mut pass, thread),
     }
 }

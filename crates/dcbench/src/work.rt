@@ -18,10 +18,12 @@ pub enum Work {
     Miss,
     /// Files by paths whose first name is a symbolic link.
     Links,
+    /// No look-up: a file of the thread's own is made and unlinked.
+    Change,
 }
 
 impl Work {
-    /// All kinds, in the order of the table.
+    /// All kinds that look up, in the order of the table.
     pub const ALL: [Work; 6] = [
         Work::Read,
         Work::Absent,
@@ -39,6 +41,7 @@ impl Work {
             Work::Churn => "churn",
             Work::Miss => "miss",
             Work::Links => "links",
+            Work::Change => "change",
         }
     }
 
@@ -59,6 +62,7 @@ impl Work {
         match self {
             Work::Mixed => Some(19),
             Work::Churn => Some(1),
+            Work::Change => Some(0),
             Work::Read | Work::Absent | Work::Miss | Work::Links => None,
         }
     }

@@ -1,7 +1,7 @@
 //! The server as a program: commands on standard input, replies on standard output.
 #![tactic(auto)]
 
-use dc_serve::{FreeGate, Options, OptionsFault, ServeFault, options, run};
+use dc_serve::{FreeGate, Options, OptionsFault, ServeFault, Stats, options, run};
 use std::process::ExitCode;
 use std::{env, io};
 
@@ -32,8 +32,8 @@ fn refuse(rt: &HostRuntime, fault: &OptionsFault) -> u8 {
     status
 }
 
-/// The sizes that the words choose, or the status where they choose none.
-fn sizes(rt: &HostRuntime) -> Result<Options, u8> {
+/// What the words choose, or the status where they choose nothing.
+fn chosen(rt: &HostRuntime) -> Result<Options, u8> {
     let words = words(rt).map_err(|error| refuse_words(rt, &error))?;
     options(rt.alloc(), &words).map_err(|fault| refuse(rt, &fault))
 }
@@ -49,9 +49,17 @@ fn ended(rt: &HostRuntime, run: Result<(), ServeFault>) -> u8 {
 
 fn main(rt: HostRuntime) -> ExitCode {
     let (mut input, mut output) = (rt.stdin(), rt.stdout());
-    let status = match sizes(&rt) {
-        Ok(sizes) => {
-            let result = run(&rt, rt.alloc(), &mut input, &mut output, sizes, &FreeGate);
+    let status = match chosen(&rt) {
+        Ok(options) if options.stats => {
+            let stats = Stats::default();
+            let result = run(&rt, rt.alloc(), &mut input, &mut output, options, &stats);
+            if result.is_ok() {
+                let _ = eprintln!(rt; "{stats}");
+            }
+            ended(&rt, result)
+        }
+        Ok(options) => {
+            let result = run(&rt, rt.alloc(), &mut input, &mut output, options, &FreeGate);
             ended(&rt, result)
         }
         Err(status) => status,

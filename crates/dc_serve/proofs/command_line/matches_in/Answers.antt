@@ -1,10 +1,10 @@
 use Rattle.std.proofs.Common.{◌≡◌, ◌∙◌, ap, ap₂, rules, refl, true, codes, map, subst, string_bytes}
 use Rattle.std.proofs.lemmas.Result.{IfOk-weaker}
-use Rattle.clap.specs.Words.{App, FailsBy, app_of, is_simple, matches_of, new_app, rule_of, with_rule}
+use Rattle.clap.specs.Words.{App, FailsBy, app_of, is_simple, matches_of, new_app, with_rule}
 use Rattle.clap.specs.Simple.{on_top}
 use Rattle.clap.specs.Faults.{is_simple_and_free, fault_of}
 use Rattle.clap.proofs.OnLiterals.{clap_on_literals}
-use Rattle.dc_serve.specs.CommandLine.{app, size_rule}
+use Rattle.dc_serve.specs.CommandLine.{app}
 use Rattle.dc_serve.proofs.command_line.matches_in.Goals as goal
 
 is_simple_app : is_simple app ≡ true
@@ -17,11 +17,10 @@ is_free_app = refl
 
 pub returns : goal.returns
 returns c =
-    let buckets_is : rule_of c.default_value-buckets.result ≡ size_rule (codes "buckets") (codes "256") = search rules in
-    let inodes_is : rule_of c.default_value-inodes.result ≡ size_rule (codes "inodes") (codes "65536") = search rules in
     let bare_is : app_of c.no_binary_name.result ≡ on_top (λ s. record s { no_binary_name = true }) (new_app (codes "dcserve")) = search rules in
-    let one = c.in_ok-arg.ensures.shape (search rules) ∙ ap₂ with_rule bare_is buckets_is in
-    let app_is : app_of c.in_ok-command.command ≡ app = c.in_ok-command.ensures.shape (search rules) ∙ ap₂ with_rule one inodes_is in
+    let one = c.in_ok-arg.ensures.shape (search rules) ∙ ap₂ with_rule bare_is c.size_arg-buckets.ensures.rule in
+    let two = c.in_ok-arg-2.ensures.shape (search rules) ∙ ap₂ with_rule one c.size_arg-inodes.ensures.rule in
+    let app_is : app_of c.in_ok-command.command ≡ app = c.in_ok-command.ensures.shape (search rules) ∙ ap₂ with_rule two c.flag_arg-stats.ensures.rule in
     let parse = c.try_get_matches_from in
     let words = map string_bytes c.args.words.now in
     record {

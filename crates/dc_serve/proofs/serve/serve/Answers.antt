@@ -15,5 +15,5 @@ returns-in_err-cache-clause-err g c =
 pub returns : goal.returns
 returns g c =
     let all = closed c.records_are_legal.ensures c.args.options.inodes _ (phases (said_by c.args.lines.now)) (all_ordered c.deref.result.now) (g.W.Write.contents c.args.writer.now) (g.W.Write.contents c.serve_phases-pass.new.writer)
-    (known c.in_ok-cache.pass) (known c.serve_phases-pass.result.0) c.serve_phases-pass.result.1 c.close-ended.result c.in_ok-cache.ensures.made.1 (ap all_ordered c.deref.ensures.value ∙ c.in_ok-phases.ensures)
-    (c.close-ended.ensures.tree, c.close-ended.ensures.whole) c.serve_phases-pass.ensures.ok c.serve_phases-pass.ensures.err in record { ok = all.ok; err = all.err }
+    (known c.in_ok-cache.pass) (known c.serve_phases-pass.result.0) (known c.tell_rows.new.pass) c.serve_phases-pass.result.1 c.close-ended.result c.in_ok-cache.ensures.made.1 (ap all_ordered c.deref.ensures.value ∙ c.in_ok-phases.ensures)
+    (record { same = c.tell_rows.ensures.same.1; nothing = c.tell_rows.ensures.nothing }) (c.close-ended.ensures.tree, c.close-ended.ensures.whole) c.serve_phases-pass.ensures.ok c.serve_phases-pass.ensures.err in record { ok = all.ok; err = all.err }

@@ -4,7 +4,7 @@ use Rattle.dc_lang.specs.Commands.{order_of}
 use Rattle.dc_plain.specs.Requests.{answer_of}
 use Rattle.dc_serve.specs.Sessions.{progress}
 use Rattle.dc_serve.proofs.Strands.{obeyed_one}
-use Rattle.dc_serve.proofs.session.obey.Goals as goal
+use Rattle.dc_serve.proofs.session.Phase.obey.Goals as goal
 
 pub returns-clause-ok : goal.returns-clause-ok
 returns-clause-ok g c =

@@ -1,5 +1,0 @@
-use Rattle.dc_cache.specs.Passes.{Fits}
-use Rattle.dcbench.proofs.change.Changes.time_turns.Given as goal
-
-abbrev pub invariant-turns : goal.invariant-turns
-invariant-turns g l = Fits l.cache l.pass
