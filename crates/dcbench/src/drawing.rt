@@ -70,16 +70,21 @@ impl Drawing {
         LETTERS.get(at as usize).copied().unwrap_or(b'-')
     }
 
-    /// A name that begins with the letters of `index`, so that no two of one level are the same.
+    /// A name that begins with the letters of `index`. What follows them begins with a dash, which is no
+    /// letter, so that no two names of one level are the same.
     fn name(&mut self, index: u64) -> Result<Vec<u8>, Fault> {
         let length = self.below(20);
         let mut name = Vec::new(self.alloc);
-        let mut rest = index;
+        let (mut rest, mut is_spelled) = (index, false);
         for _ in 0..=length.max(letters_of(index)) {
             let at = if rest > 0 || name.is_empty() {
                 rest % 36
-            } else {
+            } else if is_spelled {
                 self.below(36)
+            } else {
+                // Past the last letter, so a dash.
+                is_spelled = true;
+                36
             };
             rest /= 36;
             let letter = self.letter(at);
