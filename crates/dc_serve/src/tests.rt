@@ -237,6 +237,13 @@ fn refused_inputs(rt: HostRuntime) {
         ("0 mkdir /a\n0  look /\n", 2),
         ("\n0 look /\n", 1),
         ("sync\n0 look /\nsync \n", 3),
+        ("0 look \\x\n", 1),
+        ("0 look \\\n", 1),
+        ("0 look a\\eb\n", 1),
+        ("sync 0\n", 1),
+        ("0 sync\n", 1),
+        (" 0 look /\n", 1),
+        ("0 look / \n", 1),
     ] {
         let (result, output) = served(&rt, rt.alloc(), USUAL, input.as_bytes());
         assert_eq!(rt; result, Err(ServeFault::BadLine(number)), "{input}");

@@ -10,6 +10,8 @@ mod report;
 mod round;
 mod soak;
 mod tally;
+#[cfg(test)]
+mod tests;
 mod thread;
 mod threads;
 mod ways;

@@ -90,6 +90,14 @@ fn inputs_that_end_badly(rt: HostRuntime) {
     for (left, turn, want, reads) in [
         (18, Turn::Ends, Ok(()), 19),
         (18, Turn::PausesOnce, Ok(()), 19),
+        // The longest input isn't refused by its reader: its last line breaks off.
+        (
+            1_048_576,
+            Turn::Ends,
+            Err(ServeFault::BadLine(116_509)),
+            1_048_577,
+        ),
+        (1_048_577, Turn::Ends, Err(ServeFault::Read), 1_048_577),
         (u32::MAX, Turn::Ends, Err(ServeFault::Read), 1_048_577),
     ] {
         let (result, made, _) = read_from(&rt, rt.alloc(), left, turn);
