@@ -44,6 +44,7 @@
 //! | `look_fast` | never, and takes none | none | `Again`, with the cause |
 //! | `look_counted` | for each name | for rows | `Again`, with the cause |
 //! | `look` | if the rows don't answer | for rows, as far as there is any | never |
+//! | `look_filled` | once, if the rows don't answer | for rows, as far as there is any | never |
 //! | `stat` | yes | none | never |
 //! | `readlink`, `list` | yes | for the text or the names | `NoMemory` |
 //! | `change` | yes | for what it makes or moves | `NoMemory`, `Spent` |
@@ -53,6 +54,7 @@
 //! | `try_readlink`, `try_list` | never | for the text or the names | `None`, `NoMemory` |
 //! | `try_change` | never | for what it makes or moves | `None`, `NoMemory`, `Spent` |
 //! | `learn`, `split`, `join`, `close` | never | none | as said above and below |
+//! | `counts` | never | none | never |
 //!
 //! A `try_` call tries for the lock once. It answers `None` if another pass has it, and then nothing has
 //! changed; else it answers as the call that waits. `try_look` needs no lock if the rows answer.
@@ -93,6 +95,7 @@
 
 mod cache;
 mod changing;
+mod filled;
 mod filler;
 mod held;
 mod looking;
@@ -107,7 +110,7 @@ pub use dc_names::{Kind, Name, NoMemory, Part, PathText, Refusal, TextFault, par
 pub use dc_plain::{Call, Flags, Follow, Reply, Sort, Stamped};
 pub use dc_rows::ChangeFault;
 pub use dc_store::{SlabStore, Store};
-pub use dc_table::MakeFault;
+pub use dc_table::{Counts, MakeFault};
 pub use dc_walk::{Fast, MOST_LOADS, Why};
 
 /// The number of the root directory: the base of a caller that has no other directory.

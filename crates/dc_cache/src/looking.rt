@@ -10,6 +10,7 @@ ghost use Rattle.dc_table.specs.Shares.{HasNotTried};
 ghost use Rattle.dc_walk.specs.Fasts.{Keeps, IfAgain, IsLongAgain, Tried};
 ghost use Rattle.dc_walk.specs.Looks.{outcome_by};
 ghost use Rattle.dc_walk.specs.Long.{has_long_name};
+ghost use Rattle.dc_walk.specs.Unpins.{rows_in, GivesBack};
 ghost use Rattle.dc_walk.specs.declared.TheConstants.{MOST_LOADS};
 
 use crate::cache::{Dcache, Pass};
@@ -54,6 +55,7 @@ impl Dcache {
         ensures same { Fits self.now pass.new × (share pass.new ≡ share pass.old) }
         ensures tried { Tried (Look base path.entry.bytes.now follow) (view pass.old)
             (view pass.new) result }
+        ensures pins { GivesBack (rows_in pass.new.room) (known pass.new) }
     {
         let look = dc_walk::Look { base, path, follow };
         walk_counted(

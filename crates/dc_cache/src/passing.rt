@@ -10,7 +10,7 @@ ghost use Rattle.dc_table.specs.Ends.{Ends};
 ghost use Rattle.dc_table.specs.Shares.{IsWhole, first_known, kept_half, new_half, both};
 
 use crate::cache::{Dcache, Ended, NotYet, Pass};
-use dc_table::{MakeFault, Shared};
+use dc_table::{Counts, MakeFault, Shared};
 use dc_walk::Room;
 use std::alloc::Global;
 
@@ -26,6 +26,12 @@ impl Dcache {
         let (shared, seat) = Shared::new(alloc, buckets, max_inodes)?;
         let room = Room::new();
         Ok((Dcache { shared }, Pass { seat, room }))
+    }
+
+    /// What the cache has counted so far.
+    #[must_use]
+    pub fn counts(&self) -> Counts {
+        self.shared.counts()
     }
 
     /// A pass for another thread, which has seen what this one has. It gets half of the share.

@@ -332,3 +332,39 @@ fn threads_share_a_cache(rt: HostRuntime) -> Result<(), Fail> {
     assert!(rt; ended.clock == 100 && ended.store.live() == 101);
     Ok(())
 }
+
+/// Looks a path up so that its rows are filled.
+fn look_filled<R: Wait>(
+    rt: &R,
+    alloc: Global,
+    cache: &Dcache,
+    pass: &mut Pass,
+    path: &[u8],
+) -> Stamped
+    requires { Fits cache.now pass.old }
+    ensures { Fits cache.now pass.new }
+{
+    cache.look_filled(rt, alloc, pass, 1, path, Follow::Yes)
+}
+
+/// A look-up that fills the rows of its whole path: the next one goes by them. The fifth name of one bucket
+/// takes a row of another.
+#[test]
+fn a_path_is_filled_under_one_hold(rt: HostRuntime) -> Result<(), Fail> {
+    let (cache, mut p) = Dcache::new(rt.alloc(), 1, 16).expect(&rt, "memory");
+    let made = cache.change(&rt, rt.alloc(), &mut p, &mkdir(b"/a"));
+    assert!(rt; is_made(&made, &Reply::Done(2), 0));
+    let made = cache.change(&rt, rt.alloc(), &mut p, &mkdir(b"/a/b"));
+    assert!(rt; is_made(&made, &Reply::Done(3), 1));
+    assert!(rt; is_missed(&look_fast(&cache, &mut p, b"/a/b")));
+    let there = Reply::Found(3, Kind::Dir);
+    assert!(rt; is(&look_filled(&rt, rt.alloc(), &cache, &mut p, b"/a/b"), &there, 2));
+    assert!(rt; is_done(&look_fast(&cache, &mut p, b"/a/b"), &there, 2));
+    assert!(rt; is(&look_filled(&rt, rt.alloc(), &cache, &mut p, b"/c"), &Reply::Refused(2), 2));
+    assert!(rt; is(&look_filled(&rt, rt.alloc(), &cache, &mut p, b"/d"), &Reply::Refused(2), 2));
+    assert!(rt; cache.counts().evictions == 0);
+    assert!(rt; is(&look_filled(&rt, rt.alloc(), &cache, &mut p, b"/e"), &Reply::Refused(2), 2));
+    assert!(rt; cache.counts().evictions == 1 && cache.counts().sleeps == 0);
+    assert!(rt; is_missed(&look_fast(&cache, &mut p, b"/a")));
+    Ok(())
+}

@@ -55,13 +55,13 @@ met_change limit t at done s (Some p) true e here is none = let other : Some p �
 met_change limit t at done s (Some p) false e here is none = find-front _ done (s ∷ []) p e
 
 -- the judge has the tree of its point, and of the stamps so far the one that alters it
-record Led (limit : ℕ) (all done : List Stamp) (judge : Judge) : Type 0 where
+pub record Led (limit : ℕ) (all done : List Stamp) (judge : Judge) : Type 0 where
   pub limit_is : judge.limit ≡ limit
   pub tree_is : judge.tree ≡ tree_at limit all judge.clock
   pub change_is : change_at limit judge.tree judge.clock done ≡ judge.change
   pub past : AtMost judge.clock done
 
-met_led : (limit : ℕ) (all done : List Stamp) (judge : Judge) (s : Stamp) → Led limit all done judge → s.at ≡ judge.clock → IsGood judge s → Led limit all (done ++ s ∷ []) (with_met judge s)
+pub met_led : (limit : ℕ) (all done : List Stamp) (judge : Judge) (s : Stamp) → Led limit all done judge → s.at ≡ judge.clock → IsGood judge s → Led limit all (done ++ s ∷ []) (with_met judge s)
 met_led limit all done judge s led here good = go (is_change judge s) refl good
   where
     past : AtMost judge.clock (done ++ s ∷ [])
@@ -96,7 +96,7 @@ next_tree limit l all done rest t clock at p same tree_is change split next =
     ap (λ (n : ℕ). tree_after n t p.request) same ∙ ap (λ (u : Tree). tree_after limit u p.request) tree_is
     ∙ sym (ap (tree_led limit (tree_at limit all clock)) found) ∙ ap (tree_at limit all) up
 
-moved_led : (limit : ℕ) (all done rest : List Stamp) (l : ℕ) (t : Tree) (clock : ℕ) (change : Option Stamp) (at : ℕ) → all ≡ done ++ rest
+pub moved_led : (limit : ℕ) (all done rest : List Stamp) (l : ℕ) (t : Tree) (clock : ℕ) (change : Option Stamp) (at : ℕ) → all ≡ done ++ rest
     → Led limit all done (record { limit = l; tree = t; clock = clock; change = change }) → Moves (record { limit = l; tree = t; clock = clock; change = change }) at
     → Led limit all done (record (settled (record { limit = l; tree = t; clock = clock; change = change })) { clock = at })
 moved_led limit all done rest l t clock None at split led moves = absurd (moves.altered refl)

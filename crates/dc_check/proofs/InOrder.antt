@@ -22,7 +22,7 @@ change_same limit t at stamps sorted is =
     find-filter (λ s. s.at == at) (λ s. alters limit t s.request) sorted ∙ ap (find (λ s. alters limit t s.request)) (is.stable at) ∙ sym (find-filter (λ s. s.at == at) (λ s. alters limit t s.request) stamps)
 
 -- the trees don't ask in which order the stamps stand that have one point
-tree_same : (limit at : ℕ) (stamps sorted : List Stamp) → IsByPoint stamps sorted → tree_at limit sorted at ≡ tree_at limit stamps at
+pub tree_same : (limit at : ℕ) (stamps sorted : List Stamp) → IsByPoint stamps sorted → tree_at limit sorted at ≡ tree_at limit stamps at
 unfolding tree_at
 tree_same limit zero stamps sorted is = refl
 tree_same limit (suc at) stamps sorted is =

@@ -10,6 +10,7 @@ pub mod Steps
 pub mod Floors
 pub mod Sorted
 pub mod Ends
+pub mod Reached
 pub mod Items
 pub mod InOrder
 pub mod PhaseOrder

@@ -1,6 +1,7 @@
 //! The judge: it takes stamps by their points, one after the other.
 
 ghost use Rattle.std.specs.Prelude.{◌≡◌, ◌≤◌, ◌↔◌, IsTrue, IfOk, OnOk, IfErr};
+ghost use Rattle.dc_plain.specs.OwnCalls.{own_request};
 ghost use Rattle.dc_plain.specs.Requests.{answer_of};
 ghost use Rattle.dc_plain.specs.Runs.{reply_of};
 ghost use Rattle.dc_names.specs.declared.limits.TheConstants.{MOST_INODES};
@@ -8,7 +9,7 @@ ghost use Rattle.dc_check.specs.Judges.{judge_of, numbered_of, Blames};
 ghost use Rattle.dc_check.specs.Judging.{opening, is_change, IsGood, IsPassed, with_met, IsSettled, settled, Reaches, reached, Takes, taken, alters_at};
 
 use crate::fault::Fault;
-use crate::stamp::Numbered;
+use crate::stamp::{Numbered, Stamp};
 use crate::tree::QuickTree;
 use dc_names::NoMemory;
 use dc_plain::Reply;
@@ -143,5 +144,15 @@ impl<'a> Judge<'a> {
     {
         self.reach(alloc, numbered.stamp.at)?;
         self.meet(alloc, numbered)
+    }
+
+    /// What the tree gives the call of a stamp at its point, where the judge gets there.
+    pub fn due(&mut self, alloc: Global, stamp: &Stamp) -> Result<Reply, Fault>
+        ensures ok { OnOk result (Reaches (judge_of self.old) stamp.now.at) }
+        ensures reply { IfOk result (λ reply. let judge = reached (judge_of self.old) stamp.now.at in
+            answer_of reply ≡ reply_of judge.limit judge.tree (own_request stamp.now.call)) }
+    {
+        self.reach(alloc, stamp.at)?;
+        Ok(self.tree.apply(alloc, &stamp.call.as_call())?)
     }
 }

@@ -2,6 +2,7 @@
 #![tactic(auto)]
 
 mod checking;
+mod due;
 mod fault;
 mod judge;
 mod order;
@@ -11,6 +12,7 @@ mod stamp;
 mod tree;
 
 pub use checking::{check, check_phases};
+pub use due::reply_due;
 pub use record::{RecordFault, record_of};
 pub use stamp::{PhasedVerdict, Stamp, Verdict};
 pub use tree::QuickTree;

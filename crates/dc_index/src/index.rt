@@ -3,7 +3,7 @@
 ghost use Rattle.std.specs.Prelude.{◌≡◌, ◌<◌, ◌≤◌, ◌*◌, ◌/◌, ◌%◌, ◌≢◌, ℕ, OnOk, OnErr, IfOk, IfSome, length, replicate, slice_set, map};
 ghost use Rattle.dc_names.specs.declared.limits.TheConstants.{MOST_BUCKETS};
 ghost use Rattle.dc_plain.specs.KeysShown.{key_shown};
-ghost use Rattle.dc_index.specs.Slots.{slot_of, cleared, bucket_of, bucket_in, IsIndex, IsRowOf};
+ghost use Rattle.dc_index.specs.Slots.{slot_of, has_key, cleared, bucket_of, bucket_in, IsIndex, IsRowOf};
 ghost use Rattle.dc_index.specs.Slots.Slot.{Free as IsFree, Retired as IsRetired, Holds};
 ghost use Rattle.dc_index.specs.OwnKeys.{slot_shown};
 ghost use Rattle.dc_index.specs.Choices.{first_free, slots_in, choice, AgreeIn, MayTake};
@@ -112,6 +112,15 @@ impl Index {
     {
         let place = place_of_free(self.slots_in(bucket))?;
         Some(BUCKET_ROWS * bucket + place as u64)
+    }
+
+    /// Whether a row has a key.
+    #[must_use]
+    pub fn has_key(&self, row: u64) -> bool
+        requires { row < length self.now }
+        ensures { result ≡ has_key (slot_of self.now row) }
+    {
+        self.slots[row as usize].has_key()
     }
 
     /// The row for a key that has none: the free row of its bucket with the lowest number, or else

@@ -5,7 +5,7 @@ ghost use Rattle.std.specs.List.{range_with_len};
 ghost use Rattle.dc_index.specs.declared.slot.Slot.TheVariants as slot;
 ghost use Rattle.dc_plain.specs.Facts.{same_label};
 ghost use Rattle.dc_plain.specs.KeysShown.{key_shown, label_shown};
-ghost use Rattle.dc_index.specs.Slots.{is_free, is_slot_of, same_key, cleared};
+ghost use Rattle.dc_index.specs.Slots.{has_key, is_free, is_slot_of, same_key, cleared};
 ghost use Rattle.dc_index.specs.OwnKeys.{own_label_shown, own_shown, slot_shown};
 
 use dc_plain::{Key, Label};
@@ -80,6 +80,12 @@ impl Slot {
         ensures { result ≡ is_free (slot_shown self.now) }
     {
         matches!(self, Slot::Free)
+    }
+
+    pub(crate) fn has_key(&self) -> bool
+        ensures { result ≡ has_key (slot_shown self.now) }
+    {
+        matches!(self, Slot::Held(_))
     }
 
     /// Takes the key away, if there is one.

@@ -82,7 +82,11 @@ fn fill_row(
     let Some(row) = kept.index.choose(&kept.shrinker, key) else {
         return Ok(None);
     };
+    let evicts = kept.index.has_key(row);
     kept.index.set(alloc, row, key)?;
+    if evicts {
+        holder.count_eviction();
+    }
     kept.shrinker.remove(row);
     fill_given(holder, kept, row, key, &words)
 }

@@ -67,7 +67,7 @@ fn serve_phases<R: Threads + Wait + Sync, G: Gate, W: Write>(
     (pass, Ok(()))
 }
 
-/// Tells the gate how many rows are filled, where that is wanted.
+/// Tells the gate how many rows are filled and what the cache has counted, where that is wanted.
 fn tell_rows<R: Wait, G: Gate>(rt: &R, cache: &Dcache, pass: &mut Pass, options: Options, gate: &G)
     requires { Fits cache.now pass.old }
     ensures same { Fits cache.now pass.new × (share pass.new ≡ share pass.old) }
@@ -75,7 +75,7 @@ fn tell_rows<R: Wait, G: Gate>(rt: &R, cache: &Dcache, pass: &mut Pass, options:
 {
     if options.stats {
         // What is emptied was filled: the cache tells of its rows in no other way.
-        gate.ended(cache.shrink(rt, pass, u64::MAX));
+        gate.ended(cache.shrink(rt, pass, u64::MAX), cache.counts());
     }
 }
 

@@ -1,7 +1,7 @@
 //! How look-ups were answered, counted for all sessions together.
 
 use crate::{Gate, Looked};
-use dc_cache::Why;
+use dc_cache::{Counts, Why};
 use std::fmt;
 use std::sync::atomic::{AtomicU64, Ordering};
 
@@ -34,6 +34,8 @@ pub struct Stats {
     busy: Count,
     changed: Count,
     rows: AtomicU64,
+    evictions: AtomicU64,
+    sleeps: AtomicU64,
 }
 
 impl Stats {
@@ -70,8 +72,10 @@ impl Gate for Stats {
 
     fn after(&self, _session: u64, _line: u64) {}
 
-    fn ended(&self, rows: u64) {
+    fn ended(&self, rows: u64, counts: Counts) {
         self.rows.store(rows, Ordering::SeqCst);
+        self.evictions.store(counts.evictions, Ordering::SeqCst);
+        self.sleeps.store(counts.sleeps, Ordering::SeqCst);
     }
 }
 
@@ -87,6 +91,12 @@ impl fmt::Display for Stats {
             "\nnot without the lock: {} Miss, {} Link, {} Long, {} Busy, {} Changed",
             self.miss, self.link, self.long, self.busy, self.changed
         )?;
-        write!(f, "\nrows in use: {}", self.rows.load(Ordering::SeqCst))
+        write!(
+            f,
+            "\nrows in use: {}, evictions: {}, sleeps: {}",
+            self.rows.load(Ordering::SeqCst),
+            self.evictions.load(Ordering::SeqCst),
+            self.sleeps.load(Ordering::SeqCst)
+        )
     }
 }

@@ -53,7 +53,7 @@ mod walking;
 
 pub use dc_names::{MOST_COUNT, MakeFault};
 pub use holder::{Holder, Reader};
-pub use shared::Shared;
+pub use shared::{Counts, Shared};
 pub use sheet::Sheet;
 pub use table::{Guarded, Limits, Pass, Protocol};
 
@@ -68,6 +68,9 @@ pub(crate) const FREE: u64 = 0;
 
 /// A pass has the lock.
 pub(crate) const TAKEN: u64 = 1;
+
+/// How often a pass that found the lock taken looks at its word before it sleeps.
+pub(crate) const MOST_LOOKS: u64 = 1_000;
 
 /// The first word of the rows.
 pub(crate) const FIRST_ROW: usize = 2;

@@ -9,7 +9,7 @@ ghost use Rattle.dc_table.specs.Passes.{known, share, Fits, IsIdle};
 ghost use Rattle.dc_table.specs.Shares.{IsWhole, first_known, kept_half, new_half, both};
 
 use crate::plays::Halves;
-use crate::shared::Shared;
+use crate::shared::{Counts, Shared};
 use crate::table::{Guarded, Limits, Pass};
 use crate::{FIRST_ROW, FREE, LOCK};
 use atomic_table::{Refused, Table};
@@ -21,6 +21,7 @@ use dc_shrink::Shrinker;
 use dc_store::SlabStore;
 use std::alloc::Global;
 use std::sync::atomic::AtomicU64;
+use std::sync::atomic::Ordering::Relaxed;
 
 impl Guarded {
     /// The root directory alone, and no row with a key.
@@ -77,6 +78,8 @@ impl Shared {
                     table,
                     limits: *limits,
                     waiting: AtomicU64::new(0),
+                    sleeps: AtomicU64::new(0),
+                    evictions: AtomicU64::new(0),
                 },
                 pass,
             )),
@@ -96,6 +99,14 @@ impl Shared {
         ensures { result ≡ self.now.limits.rows / BUCKET_ROWS }
     {
         self.limits.rows / BUCKET_ROWS
+    }
+
+    /// What the table has counted so far.
+    pub fn counts(&self) -> Counts {
+        Counts {
+            evictions: self.evictions.load(Relaxed),
+            sleeps: self.sleeps.load(Relaxed),
+        }
     }
 
     /// A pass for another thread, which has seen what this one has. It gets half of the share.
@@ -133,6 +144,8 @@ impl Shared {
             table,
             limits: _,
             waiting: _,
+            sleeps: _,
+            evictions: _,
         } = self;
         let mut closed = table.close_with(pass);
         let lock = closed.word(LOCK);

@@ -9,6 +9,16 @@ use atomic_table::Table;
 use std::alloc::Global;
 use std::sync::atomic::AtomicU64;
 
+/// What a table has counted so far. The counts are kept beside the words: nothing rests on them, and no
+/// clause tells of them.
+#[derive(Clone, Copy, Debug, PartialEq, Eq)]
+pub struct Counts {
+    /// How many rows have lost their key to another. Rows that `shrink` emptied aren't among them.
+    pub evictions: u64,
+    /// How often a pass has gone to sleep until the lock is free.
+    pub sleeps: u64,
+}
+
 /// The words that all threads share, and the slot of the lock.
 #[derive(Drop)]
 pub struct Shared {
@@ -16,6 +26,10 @@ pub struct Shared {
     pub(crate) limits: Limits,
     /// How many passes sleep until the lock is free.
     pub(crate) waiting: AtomicU64,
+    /// How often a pass has gone to sleep.
+    pub(crate) sleeps: AtomicU64,
+    /// How many rows have lost their key to another.
+    pub(crate) evictions: AtomicU64,
     ghost limits_are: { limits ≡ table.shared.key },
     ghost words: { table.shared.table_id.words ≡ base_of limits.rows },
     ghost slots: { table.shared.table_id.slots ≡ 1 },

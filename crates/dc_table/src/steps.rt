@@ -15,13 +15,14 @@ use crate::holder::Holder;
 use crate::plays::{Answer, Asked, Commit, Give, Put, Raise, Take};
 use crate::shared::Shared;
 use crate::table::{Guarded, Pass};
-use crate::{CLOCK, FIRST_ROW, FREE, LOCK, TAKEN};
+use crate::{CLOCK, FIRST_ROW, FREE, LOCK, MOST_LOOKS, TAKEN};
 use dc_events::events_keep_the_rule;
 use dc_plain::Call;
 use dc_row::ROW_WORDS;
+use std::hint;
 use std::marker::Brand;
 use std::sync::Wait;
-use std::sync::atomic::Ordering::SeqCst;
+use std::sync::atomic::Ordering::{Relaxed, SeqCst};
 
 impl Shared {
     /// Tries the lock, and takes what it guards out of its slot.
@@ -55,7 +56,9 @@ impl Shared {
             if let Some(guarded) = self.try_take(pass) {
                 return guarded;
             }
-            self.wait(rt);
+            if !self.comes_free() {
+                self.wait(rt);
+            }
         }
         // The loop above ends by its return alone.
         unreachable!()
@@ -91,11 +94,24 @@ impl Shared {
         (Holder { shared: self, pass }, guarded)
     }
 
+    /// Watches the lock for a while, and answers whether it was seen free. A holder needs it for far less
+    /// time than a thread takes to fall asleep and to be woken.
+    fn comes_free(&self) -> bool {
+        for _ in 0..MOST_LOOKS {
+            if self.table.shared.peek(LOCK) == FREE {
+                return true;
+            }
+            hint::spin_loop();
+        }
+        false
+    }
+
     /// Sleeps while the lock is held.
     fn wait<R: Wait>(&self, rt: &R) {
         // A holder that gave the lock back before it saw a sleeper would wake nobody. It sees each that
         // came before, and one that comes later finds the lock free and doesn't sleep.
         self.waiting.fetch_add(1, SeqCst);
+        self.sleeps.fetch_add(1, Relaxed);
         self.table.shared.park(rt, LOCK, TAKEN as u32);
         self.waiting.fetch_sub(1, SeqCst);
     }
@@ -160,6 +176,11 @@ impl<'t> Holder<'t> {
         shared.table.shared.store::<Answer<C>>(pass, LOCK, FREE);
         shared.wake();
         pass
+    }
+
+    /// Counts a row that loses its key to another.
+    pub fn count_eviction(&self) {
+        self.shared.evictions.fetch_add(1, Relaxed);
     }
 
     /// Shuts an even row, and returns its count, which is odd.

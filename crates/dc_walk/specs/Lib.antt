@@ -14,3 +14,4 @@ pub mod Becomings
 pub mod Settling
 pub mod Fasts
 pub mod Walks
+pub mod Unpins

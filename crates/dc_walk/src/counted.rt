@@ -1,11 +1,12 @@
 //! A look-up by rows that are filled and pinned for it.
 
 ghost use Rattle.std.specs.Prelude.{◌≤◌, true, length};
-ghost use Rattle.dc_table.specs.Passes.{view, Fits, IsSamePass, IsIdle};
+ghost use Rattle.dc_table.specs.Passes.{known, view, Fits, IsSamePass, IsIdle};
 ghost use Rattle.dc_walk.specs.Fasts.{Tried};
 ghost use Rattle.dc_walk.specs.Findings.{CanWalk};
 ghost use Rattle.dc_walk.specs.Looks.{look_shown};
 ghost use Rattle.dc_walk.specs.Sources.{Rests};
+ghost use Rattle.dc_walk.specs.Unpins.{rows_in, rows_used, with_spare, IsUnpinned, GivesBack};
 ghost use Rattle.dc_walk.specs.declared.TheConstants.{MOST_USED};
 
 use crate::MOST_USED;
@@ -30,6 +31,7 @@ fn unpin<R: Wait>(shared: &Shared, rt: &R, pass: &mut Pass, used: &[Used], spare
     requires few { length used.now ≤ MOST_USED }
     ensures same { IsSamePass pass.old pass.new × IsIdle pass.new }
     ensures rests { Rests true (view pass.old) (view pass.new) }
+    ensures unpinned { IsUnpinned (with_spare (rows_used used.now) spare) (known pass.new) }
 {
     let mut rows: ArrayVec<u64, MOST_PINNED> = ArrayVec::new();
     for one in used {
@@ -58,6 +60,7 @@ pub fn walk_counted<R: Wait>(
     requires can { CanWalk shared.now pass.old }
     ensures same { IsSamePass pass.old pass.new × IsIdle pass.new }
     ensures tried { Tried (look_shown look.entry) (view pass.old) (view pass.new) result }
+    ensures pins { GivesBack (rows_in room.new) (known pass.new) }
 {
     let source = Pinning { shared, rt, alloc };
     let (fast, spare) = walk_by(&source, shared.reader(), pass, &mut room.used, look);

@@ -1,7 +1,7 @@
 //! The words of the command line.
 
 use crate::fault::Fault;
-use crate::work::{ChangeTask, LookTask, RaceTask, Shape, Sort, Style, Task, Work};
+use crate::work::{ChangeTask, LookTask, Miss, RaceTask, Shape, Sort, Style, Task, Work};
 use clap::{Arg, ArgAction, ArgMatches, Command, Error, value_parser};
 use std::alloc::Global;
 use std::time::Duration;
@@ -82,7 +82,12 @@ fn look_command<'a>(alloc: Global) -> Result<Command<'a>, Error> {
         .arg(threads(alloc, "1"))?
         .arg(tree)?
         .arg(milliseconds(alloc))?
-        .arg(flag(alloc, "json", "A line of JSON for each row"))?;
+        .arg(flag(alloc, "json", "A line of JSON for each row"))?
+        .arg(flag(
+            alloc,
+            "one-hold",
+            "Looks up by look_filled: a miss takes the lock once",
+        ))?;
     with_shape(alloc, command)
 }
 
@@ -159,8 +164,9 @@ fn time_of(matches: &ArgMatches<'_>) -> Duration {
         .min(Duration::from_secs(3600))
 }
 
-fn shape_of(matches: &ArgMatches<'_>) -> Shape {
+fn shape_of(matches: &ArgMatches<'_>, miss: Miss) -> Shape {
     Shape {
+        miss,
         work: Work::of(matches.get_str("work").unwrap_or("read")),
         depth: number_of(matches, "depth"),
         hot: number_of(matches, "hot"),
@@ -169,10 +175,15 @@ fn shape_of(matches: &ArgMatches<'_>) -> Shape {
 }
 
 fn look_of<'a>(matches: &ArgMatches<'a>) -> LookTask<'a> {
+    let miss = if matches.get_flag("one-hold") {
+        Miss::OneHold
+    } else {
+        Miss::NameByName
+    };
     LookTask {
         threads: number_of(matches, "threads"),
         time: time_of(matches),
-        shape: shape_of(matches),
+        shape: shape_of(matches, miss),
         tree: matches.get_str("tree"),
         json: matches.get_flag("json"),
     }
@@ -213,6 +224,6 @@ pub fn task_of<'a>(alloc: Global, words: &'a [String]) -> Result<Task<'a>, Fault
             json: found.get_flag("json"),
         }),
         "race" => Task::Race(race_of(found)),
-        _ => Task::Tree(shape_of(found)),
+        _ => Task::Tree(shape_of(found, Miss::NameByName)),
     })
 }

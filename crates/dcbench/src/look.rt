@@ -5,7 +5,7 @@ ghost use Rattle.dc_cache.specs.Passes.{Fits};
 use crate::gate::Gate;
 use crate::own::Own;
 use crate::tally::{Tally, a_second};
-use crate::work::Work;
+use crate::work::{Miss, Work};
 use dc_cache::{Dcache, Fast, Follow, Pass, PathText, ROOT, Reply, Why};
 use std::alloc::Global;
 use std::rt::Clock;
@@ -26,10 +26,12 @@ pub struct Looks<'a> {
     pub files: &'a [&'a [u8]],
     pub threads: u64,
     pub time: Duration,
+    pub miss: Miss,
     pub gate: &'a Gate,
 }
 
-/// Looks a path up after the rows gave up, by rows that are filled for it, else as `look` goes on.
+/// Looks a path up after the rows gave up: under the lock, which fills the rows of the path, or by rows
+/// that are filled for it one by one, else as `look` goes on.
 #[cold]
 #[inline(never)]
 fn look_slowly<R: Wait>(
@@ -38,11 +40,18 @@ fn look_slowly<R: Wait>(
     cache: &Dcache,
     pass: &mut Pass,
     path: PathText<'_>,
+    miss: Miss,
     tally: &mut Tally,
 ) -> Reply
     requires { Fits cache.now pass.old }
     ensures { Fits cache.now pass.new }
 {
+    if miss == Miss::OneHold {
+        tally.by_lock = tally.by_lock.saturating_add(1);
+        return cache
+            .look_filled(rt, alloc, pass, ROOT, path.bytes(), Follow::Yes)
+            .reply;
+    }
     if let Fast::Done(found) = cache.look_counted(rt, alloc, pass, ROOT, path, Follow::Yes) {
         tally.by_rows = tally.by_rows.saturating_add(1);
         return found.reply;
@@ -68,6 +77,7 @@ pub fn look<R: Wait>(
     cache: &Dcache,
     pass: &mut Pass,
     path: PathText<'_>,
+    miss: Miss,
     tally: &mut Tally,
 ) -> Reply
     requires { Fits cache.now pass.old }
@@ -77,7 +87,7 @@ pub fn look<R: Wait>(
         Fast::Done(found) => found.reply,
         Fast::Again(why) => {
             count_cause(&why, tally);
-            look_slowly(rt, alloc, cache, pass, path, tally)
+            look_slowly(rt, alloc, cache, pass, path, miss, tally)
         }
     }
 }
@@ -89,6 +99,7 @@ fn look_each<R: Wait>(
     cache: &Dcache,
     pass: &mut Pass,
     paths: &[PathText<'_>],
+    miss: Miss,
     tally: &mut Tally,
 ) -> u64
     requires { Fits cache.now pass.old }
@@ -96,7 +107,7 @@ fn look_each<R: Wait>(
 {
     let mut found = 0u64;
     for path in paths {
-        let reply = look(rt, alloc, cache, pass, *path, tally);
+        let reply = look(rt, alloc, cache, pass, *path, miss, tally);
         found = found.wrapping_add(u64::from(matches!(reply, Reply::Found(_, _))));
     }
     found
@@ -131,6 +142,7 @@ fn look_and_change<R: Wait>(
     pass: &mut Pass,
     paths: &[PathText<'_>],
     few: usize,
+    miss: Miss,
     own: &mut Own,
     tally: &mut Tally,
 ) -> u64
@@ -139,7 +151,7 @@ fn look_and_change<R: Wait>(
 {
     let mut found = 0u64;
     'parts: for part in paths.chunks(few.max(1)) {
-        found = found.wrapping_add(look_each(rt, alloc, cache, pass, part, tally));
+        found = found.wrapping_add(look_each(rt, alloc, cache, pass, part, miss, tally));
         change(rt, alloc, cache, pass, own, tally);
     }
     found
@@ -176,14 +188,14 @@ impl<'a> Looks<'a> {
         requires { Fits cache.now pass.old }
         ensures { Fits cache.now pass.new }
     {
-        let alloc = self.alloc;
+        let (alloc, miss) = (self.alloc, self.miss);
         let found = match self.work.looks_to_a_change() {
-            None => look_each(rt, alloc, cache, pass, paths, tally),
+            None => look_each(rt, alloc, cache, pass, paths, miss, tally),
             Some(0) => {
                 change_each(rt, alloc, cache, pass, own, tally);
                 0
             }
-            Some(few) => look_and_change(rt, alloc, cache, pass, paths, few, own, tally),
+            Some(few) => look_and_change(rt, alloc, cache, pass, paths, few, miss, own, tally),
         };
         tally.found = tally.found.saturating_add(found);
         tally.looks = tally.looks.saturating_add(paths.len() as u64);

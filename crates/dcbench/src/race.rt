@@ -14,7 +14,7 @@ use crate::gate::Gate;
 use crate::look::look;
 use crate::tally::{Tally, a_second};
 use crate::tree::make;
-use crate::work::Sort;
+use crate::work::{Miss, Sort};
 use dc_cache::{Call, Dcache, Flags, Follow, Pass, PathText, ROOT, Reply};
 use std::alloc::Global;
 use std::rt::Clock;
@@ -131,7 +131,15 @@ impl<'a> Race<'a> {
         ensures { Fits cache.now pass.new }
     {
         'looks: for _ in 0..self.looks {
-            let reply = look(rt, self.alloc, cache, pass, self.asked, tally);
+            let reply = look(
+                rt,
+                self.alloc,
+                cache,
+                pass,
+                self.asked,
+                Miss::NameByName,
+                tally,
+            );
             tally.looks = tally.looks.saturating_add(1);
             let wrong = reply != *self.right;
             tally.wrong = tally.wrong.saturating_add(u64::from(wrong));

@@ -30,13 +30,15 @@ pub struct LookRow {
     pub shape: Shape,
     pub threads: u64,
     pub tally: Tally,
+    /// How many rows lost their key to another.
+    pub evicted: u64,
     /// How many rows are filled at the end.
     pub filled: u64,
 }
 
 /// What stands above the rows of look-ups.
 pub const LOOK_HEAD: &str = "\
-work   names threads   median ns      99th     calls a s  without lock   filled rows    lock   rows gone  rows in use";
+work   names threads   median ns      99th     calls a s  without lock   filled rows    lock   rows gone     evicted  rows in use";
 
 impl fmt::Display for LookRow {
     fn fmt<W: fmt::Write>(&self, f: &mut fmt::Formatter<W>) -> fmt::Result {
@@ -63,8 +65,8 @@ impl fmt::Display for LookRow {
         )?;
         write!(
             f,
-            " {:>7} {:>11} {:>12}",
-            tally.by_lock, tally.missed, self.filled
+            " {:>7} {:>11} {:>11} {:>12}",
+            tally.by_lock, tally.missed, self.evicted, self.filled
         )
     }
 }
@@ -91,6 +93,7 @@ impl Row for LookRow {
             "under_lock": tally.by_lock,
             "rows_gone": tally.missed,
             "disturbed": tally.disturbed,
+            "rows_evicted": self.evicted,
             "rows_in_use": self.filled,
             "changes_refused": tally.wrong
         })?

@@ -8,7 +8,7 @@ use crate::look::Looks;
 use crate::report::{ChangeRow, LookRow};
 use crate::threads::{Job, spread};
 use crate::tree::{plant, warm};
-use crate::work::{Shape, Work};
+use crate::work::{Miss, Shape, Work};
 use dc_cache::{Dcache, PathText};
 use std::alloc::Global;
 use std::rt::Clock;
@@ -43,6 +43,7 @@ pub fn look_row<R: Threads + Wait + Clock + Sync>(
     plant(rt, alloc, &cache, &mut pass, plan.lines)?;
     warm(rt, alloc, &cache, &mut pass, plan.paths);
     let gate = Gate::new(threads);
+    let before = cache.counts().evictions;
     let job = Job::Look(Looks {
         alloc,
         work: plan.shape.work,
@@ -50,6 +51,7 @@ pub fn look_row<R: Threads + Wait + Clock + Sync>(
         files: plan.files,
         threads,
         time: plan.time,
+        miss: plan.shape.miss,
         gate: &gate,
     });
     let other = cache.split(&mut pass);
@@ -59,6 +61,7 @@ pub fn look_row<R: Threads + Wait + Clock + Sync>(
         shape: plan.shape,
         threads,
         tally,
+        evicted: cache.counts().evictions.saturating_sub(before),
         filled: cache.shrink(rt, &mut pass, u64::MAX),
     })
 }
@@ -79,6 +82,7 @@ pub fn change_row<R: Threads + Wait + Clock + Sync>(
             depth: 1,
             hot: 0,
             buckets: 256,
+            miss: Miss::NameByName,
         },
         time,
         lines: &lines,

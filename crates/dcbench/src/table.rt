@@ -9,7 +9,7 @@ use crate::racing::race_row;
 use crate::report::{CHANGE_HEAD, LOOK_HEAD, RACE_HEAD, Row};
 use crate::rows::{Plan, change_row, look_row};
 use crate::tree::{asked_in, lines_in, parsed};
-use crate::work::{ChangeTask, LookTask, RaceTask, Shape, Sort, Style, Task, Work};
+use crate::work::{ChangeTask, LookTask, Miss, RaceTask, Shape, Sort, Style, Task, Work};
 use std::alloc::Global;
 use std::fs;
 use std::io::Write;
@@ -159,6 +159,7 @@ fn looks_at<R: Threads + Wait + Clock + Sync + Print + Files + AllocGlobal>(
             depth,
             hot: 1_000,
             buckets: 1_024,
+            miss: Miss::NameByName,
         };
         let task = LookTask {
             threads: 4,

@@ -103,14 +103,24 @@ pub struct LookTask<'a> {
     pub json: bool,
 }
 
+/// What a look-up does where the rows don't answer.
+#[derive(Clone, Copy, PartialEq, Eq)]
+pub enum Miss {
+    /// It takes the lock for each name of its path, as `look` does.
+    NameByName,
+    /// It takes the lock once, as `look_filled` does.
+    OneHold,
+}
+
 /// A tree that is drawn: how many names its paths have, how many files are asked, and over how many
-/// buckets its names are to fit.
+/// buckets its names are to fit; and what its look-ups do where the rows don't answer.
 #[derive(Clone, Copy)]
 pub struct Shape {
     pub work: Work,
     pub depth: u64,
     pub hot: u64,
     pub buckets: u64,
+    pub miss: Miss,
 }
 
 /// A run of changes.

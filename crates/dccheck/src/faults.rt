@@ -26,11 +26,12 @@ pub enum Fault {
     NoMemory,
 }
 
-/// One of the two files.
+/// One of the files.
 #[derive(Clone, Copy)]
 pub enum File {
     Commands,
     Replies,
+    Trace,
 }
 
 impl File {
@@ -38,6 +39,7 @@ impl File {
         match self {
             File::Commands => "COMMANDS",
             File::Replies => "REPLIES",
+            File::Trace => "FILE",
         }
     }
 }

@@ -2,17 +2,28 @@
 #![tactic(auto)]
 
 mod command_line;
+mod counts;
 mod faults;
-mod verdicts;
+mod near;
+mod progress;
+mod record;
+mod report;
+mod traces;
+
+ghost use Rattle.std.specs.Prelude.{◌≤◌};
+ghost use Rattle.dc_names.specs.declared.limits.TheConstants.{MOST_INODES};
 
 use clap::error::ErrorKind;
-use command_line::options_in;
+use command_line::{Options, Task, options_in};
+use counts::Counts;
 use dc_plain::MOST_INODES;
 use faults::{Fault, File};
+use progress::Progress;
+use record::Record;
 use std::io::{Read, Write};
 use std::process::ExitCode;
 use std::{env, fs, io};
-use verdicts::report;
+use traces::{Found, explain};
 
 /// The words after the program's name.
 fn words(rt: &HostRuntime) -> Result<Vec<String>, Fault> {
@@ -43,19 +54,76 @@ fn read(rt: &HostRuntime, path: &str, file: File) -> Result<Vec<u8>, Fault> {
     bytes_of(rt, path).map_err(|error| unless_memory(&error, Fault::Unread(file)))
 }
 
-/// Reads both files and writes the verdict. Answers the status.
+/// Writes the verdict.
+fn write(rt: &HostRuntime, text: &[u8]) -> Result<(), Fault> {
+    rt.stdout().write_all(text).map_err(|_| Fault::Write)
+}
+
+/// Writes what was judged, on standard error. The verdict stands already.
+fn tell_counts(rt: &HostRuntime, options: &Options, counts: &Counts) {
+    if !options.json {
+        let _ = eprintln!(rt; "judged: {counts}");
+    }
+}
+
+/// Judges a record. Answers the status.
+fn check_record(
+    rt: &HostRuntime,
+    options: &Options,
+    commands: &str,
+    replies: &str,
+) -> Result<u8, Fault>
+    requires least { 1 ≤ options.now.inodes }
+    requires most { options.now.inodes ≤ MOST_INODES }
+{
+    let progress = Progress::new(rt);
+    let input = read(rt, commands, File::Commands)?;
+    let output = read(rt, replies, File::Replies)?;
+    progress.tell(rt, "the files are read");
+    let record = Record::read(rt.alloc(), &input, &output)?;
+    progress.tell(rt, "the replies are paired with the commands");
+    let report = record.judge(rt.alloc(), options.inodes)?;
+    let text = if options.json {
+        report.json(rt.alloc())?
+    } else {
+        report.text(rt.alloc())?
+    };
+    write(rt, &text)?;
+    tell_counts(rt, options, &report.counts);
+    Ok(if report.is_legal() { 0 } else { 1 })
+}
+
+/// Judges a trace. Answers the status.
+fn check_trace(rt: &HostRuntime, options: &Options, path: &str) -> Result<u8, Fault>
+    requires least { 1 ≤ options.now.inodes }
+    requires most { options.now.inodes ≤ MOST_INODES }
+{
+    let progress = Progress::new(rt);
+    let trace = read(rt, path, File::Trace)?;
+    progress.tell(rt, "the file is read");
+    let found = explain(rt.alloc(), options.inodes, options.states, &trace)?;
+    let text = if options.json {
+        found.json(rt.alloc())?
+    } else {
+        found.text(rt.alloc(), &trace)?
+    };
+    write(rt, &text)?;
+    if let Found::Legal(_, _, report) = &found {
+        tell_counts(rt, options, &report.counts);
+    }
+    Ok(found.status())
+}
+
+/// Reads the files and writes the verdict. Answers the status.
 fn run(rt: &HostRuntime) -> Result<u8, Fault> {
     let words = words(rt)?;
     let options = options_in(rt.alloc(), &words)?;
-    if !(1..=MOST_INODES).contains(&options.inodes) {
+    if !(1..=MOST_INODES).contains(&options.inodes) || options.states == 0 {
         return Err(Fault::BadSize);
     }
-    let input = read(rt, options.commands, File::Commands)?;
-    let output = read(rt, options.replies, File::Replies)?;
-    let (text, legal) = report(rt.alloc(), options.inodes, &input, &output)?;
-    match rt.stdout().write_all(&text) {
-        Ok(()) => Ok(if legal { 0 } else { 1 }),
-        Err(_) => Err(Fault::Write),
+    match options.task {
+        Task::Record { commands, replies } => check_record(rt, &options, commands, replies),
+        Task::Trace(path) => check_trace(rt, &options, path),
     }
 }
 

@@ -6,7 +6,7 @@ use std::fmt;
 
 /// What stands above the rows.
 const HEAD: &str = "\
-buckets  caches       calls     refused     changes    look-ups  without lock   disturbed  lock taken  rows emptied    splits";
+buckets  caches       calls     refused     changes    look-ups  without lock   disturbed  lock taken       slept  rows emptied     evicted    splits";
 
 /// What was counted, by the place of the number of buckets.
 #[derive(Clone, Copy, Default)]
@@ -42,7 +42,12 @@ fn write_row<W: fmt::Write>(f: &mut fmt::Formatter<W>, row: &Tally) -> fmt::Resu
         row.rounds, row.changes
     )?;
     write!(f, " {looks:>11} {:>13} {:>11}", row.hits, row.disturbed)?;
-    writeln!(f, " {:>11} {:>13} {:>9}", row.held, row.emptied, row.splits)
+    write!(f, " {:>11} {:>11}", row.held, row.slept)?;
+    writeln!(
+        f,
+        " {:>13} {:>11} {:>9}",
+        row.emptied, row.evicted, row.splits
+    )
 }
 
 /// Writes how many calls of each kind there were, and how many of them were refused.

@@ -111,8 +111,11 @@ impl Round {
         };
         let other = cache.split(&mut pass);
         let answers = spread(rt, &cache, job, other, 0, self.threads.saturating_sub(1))?;
+        let counts = cache.counts();
         let ended = cache.close(pass);
         let mut tally = answers.tally;
+        tally.evicted = counts.evictions;
+        tally.slept = counts.sleeps;
         tally.rounds = 1;
         tally.changes = ended.as_ref().map_or(0, |ended| ended.clock);
         let wrong = judge(alloc, answers.stamps, ended)?;

@@ -26,6 +26,10 @@ pub struct Tally {
     pub held: u64,
     /// Rows that were emptied by shrinking.
     pub emptied: u64,
+    /// Rows that lost their key to another.
+    pub evicted: u64,
+    /// Threads that went to sleep for the lock.
+    pub slept: u64,
     /// Passes that were split off and taken in again.
     pub splits: u64,
     /// Calls that altered the tree.
@@ -118,6 +122,8 @@ impl Tally {
         add(&mut self.disturbed, other.disturbed);
         add(&mut self.held, other.held);
         add(&mut self.emptied, other.emptied);
+        add(&mut self.evicted, other.evicted);
+        add(&mut self.slept, other.slept);
         add(&mut self.splits, other.splits);
         add(&mut self.changes, other.changes);
         add(&mut self.rounds, other.rounds);

@@ -51,6 +51,7 @@ fn rounds_are_legal(rt: HostRuntime) -> Result<(), Fail> {
     }
     assert!(rt; whole.rounds == 8 && whole.changes > 100);
     assert!(rt; whole.hits > 100 && whole.emptied > 10 && whole.splits > 10);
+    assert!(rt; whole.evicted > 10);
     // Calls of each kind are made and refused.
     let counts = whole.calls.iter().zip(&whole.refused);
     for (name, (made, refused)) in NAMES.iter().zip(counts) {

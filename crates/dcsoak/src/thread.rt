@@ -32,9 +32,10 @@ impl Thread {
     }
 
     fn way(&mut self) -> Way {
-        match self.draw.below(4) {
+        match self.draw.below(5) {
             0 => Way::Fills,
-            1 => Way::Waits,
+            1 => Way::FillsPath,
+            2 => Way::Waits,
             _ => Way::Tries,
         }
     }

@@ -18,6 +18,8 @@ pub enum Way {
     Tries,
     /// A look-up fills and pins the rows of its path one by one. Other calls wait.
     Fills,
+    /// A look-up fills all rows of its path under one hold of the lock. Other calls wait.
+    FillsPath,
 }
 
 /// What a look-up is asked.
@@ -55,6 +57,9 @@ fn look<R: Wait>(
         {
             return found;
         }
+    }
+    if way == Way::FillsPath {
+        return cache.look_filled(rt, alloc, pass, base, path, follow);
     }
     if way == Way::Tries {
         match cache.try_look(alloc, pass, base, path, follow) {

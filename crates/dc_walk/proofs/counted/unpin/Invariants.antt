@@ -1,5 +1,7 @@
-use Rattle.std.proofs.Common.{◌≡◌, length}
+use Rattle.std.proofs.Common.{◌≡◌, take}
+use Rattle.dc_walk.specs.Unpins.{rows_used}
 use Rattle.dc_walk.proofs.counted.unpin.Given as goal
 
+-- the rows so far stand in the list
 abbrev pub invariant-loop-one : goal.invariant-loop-one
-invariant-loop-one g l = length l.rows.items ≡ l.one-index
+invariant-loop-one g l = l.rows.items ≡ rows_used (take l.one-index l.used)

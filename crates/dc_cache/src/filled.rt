@@ -1,0 +1,48 @@
+//! A look-up whose miss takes the lock once.
+
+ghost use Rattle.std.specs.Prelude.{◌≡◌};
+ghost use Rattle.dc_cache.specs.Answers.{Answered};
+ghost use Rattle.dc_cache.specs.Passes.{share, Fits};
+ghost use Rattle.dc_plain.specs.Requests.Request.{Look};
+
+use crate::cache::{Dcache, Pass};
+use crate::held::{fill_held, seek_held};
+use dc_names::parse;
+use dc_plain::{Call, Follow, Stamped};
+use dc_rows::Guard;
+use dc_walk::Fast;
+use std::alloc::Global;
+use std::sync::Wait;
+
+impl Dcache {
+    /// Where a path leads, always answered, as `look` does. Where the rows don't answer it asks the tree,
+    /// and fills the rows of the path under the same hold of the lock, so that a miss waits for the lock
+    /// once, however long the path is.
+    pub fn look_filled<R: Wait>(
+        &self,
+        rt: &R,
+        alloc: Global,
+        pass: &mut Pass,
+        base: u64,
+        path: &[u8],
+        follow: Follow,
+    ) -> Stamped
+        requires pass { Fits self.now pass.old }
+        ensures same { Fits self.now pass.new × (share pass.new ≡ share pass.old) }
+        ensures answered { Answered pass.old pass.new (Look base path.now follow) result }
+    {
+        let text = match parse(path) {
+            Ok(text) => text,
+            Err(fault) => return self.refuse(pass, base, path, follow, fault),
+        };
+        if let Fast::Done(stamped) = self.look_fast(pass, base, text, follow) {
+            return stamped;
+        }
+        let guard = Guard::lock(&self.shared, rt, &mut pass.seat);
+        let filled = fill_held(guard, alloc, base, text, follow);
+        let (back, found) = seek_held(filled, &Call::Look { base, path, follow });
+        // For the proof: the seat is back as it is bound.
+        let _seat = back;
+        found
+    }
+}

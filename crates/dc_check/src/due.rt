@@ -1,0 +1,66 @@
+//! What the tree gives a call at its point.
+
+ghost use Rattle.std.specs.Prelude.{◌≡◌, ◌≤◌, IfOk, IfSome};
+ghost use Rattle.dc_plain.specs.OwnCalls.{own_request};
+ghost use Rattle.dc_plain.specs.Requests.{answer_of};
+ghost use Rattle.dc_plain.specs.Runs.{reply_of};
+ghost use Rattle.dc_names.specs.declared.limits.TheConstants.{MOST_INODES};
+ghost use Rattle.dc_check.specs.Stamps.{stamps_of};
+ghost use Rattle.dc_check.specs.Judges.{all_numbered};
+ghost use Rattle.dc_check.specs.Phases.{tree_at};
+
+use crate::fault::Fault;
+use crate::judge::Judge;
+use crate::order::by_point;
+use crate::stamp::{Numbered, Stamp};
+use dc_names::NoMemory;
+use dc_plain::Reply;
+use std::alloc::Global;
+
+/// The same of stamps that stand by their points.
+fn due_among(
+    alloc: Global,
+    max_inodes: u64,
+    sorted: &[Numbered],
+    stamp: &Stamp,
+) -> Result<Option<Reply>, NoMemory>
+    requires least { 1 ≤ max_inodes }
+    requires most { max_inodes ≤ MOST_INODES }
+    ensures { IfOk result (λ due. IfSome due (λ reply. answer_of reply ≡ reply_of max_inodes
+        (tree_at max_inodes (all_numbered sorted.now) stamp.now.at) (own_request stamp.now.call))) }
+{
+    let mut judge = Judge::new(alloc, max_inodes)?;
+    for numbered in sorted {
+        if numbered.stamp.at >= stamp.at {
+            break;
+        }
+        match judge.take(alloc, *numbered) {
+            Ok(_) => {}
+            Err(Fault::NoMemory) => return Err(NoMemory),
+            Err(_) => return Ok(None),
+        }
+    }
+    match judge.due(alloc, stamp) {
+        Ok(reply) => Ok(Some(reply)),
+        Err(Fault::NoMemory) => Err(NoMemory),
+        Err(_) => Ok(None),
+    }
+}
+
+/// What the tree gives the call of one of the stamps at its point: at each point below it, the stamp that
+/// altered the tree there led on. `None` where the stamps with lower points are at fault themselves.
+pub fn reply_due(
+    alloc: Global,
+    max_inodes: u64,
+    stamps: &[Stamp],
+    stamp: &Stamp,
+) -> Result<Option<Reply>, NoMemory>
+    requires least { 1 ≤ max_inodes }
+    requires most { max_inodes ≤ MOST_INODES }
+    // The operation's reply on that tree.
+    ensures { IfOk result (λ due. IfSome due (λ reply. answer_of reply ≡ reply_of max_inodes
+        (tree_at max_inodes (stamps_of stamps.now) stamp.now.at) (own_request stamp.now.call))) }
+{
+    let sorted = by_point(alloc, stamps, &[])?;
+    due_among(alloc, max_inodes, &sorted, stamp)
+}

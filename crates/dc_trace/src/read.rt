@@ -1,0 +1,124 @@
+//! How a trace is read: a line a call, as `17 42 0 look /a = no 2`.
+
+use crate::{Timed, TraceFault};
+use dc_lang::{Command, Line, LineFault, SESSION_COUNT, base_after, read_line, read_reply};
+use dc_plain::{ROOT, Reply};
+use std::alloc::Global;
+use std::str;
+
+/// What stands between a command and its reply.
+const SIGN: &[u8] = b" = ";
+
+/// A number without a sign or a needless zero in front.
+fn number_in(text: &[u8]) -> Option<u64> {
+    let [first, rest @ ..] = text else {
+        return None;
+    };
+    if *first == b'+' || (*first == b'0' && !rest.is_empty()) {
+        return None;
+    }
+    str::from_utf8(text).ok()?.parse::<u64>().ok()
+}
+
+/// A number, and what stands behind the space after it.
+fn number_before(text: &[u8]) -> Option<(u64, &[u8])> {
+    let space = text.iter().position(|byte| *byte == b' ')?;
+    let number = number_in(text.get(..space)?)?;
+    Some((number, text.get(space.saturating_add(1)..)?))
+}
+
+/// A reply, without its session and a point.
+fn reply_in(alloc: Global, text: &[u8]) -> Result<Reply, LineFault> {
+    let mut line = Vec::from_slice(alloc, b"0 ")?;
+    line.extend_from_slice(text)?;
+    line.extend_from_slice(b" @0\n")?;
+    let (_, stamped) = read_reply(alloc, &line)?;
+    Ok(stamped.reply)
+}
+
+/// The command before a sign at this place, and what stands behind the sign. `None` where there is no
+/// sign, or no command before it.
+fn command_before<'a>(
+    alloc: Global,
+    text: &'a [u8],
+    place: usize,
+) -> Result<Option<(Command, &'a [u8])>, LineFault> {
+    let (Some(front), Some(rest)) = (text.get(..place), text.get(place..)) else {
+        return Ok(None);
+    };
+    let Some(behind) = rest.strip_prefix(SIGN) else {
+        return Ok(None);
+    };
+    match read_line(alloc, front) {
+        Ok(Line::Command(command)) => Ok(Some((command, behind))),
+        Err(LineFault::NoMemory) => Err(LineFault::NoMemory),
+        Ok(Line::Sync) | Err(LineFault::Bad) => Ok(None),
+    }
+}
+
+/// A command and its reply. A word may be `=` too, but a command has only one number of words.
+fn answered_in(alloc: Global, text: &[u8]) -> Result<(Command, Reply), LineFault> {
+    for place in 0..text.len() {
+        if let Some((command, behind)) = command_before(alloc, text, place)? {
+            let reply = reply_in(alloc, behind)?;
+            return Ok((command, reply));
+        }
+    }
+    Err(LineFault::Bad)
+}
+
+/// The call of a line. The directory that it starts from is not known yet.
+fn timed_in(alloc: Global, number: u64, text: &[u8]) -> Result<Timed, LineFault> {
+    let Some((start, text)) = number_before(text) else {
+        return Err(LineFault::Bad);
+    };
+    let Some((end, text)) = number_before(text) else {
+        return Err(LineFault::Bad);
+    };
+    let (command, reply) = answered_in(alloc, text)?;
+    Ok(Timed {
+        line: number,
+        start,
+        end,
+        base: ROOT.0,
+        command,
+        reply,
+    })
+}
+
+/// Sees that the calls of a session come one after the other, and where each of them starts from.
+fn follow(lane: &mut Vec<Timed>) -> Result<(), TraceFault> {
+    let (mut free, mut base) = (0, ROOT.0);
+    for timed in lane.iter_mut() {
+        if timed.start < free || timed.end < timed.start {
+            return Err(TraceFault::BadLine(timed.line));
+        }
+        free = timed.end;
+        timed.base = base;
+        base = base_after(&timed.command, &timed.reply, base);
+    }
+    Ok(())
+}
+
+/// The calls of each session by their times, from the lines of a text, of which the last may lack its
+/// newline. The lines stand in any order.
+pub fn read_trace(alloc: Global, text: &[u8]) -> Result<Vec<Vec<Timed>>, TraceFault> {
+    let mut lanes = Vec::new(alloc);
+    for _ in 0..SESSION_COUNT {
+        lanes.push(Vec::new(alloc))?;
+    }
+    let lines = text.split_inclusive(|byte| *byte == b'\n');
+    for (at, line) in lines.enumerate() {
+        let number = (at as u64).saturating_add(1);
+        let line = line.strip_suffix(b"\n").unwrap_or(line);
+        let timed = timed_in(alloc, number, line).map_err(|fault| TraceFault::of(fault, number))?;
+        if let Some(lane) = lanes.get_mut(timed.command.session as usize) {
+            lane.push(timed)?;
+        }
+    }
+    for lane in lanes.iter_mut() {
+        lane.sort_by_key(|timed| timed.start)?;
+        follow(lane)?;
+    }
+    Ok(lanes)
+}

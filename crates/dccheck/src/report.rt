@@ -1,0 +1,125 @@
+//! What the program says of a record, as text and as JSON.
+
+use crate::counts::Counts;
+use serde_json::json;
+use std::alloc::{AllocError, Global};
+
+/// A line of the replies, and its command.
+#[derive(Drop)]
+pub struct Answered {
+    /// Counted from 1.
+    pub line: u64,
+    pub reply: Vec<u8>,
+    pub command: Vec<u8>,
+}
+
+/// What is wrong in a record.
+#[derive(Drop)]
+pub struct Wrong {
+    pub line: Answered,
+    /// The line of the reply that the tree gives in its place.
+    pub due: Option<Vec<u8>>,
+    /// The changes nearest to it.
+    pub near: Vec<Answered>,
+}
+
+/// The verdict on a record.
+#[derive(Drop)]
+pub struct Report {
+    /// `legal`, or what is bad.
+    pub word: &'static str,
+    pub wrong: Option<Wrong>,
+    pub counts: Counts,
+}
+
+/// Adds a reply and its command.
+fn push_answered(out: &mut Vec<u8>, one: &Answered) -> Result<(), AllocError> {
+    out.extend_from_slice(&one.reply)?;
+    out.extend_from_slice(b", for \"")?;
+    out.extend_from_slice(&one.command)?;
+    out.extend_from_slice(b"\"\n")
+}
+
+/// The text of the verdict that a line is bad.
+fn wrong_text(alloc: Global, word: &str, wrong: &Wrong) -> Result<Vec<u8>, AllocError> {
+    let mut out = format!(in alloc; "{word} {}: ", wrong.line.line)?.into_bytes();
+    push_answered(&mut out, &wrong.line)?;
+    if let Some(due) = &wrong.due {
+        out.extend_from_slice(b"due: ")?;
+        out.extend_from_slice(due)?;
+    }
+    for one in &wrong.near {
+        out.extend_from_slice(format!(in alloc; "near {}: ", one.line)?.as_bytes())?;
+        push_answered(&mut out, one)?;
+    }
+    Ok(out)
+}
+
+/// A line as a text, without its newline. Bytes that are no text are replaced.
+fn text_of(alloc: Global, line: &[u8]) -> Result<String, AllocError> {
+    String::from_utf8_lossy(alloc, line.strip_suffix(b"\n").unwrap_or(line))
+}
+
+impl Report {
+    /// Of a record that is legal.
+    pub fn legal(counts: Counts) -> Report {
+        Report {
+            word: "legal",
+            wrong: None,
+            counts,
+        }
+    }
+
+    /// Whether the record is legal.
+    pub fn is_legal(&self) -> bool {
+        self.wrong.is_none()
+    }
+
+    /// The verdict in lines.
+    pub fn text(&self, alloc: Global) -> Result<Vec<u8>, AllocError> {
+        match &self.wrong {
+            Some(wrong) => wrong_text(alloc, self.word, wrong),
+            None => Vec::from_slice(alloc, b"legal\n"),
+        }
+    }
+
+    /// The line that is bad, its reply, its command and the reply that is due, empty where there are none.
+    fn shown(&self, alloc: Global) -> Result<(u64, String, String, String), AllocError> {
+        match &self.wrong {
+            Some(wrong) => Ok((
+                wrong.line.line,
+                text_of(alloc, &wrong.line.reply)?,
+                text_of(alloc, &wrong.line.command)?,
+                text_of(alloc, wrong.due.as_deref().unwrap_or(b""))?,
+            )),
+            None => Ok((
+                0,
+                String::new(alloc),
+                String::new(alloc),
+                String::new(alloc),
+            )),
+        }
+    }
+
+    /// The verdict as a line of JSON.
+    pub fn json(&self, alloc: Global) -> Result<Vec<u8>, AllocError> {
+        let (line, reply, command, due) = self.shown(alloc)?;
+        let counts = &self.counts;
+        let mut text = json!(in alloc; {
+            "verdict": self.word,
+            "line": line,
+            "reply": reply,
+            "command": command,
+            "due": due,
+            "commands": counts.commands,
+            "replies": counts.replies,
+            "sessions": counts.sessions,
+            "phases": counts.phases,
+            "changes": counts.changes
+        })?
+        .to_string(alloc)?
+        .into_bytes();
+        text.extend_from_slice(b"\n")?;
+        Ok(text)
+    }
+}
