@@ -358,12 +358,17 @@ fn a_path_is_filled_under_one_hold(rt: HostRuntime) -> Result<(), Fail> {
     assert!(rt; is_made(&made, &Reply::Done(3), 1));
     assert!(rt; is_missed(&look_fast(&cache, &mut p, b"/a/b")));
     let there = Reply::Found(3, Kind::Dir);
-    assert!(rt; is(&look_filled(&rt, rt.alloc(), &cache, &mut p, b"/a/b"), &there, 2));
+    let absent = Reply::Refused(2);
+    let found = look_filled(&rt, rt.alloc(), &cache, &mut p, b"/a/b");
+    assert!(rt; is(&found, &there, 2));
     assert!(rt; is_done(&look_fast(&cache, &mut p, b"/a/b"), &there, 2));
-    assert!(rt; is(&look_filled(&rt, rt.alloc(), &cache, &mut p, b"/c"), &Reply::Refused(2), 2));
-    assert!(rt; is(&look_filled(&rt, rt.alloc(), &cache, &mut p, b"/d"), &Reply::Refused(2), 2));
+    let found = look_filled(&rt, rt.alloc(), &cache, &mut p, b"/c");
+    assert!(rt; is(&found, &absent, 2));
+    let found = look_filled(&rt, rt.alloc(), &cache, &mut p, b"/d");
+    assert!(rt; is(&found, &absent, 2));
     assert!(rt; cache.counts().evictions == 0);
-    assert!(rt; is(&look_filled(&rt, rt.alloc(), &cache, &mut p, b"/e"), &Reply::Refused(2), 2));
+    let found = look_filled(&rt, rt.alloc(), &cache, &mut p, b"/e");
+    assert!(rt; is(&found, &absent, 2));
     assert!(rt; cache.counts().evictions == 1 && cache.counts().sleeps == 0);
     assert!(rt; is_missed(&look_fast(&cache, &mut p, b"/a")));
     Ok(())
