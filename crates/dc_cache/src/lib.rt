@@ -29,7 +29,7 @@
 //! is lent to one call at a time, as `&mut` says. A pass serves the cache that it comes from and no other,
 //! which each contract states as `Fits cache pass`, and each call leaves that true.
 //!
-//! `new` hands out the first pass. `split` cuts one for another thread from a pass that is there, and
+//! `new` hands out the first pass, and so does `with_buckets`, for a table of more than 4,096 rows. `split` cuts one for another thread from a pass that is there, and
 //! `join` takes it back together with its book. Each pass has a share of the cache: the first has the
 //! whole, `split` halves it, and `join` adds. `close` ends the cache and gives the tree with the number of
 //! changes. It never fails for the pass that has the whole share; with a lesser one it gives `None` if
@@ -42,6 +42,7 @@
 //! | call | waits for the lock | takes memory | without an answer |
 //! |---|---|---|---|
 //! | `look_fast` | never, and takes none | none | `Again`, with the cause |
+//! | `readlink_fast` | never, and takes none | none | `Again`, with the cause; `Link` for a link |
 //! | `look_counted` | for each name | for rows | `Again`, with the cause |
 //! | `look` | if the rows don't answer | for rows, as far as there is any | never |
 //! | `look_filled` | once, if the rows don't answer | for rows, as far as there is any | never |
@@ -85,7 +86,8 @@
 //! text that is no path is refused so by every call (ENOENT if it is empty, ENAMETOOLONG, EINVAL for a
 //! zero byte); `parse`, which `look_fast` wants called first, says the same as `TextFault`.
 //!
-//! Faults are no answers: nothing is recorded. `MakeFault` comes from `new` alone. `ChangeFault::Spent`
+//! Faults are no answers: nothing is recorded. `MakeFault` comes from `new` and `with_buckets`
+//! alone. `ChangeFault::Spent`
 //! says that the tree was altered 2^62 times. `Why` is the cause of an `Again`: `Miss` and `Link` if no
 //! row has the name or the link's text, `Busy` and `Changed` if a change came between, `Long` if a name
 //! is longer than a row has room for or more than 256 rows would be used, `Memory` from `look_counted`.
@@ -98,6 +100,7 @@ mod changing;
 mod filled;
 mod filler;
 mod held;
+mod links;
 mod looking;
 mod passing;
 mod reading;
@@ -112,6 +115,7 @@ pub use dc_rows::ChangeFault;
 pub use dc_store::{SlabStore, Store};
 pub use dc_table::{Counts, MakeFault};
 pub use dc_walk::{Fast, MOST_LOADS, Why};
+pub use links::FastLink;
 
 /// The number of the root directory: the base of a caller that has no other directory.
 pub const ROOT: u64 = 1;

@@ -4,6 +4,7 @@ ghost use Rattle.std.specs.Prelude.{◌≡◌, ◌*◌, ◌≤◌, ◌↔◌, fa
 ghost use Rattle.dc_cache.specs.Answers.{Loaded};
 ghost use Rattle.dc_cache.specs.Passes.{known, view, share, Fits};
 ghost use Rattle.dc_names.specs.Sizes.{are_right};
+ghost use Rattle.dc_names.specs.Tables.{fit_a_table};
 ghost use Rattle.dc_names.specs.declared.sizes.MakeFault.TheVariants.{BadSize};
 ghost use Rattle.dc_table.specs.Changes.{NothingNew};
 ghost use Rattle.dc_table.specs.Ends.{Ends};
@@ -24,6 +25,23 @@ impl Dcache {
         ensures size { (result ≡ Err BadSize) ↔ (are_right buckets max_inodes ≡ false) }
     {
         let (shared, seat) = Shared::new(alloc, buckets, max_inodes)?;
+        let room = Room::new();
+        Ok((Dcache { shared }, Pass { seat, room }))
+    }
+
+    /// A cache as `new` makes it, with rows for as many names as the work looks up: buckets may be any
+    /// power of two from 1 to 1,048,576. Twice as many rows as names keep nearly all of them. A row takes
+    /// 150 to 250 bytes, as its name is long.
+    pub fn with_buckets(
+        alloc: Global,
+        buckets: u64,
+        max_inodes: u64,
+    ) -> Result<(Dcache, Pass), MakeFault>
+        ensures made { IfOk result (λ r. Fits r.0 r.1
+            × (known r.1 ≡ first_known max_inodes (4 * buckets))) }
+        ensures size { (result ≡ Err BadSize) ↔ (fit_a_table buckets max_inodes ≡ false) }
+    {
+        let (shared, seat) = Shared::with_buckets(alloc, buckets, max_inodes)?;
         let room = Room::new();
         Ok((Dcache { shared }, Pass { seat, room }))
     }

@@ -1,5 +1,6 @@
 //! One thread and two, with values that come from the rules of POSIX.
 
+mod links;
 mod races;
 mod storms;
 mod trying;
@@ -93,6 +94,30 @@ fn a_cache_has_its_sizes(rt: HostRuntime) -> Result<(), Fail> {
     }
     for (buckets, max_inodes) in [(1, 1), (1024, 1_048_576)] {
         assert!(rt; Dcache::new(rt.alloc(), buckets, max_inodes).is_ok());
+    }
+    Ok(())
+}
+
+#[test]
+fn a_cache_has_as_many_buckets_as_the_work_wants(rt: HostRuntime) -> Result<(), Fail> {
+    for (buckets, max_inodes) in [
+        (0, 16),
+        (3 * 1024, 16),
+        (1 << 21, 16),
+        (2048, 0),
+        (2048, 1_048_577),
+    ] {
+        let made = Dcache::with_buckets(rt.alloc(), buckets, max_inodes);
+        assert!(rt; matches!(made, Err(MakeFault::BadSize)));
+    }
+    for buckets in [1, 2048, 65_536] {
+        let made = Dcache::with_buckets(rt.alloc(), buckets, 16);
+        let (cache, mut p) = made.expect(&rt, "memory");
+        assert!(rt; cache.change(&rt, rt.alloc(), &mut p, &mkdir(b"/a")).is_ok());
+        let found = cache.look(&rt, rt.alloc(), &mut p, 1, b"/a", Follow::Yes);
+        assert!(rt; is(&found, &Reply::Found(2, Kind::Dir), 1));
+        let found = look_fast(&cache, &mut p, b"/a");
+        assert!(rt; is_done(&found, &Reply::Found(2, Kind::Dir), 1));
     }
     Ok(())
 }

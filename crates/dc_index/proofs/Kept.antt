@@ -4,7 +4,8 @@ use Rattle.std.specs.List.{range_with_len}
 use Rattle.std.proofs.lemmas.Bool.{cases_eq, cases_lt}
 use Rattle.std.proofs.lemmas.List.{get_or-set_same, get_or-set_other, get_or-replicate, get_or_past, get_or-map, length-set, length-replicate}
 use Rattle.dc_names.specs.Hash.{hash_of}
-use Rattle.dc_names.specs.declared.limits.TheConstants.{BUCKET_ROWS, MOST_BUCKETS}
+use Rattle.dc_names.specs.declared.limits.TheConstants.{BUCKET_ROWS}
+use Rattle.dc_names.specs.declared.tables.TheConstants.{MOST_TABLE_BUCKETS}
 use Rattle.dc_plain.specs.Facts.{Key, label_bytes}
 use Rattle.dc_index.specs.Slots.{Slot, slot_of, has_key, cleared, bucket_in, IsIndex}
 use Rattle.dc_index.specs.Slots.Slot.{Free, Retired, Holds}
@@ -87,7 +88,7 @@ all_free n r = at (cases_lt r n)
     at (inl h) = get_or-replicate n r Free Free h
     at (inr h) = get_or_past (replicate n Free) r Free (rw (length-replicate n Free) h)
 
-pub kept_new : (b : ℕ) → 0 < b → b ≤ MOST_BUCKETS → IsIndex (replicate (BUCKET_ROWS * b) Free)
+pub kept_new : (b : ℕ) → 0 < b → b ≤ MOST_TABLE_BUCKETS → IsIndex (replicate (BUCKET_ROWS * b) Free)
 kept_new b some few = let len = length-replicate (BUCKET_ROWS * b) Free in record {
   some = rw len (omega arith);
   short = rw len (omega arith);

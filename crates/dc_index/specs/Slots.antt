@@ -1,7 +1,8 @@
 -- The rows of the cache, each with the key that it has.
 use Rattle.std.specs.Prelude.{◌≡◌, ◌↔◌, ℕ, ◌*◌, ◌<◌, ◌≤◌, ◌/◌, ◌%◌, Bool, true, false, ◌==◌, ◌&&◌, List, length, slice_index_or, Option, Some}
 use Rattle.dc_names.specs.Hash.{hash_of}
-use Rattle.dc_names.specs.declared.limits.TheConstants.{BUCKET_ROWS, MOST_ROWS}
+use Rattle.dc_names.specs.declared.limits.TheConstants.{BUCKET_ROWS}
+use Rattle.dc_names.specs.declared.tables.TheConstants.{MOST_TABLE_ROWS}
 use Rattle.dc_plain.specs.Facts.{Key, same_label, label_bytes}
 
 -- a row: free, never to be used again, or with the key that it has
@@ -52,7 +53,7 @@ IsRowOf slots key found = (row : ℕ) → (found ≡ Some row) ↔ (slot_of slot
 -- the rows are those of whole buckets, one at least; a key stands in its bucket, in one row at most
 pub record IsIndex (slots : List Slot) : Type 0 where
   pub some : 0 < length slots / BUCKET_ROWS
-  pub short : length slots ≤ MOST_ROWS
+  pub short : length slots ≤ MOST_TABLE_ROWS
   pub fours : BUCKET_ROWS * (length slots / BUCKET_ROWS) ≡ length slots
   pub home : (row : ℕ) (key : Key) → slot_of slots row ≡ Holds key → row / BUCKET_ROWS ≡ bucket_in slots key
   pub one : (row other : ℕ) (key : Key) → slot_of slots row ≡ Holds key → slot_of slots other ≡ Holds key → row ≡ other

@@ -1,7 +1,7 @@
 //! The index: for each row of the cache its key, and for each key its row.
 
 ghost use Rattle.std.specs.Prelude.{◌≡◌, ◌<◌, ◌≤◌, ◌*◌, ◌/◌, ◌%◌, ◌≢◌, ℕ, OnOk, OnErr, IfOk, IfSome, length, replicate, slice_set, map};
-ghost use Rattle.dc_names.specs.declared.limits.TheConstants.{MOST_BUCKETS};
+ghost use Rattle.dc_names.specs.declared.tables.TheConstants.{MOST_TABLE_BUCKETS};
 ghost use Rattle.dc_plain.specs.KeysShown.{key_shown};
 ghost use Rattle.dc_index.specs.Slots.{slot_of, has_key, cleared, bucket_of, bucket_in, IsIndex, IsRowOf};
 ghost use Rattle.dc_index.specs.Slots.Slot.{Free as IsFree, Retired as IsRetired, Holds};
@@ -64,9 +64,9 @@ pub fn bucket_at(hash: u64, buckets: u64) -> u64
 }
 
 impl Index {
-    /// No row has a key. There are 1 to `MOST_BUCKETS` buckets.
+    /// No row has a key. There are 1 to `MOST_TABLE_BUCKETS` buckets.
     pub fn new(alloc: Global, buckets: u64) -> Result<Index, NoMemory>
-        requires { (0 < buckets) × (buckets ≤ MOST_BUCKETS) }
+        requires { (0 < buckets) × (buckets ≤ MOST_TABLE_BUCKETS) }
         ensures new { IfOk result (λ index. index ≡ replicate (BUCKET_ROWS * buckets) IsFree) }
         ensures free { IfOk result (λ index. (row : ℕ) → slot_of index row ≡ IsFree) }
     {

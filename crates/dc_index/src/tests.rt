@@ -1,7 +1,7 @@
 //! Rows with keys, call by call.
 
 ghost use Rattle.std.specs.Prelude.{◌≡◌, ◌≢◌, ◌*◌, ◌/◌, ℕ, ◌<◌, ◌≤◌, IfOk, OnOk, IsTrue, length, not, true, slice_set};
-ghost use Rattle.dc_names.specs.declared.limits.TheConstants.{MOST_BUCKETS};
+ghost use Rattle.dc_names.specs.declared.tables.TheConstants.{MOST_TABLE_BUCKETS};
 ghost use Rattle.dc_plain.specs.KeysShown.{key_shown};
 ghost use Rattle.dc_shrink.specs.Listings.{is_used};
 ghost use Rattle.dc_shrink.specs.Uses.{KeepsUse, SetsUse, UsesNone};
@@ -19,7 +19,7 @@ use std::test::*;
 // So the test passes whichever allocation `rt try --test --fail-alloc N` refuses.
 
 fn new_index_again(alloc: Global, buckets: u64) -> Result<Index, NoMemory>
-    requires { (0 < buckets) × (buckets ≤ MOST_BUCKETS) }
+    requires { (0 < buckets) × (buckets ≤ MOST_TABLE_BUCKETS) }
     ensures rows { IfOk result (λ index. length index ≡ BUCKET_ROWS * buckets) }
     ensures free { IfOk result (λ index. (row : ℕ) → slot_of index row ≡ Free) }
 {
@@ -60,7 +60,7 @@ fn set_again(index: &mut Index, alloc: Global, row: u64, key: &Key<'_>) -> Resul
 /// The row that a key is to have among free ones, the row that it is to have once that one is
 /// retired, where it is found then, and where after its row was cleared.
 fn rows_of(alloc: Global, buckets: u64, key: &Key<'_>) -> Result<[Option<u64>; 4], NoMemory>
-    requires { (0 < buckets) × (buckets ≤ MOST_BUCKETS) }
+    requires { (0 < buckets) × (buckets ≤ MOST_TABLE_BUCKETS) }
 {
     let mut index = new_index_again(alloc, buckets)?;
     let shrinker = new_shrinker_again(alloc, BUCKET_ROWS * buckets)?;

@@ -8,3 +8,4 @@ pub mod Laws
 pub mod Hash
 pub mod Sizes
 pub mod Words
+pub mod Tables

@@ -13,6 +13,7 @@ mod name;
 mod path;
 mod refusal;
 mod sizes;
+mod tables;
 #[cfg(test)]
 mod tests;
 mod words;
@@ -31,4 +32,5 @@ pub use name::{Name, Part};
 pub use path::{PathText, parse};
 pub use refusal::Refusal;
 pub use sizes::{MakeFault, are_right};
+pub use tables::{MOST_TABLE_BUCKETS, MOST_TABLE_ROWS, fit_a_table};
 pub use words::{pack, unpack};

@@ -21,13 +21,13 @@ pub const MOST_INODES: u64 = 1_048_576;
 /// calls comes to it.
 pub const NUMBER_LIMIT: u64 = 1 << 63;
 
-/// The most buckets that a cache has, of which the number is a power of two. This project's own.
+/// The most buckets of a cache by `new`, of which the number is a power of two. This project's own.
 pub const MOST_BUCKETS: u64 = 1024;
 
 /// How many rows a bucket has, as many as one key may stand in. This project's own.
 pub const BUCKET_ROWS: u64 = 4;
 
-/// The most rows that a cache has.
+/// The most rows of these.
 pub const MOST_ROWS: u64 = BUCKET_ROWS * MOST_BUCKETS;
 
 /// The most that the clock, the sequence count of a row or its number of pins comes to. This project's

@@ -2,6 +2,8 @@
 
 ghost use Rattle.std.specs.Prelude.{◌≡◌, ◌*◌, ◌/◌, ◌≤◌, ◌↔◌, false, Err, IfOk, IfSome, IsSome};
 ghost use Rattle.dc_names.specs.Sizes.{are_right};
+ghost use Rattle.dc_names.specs.Tables.{fit_a_table};
+ghost use Rattle.dc_names.specs.declared.tables.TheConstants.{MOST_TABLE_BUCKETS};
 ghost use Rattle.dc_names.specs.declared.sizes.MakeFault.TheVariants.{BadSize};
 ghost use Rattle.dc_table.specs.Ends.{Ends};
 ghost use Rattle.dc_table.specs.Kept.{IsNew};
@@ -15,7 +17,7 @@ use crate::{FIRST_ROW, FREE, LOCK};
 use atomic_table::{Refused, Table};
 use dc_events::{new_tables_have_the_rule, passes_keep_the_rule, records_are_legal};
 use dc_index::Index;
-use dc_names::{BUCKET_ROWS, MakeFault, NoMemory, are_right};
+use dc_names::{BUCKET_ROWS, MakeFault, NoMemory, are_right, fit_a_table};
 use dc_row::{ROW_WORDS, empty_row_spells_nothing};
 use dc_shrink::Shrinker;
 use dc_store::SlabStore;
@@ -26,7 +28,7 @@ use std::sync::atomic::Ordering::Relaxed;
 impl Guarded {
     /// The root directory alone, and no row with a key.
     fn new(alloc: Global, buckets: u64, max_inodes: u64) -> Result<Guarded, NoMemory>
-        requires { (1 ≤ buckets) × (buckets ≤ 1024) }
+        requires { (1 ≤ buckets) × (buckets ≤ MOST_TABLE_BUCKETS) }
         ensures { IfOk result (λ guarded. IsNew guarded (BUCKET_ROWS * buckets) max_inodes) }
     {
         Ok(Guarded {
@@ -51,6 +53,22 @@ impl Shared {
         if !are_right(buckets, max_inodes) {
             return Err(MakeFault::BadSize);
         }
+        Shared::with_buckets(alloc, buckets, max_inodes)
+    }
+
+    /// The same table, with as many buckets as the work wants: any power of two from 1 to 1,048,576.
+    pub fn with_buckets(
+        alloc: Global,
+        buckets: u64,
+        max_inodes: u64,
+    ) -> Result<(Shared, Pass), MakeFault>
+        ensures made { IfOk result (λ r. Fits r.0 r.1 × IsIdle r.1) }
+        ensures first { IfOk result (λ r. known r.1 ≡ first_known max_inodes (BUCKET_ROWS * buckets)) }
+        ensures size { (result ≡ Err BadSize) ↔ (fit_a_table buckets max_inodes ≡ false) }
+    {
+        if !fit_a_table(buckets, max_inodes) {
+            return Err(MakeFault::BadSize);
+        }
         let limits = Limits {
             max_inodes,
             rows: BUCKET_ROWS * buckets,
@@ -59,7 +77,7 @@ impl Shared {
     }
 
     fn of(alloc: Global, buckets: u64, limits: &Limits) -> Result<(Shared, Pass), NoMemory>
-        requires buckets { (1 ≤ buckets) × (buckets ≤ 1024) }
+        requires buckets { (1 ≤ buckets) × (buckets ≤ MOST_TABLE_BUCKETS) }
         requires rows { limits.now.rows ≡ BUCKET_ROWS * buckets }
         ensures made { IfOk result (λ r. Fits r.0 r.1 × IsIdle r.1) }
         ensures first { IfOk result (λ r.

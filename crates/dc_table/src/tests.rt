@@ -20,6 +20,26 @@ fn a_table_has_its_sizes(rt: HostRuntime) -> Result<(), Fail> {
 }
 
 #[test]
+fn a_table_is_as_large_as_the_work(rt: HostRuntime) -> Result<(), Fail> {
+    for (buckets, max_inodes) in [
+        (0, 16),
+        (3072, 16),
+        (1 << 21, 16),
+        (2048, 0),
+        (2048, 1_048_577),
+    ] {
+        let made = Shared::with_buckets(rt.alloc(), buckets, max_inodes);
+        assert!(rt; matches!(made, Err(MakeFault::BadSize)));
+    }
+    for buckets in [1, 2048, 65_536] {
+        let made = Shared::with_buckets(rt.alloc(), buckets, 16);
+        let (shared, _pass) = made.expect(&rt, "memory");
+        assert!(rt; shared.buckets() == buckets);
+    }
+    Ok(())
+}
+
+#[test]
 fn the_lock_is_got_once(rt: HostRuntime) -> Result<(), Fail> {
     let (shared, mut p) = Shared::new(rt.alloc(), 1, 16).expect(&rt, "memory");
     let mut q = shared.split(&mut p);

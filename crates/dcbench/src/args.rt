@@ -60,9 +60,9 @@ fn with_shape<'a>(alloc: Global, command: Command<'a>) -> Result<Command<'a>, Er
     let buckets = number(
         alloc,
         "buckets",
-        1_024,
+        1_048_576,
         "1024",
-        "Buckets of four rows: a power of two",
+        "Buckets of four rows: a power of two up to 1048576",
     );
     Ok(
         command

@@ -12,7 +12,7 @@ pub enum Fault {
     Words(clap::Error),
     /// A word is no text.
     NoText,
-    /// The buckets are no power of two from 1 to 1,024.
+    /// The buckets are no power of two from 1 to 1,048,576.
     BadSize,
     /// The file of the tree can't be read.
     Unread,
@@ -40,7 +40,7 @@ impl Fault {
             Fault::NoText => (2, eprintln!(rt; "dcbench: an argument is no text")),
             Fault::BadSize => (
                 2,
-                eprintln!(rt; "dcbench: --buckets: a power of two from 1 to 1024"),
+                eprintln!(rt; "dcbench: --buckets: a power of two from 1 to 1048576"),
             ),
             Fault::NoMemory => (3, eprintln!(rt; "dcbench: no memory")),
             Fault::Unread => (4, eprintln!(rt; "dcbench: the tree can't be read")),

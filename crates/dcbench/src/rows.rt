@@ -39,7 +39,7 @@ pub fn look_row<R: Threads + Wait + Clock + Sync>(
 ) -> Result<LookRow, Fault>
     requires { IsSync R.row }
 {
-    let (cache, mut pass) = Dcache::new(alloc, plan.shape.buckets, INODES)?;
+    let (cache, mut pass) = Dcache::with_buckets(alloc, plan.shape.buckets, INODES)?;
     plant(rt, alloc, &cache, &mut pass, plan.lines)?;
     warm(rt, alloc, &cache, &mut pass, plan.paths);
     let gate = Gate::new(threads);

@@ -1,0 +1,84 @@
+-- What the reply of a look-up that follows no last link tells of a readlink.
+use Rattle.std.proofs.Common.{◌≡◌, ◌≢◌, ℕ, List, Result, Ok, Err, Option, Some, None, option_map, option_and_then, refl, ap, sym, ◌∙◌, subst}
+use Rattle.dc_names.specs.declared.kind.Kind.{Kind}
+use Rattle.dc_names.specs.declared.kind.Kind.TheVariants.{Link}
+use Rattle.dc_names.specs.declared.refusal.Refusal.{Refusal}
+use Rattle.dc_names.specs.declared.refusal.Refusal.TheVariants.{Invalid}
+use Rattle.dc_names.specs.Refusals.{refusal_number}
+use Rattle.dc_plain.specs.declared.call.Follow.TheVariants as follow
+use Rattle.dc_plain.specs.declared.call.Stamped.{Stamped}
+use Rattle.dc_plain.specs.Facts.{Target}
+use Rattle.dc_plain.specs.IsWellFormed.{IsWellFormed}
+use Rattle.dc_plain.specs.Laws.{KeepsRunsWellFormed}
+use Rattle.dc_plain.specs.LivingLaws.{WalksLeadToTheLiving}
+use Rattle.dc_plain.specs.Operations.{settled, left_alone}
+use Rattle.dc_plain.specs.Refusals.{◌>>=◌, walk_on}
+use Rattle.dc_plain.specs.Requests.{Answer, answer_of}
+use Rattle.dc_plain.specs.Requests.Answer.{Found, Done, Nothing, Bytes, Names, Counted, Refused}
+use Rattle.dc_plain.specs.Trees.{Tree, Inode, empty_tree, inode_of, kind_of, target_at, text_in, text_of}
+use Rattle.dc_plain.specs.Trees.Inode.{Directory, Regular, Symbolic}
+use Rattle.dc_events.specs.Standing.{tree_of}
+use Rattle.dc_events.specs.Views.{View}
+use Rattle.dc_walk.specs.Fasts.{Keeps, Recorded}
+use Rattle.dc_walk.specs.declared.answer.Fast.TheVariants as fasts
+use Rattle.dc_cache.specs.Links.{look_there, ReadsAs, TellsOf, ReadsFast}
+use Rattle.dc_cache.specs.declared.links.FastLink as rust_link
+use Rattle.dc_cache.specs.declared.links.FastLink.TheVariants as links
+
+-- what the two calls answer, by where the path leads
+abbrev looked_by : Tree → Result Target Refusal → Answer
+looked_by t found = (settled t (left_alone t (found >>= λ place. Ok (Found place.0 place.1)))).0
+
+abbrev by_text : Tree → Option (List ℕ) → Answer
+by_text t text = (settled t (left_alone t (elim text [ None ↦ Err Invalid | Some bytes ↦ Ok (Bytes bytes) ]))).0
+
+abbrev read_by : Tree → Result Target Refusal → Answer
+read_by t found = (settled t (left_alone t (found >>= λ place. elim (text_of t place.0) [ None ↦ Err Invalid | Some bytes ↦ Ok (Bytes bytes) ]))).0
+
+-- what lives and is no link has no text
+no_text : (n : ℕ) (o : Option Inode) (place : Target) → option_map (λ inode. (n, kind_of inode)) o ≡ Some place → place.1 ≢ Link → option_and_then text_in o ≡ None
+no_text n None place e apart = absurd cc
+no_text n (Some Directory) place e apart = refl
+no_text n (Some Regular) place e apart = refl
+no_text n (Some (Symbolic text)) place e apart = let same : (n, Link) ≡ place = cc in absurd (apart (sym (ap (λ p. p.1) same)))
+
+refused_at : (t : Tree) (found : Result Target Refusal) → ((place : Target) → found ≡ Ok place → target_at t place.0 ≡ Some place) → (n : ℕ) (k : Kind) → k ≢ Link → looked_by t found ≡ Found n k
+    → read_by t found ≡ Refused (refusal_number Invalid)
+refused_at t (Err refusal) lives n k apart e = absurd cc
+refused_at t (Ok place) lives n k apart e = let kind : place.1 ≡ k = cc in ap (by_text t) (no_text place.0 (inode_of t place.0) place (lives place refl) (λ is. apart (sym kind ∙ is)))
+
+-- a reply that finds nothing
+abbrev pub IsNoPlace : Answer → Type 0
+IsNoPlace (Found number kind) = ⊥
+IsNoPlace (Done number) = Unit {0}
+IsNoPlace Nothing = Unit {0}
+IsNoPlace (Bytes bytes) = Unit {0}
+IsNoPlace (Names names) = Unit {0}
+IsNoPlace (Counted number kind count) = Unit {0}
+IsNoPlace (Refused number) = Unit {0}
+
+refused_too : (t : Tree) (found : Result Target Refusal) (looked : Answer) → IsNoPlace looked → looked_by t found ≡ looked → read_by t found ≡ looked
+refused_too t (Ok place) looked nowhere e = absurd (subst IsNoPlace (sym e) nowhere)
+refused_too t (Err refusal) looked nowhere e = e
+
+pub read_refused : WalksLeadToTheLiving → KeepsRunsWellFormed → IsWellFormed empty_tree → (base : ℕ) (text : List ℕ) (n : ℕ) (k : Kind) → k ≢ Link → ReadsAs base text (Found n k) (Refused (refusal_number Invalid))
+read_refused living runs opened base text n k apart limit history e = let t = tree_of limit history in
+    refused_at t (walk_on t base text follow.No) (λ place found. living t base text follow.No place (runs limit empty_tree history opened) found) n k apart e
+
+pub read_too : (base : ℕ) (text : List ℕ) (looked : Answer) → IsNoPlace looked → ReadsAs base text looked looked
+read_too base text looked nowhere limit history e = let t = tree_of limit history in refused_too t (walk_on t base text follow.No) looked nowhere e
+
+-- what was recorded of the look-up, with what is told by it
+pub reads_fast : (base : ℕ) (text : List ℕ) (buckets : ℕ) (before now : View) (found : Stamped) (told : rust_link.FastLink) → TellsOf base text found told → Keeps base text follow.No buckets before now (fasts.Done found)
+    → ReadsFast base text buckets before now told
+reads_fast base text buckets before now found (links.Refused stamped) tells kept = record {
+  looked = answer_of found.reply;
+  recorded = subst (λ at. Recorded (look_there base text) (answer_of found.reply) at before now) (sym tells.0) kept;
+  reads = tells.1;
+}
+reads_fast base text buckets before now found (links.Link stamped) tells kept = record {
+  number = tells.1.0;
+  found = ap (λ s. answer_of s.reply) tells.0 ∙ tells.1.1;
+  recorded = subst (λ s. Recorded (look_there base text) (answer_of s.reply) s.at before now) (sym tells.0) kept;
+}
+reads_fast base text buckets before now found (links.Again why) tells kept = absurd tells
