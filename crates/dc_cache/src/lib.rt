@@ -97,21 +97,25 @@ mod cache;
 mod changing;
 mod filled;
 mod filler;
+mod gone;
 mod held;
 mod looking;
 mod passing;
 mod reading;
+mod sleepless;
 #[cfg(test)]
 mod tests;
+mod tries;
 mod trying;
 
-pub use cache::{Dcache, Ended, NotYet, Pass};
+pub use cache::{Dcache, Ended, NotYet, Pass, Sleepless};
 pub use dc_names::{Kind, Name, NoMemory, Part, PathText, Refusal, TextFault, parse};
 pub use dc_plain::{Call, Flags, Follow, Reply, Sort, Stamped};
 pub use dc_rows::ChangeFault;
 pub use dc_store::{SlabStore, Store};
 pub use dc_table::{Counts, MakeFault};
 pub use dc_walk::{Fast, MOST_LOADS, Why};
+pub use gone::Gone;
 
 /// The number of the root directory: the base of a caller that has no other directory.
 pub const ROOT: u64 = 1;
