@@ -1,5 +1,9 @@
 //! What a change takes away.
 
+ghost use Rattle.std.specs.Prelude.{IfSome};
+ghost use Rattle.dc_cache.specs.Losses.{Goes, IsLast, Loses, Stands};
+ghost use Rattle.dc_plain.specs.Requests.{request_of};
+
 use dc_names::Kind;
 use dc_ops::seek;
 use dc_plain::{Call, Flags, Follow, Reply};
@@ -17,7 +21,9 @@ pub struct Gone {
 }
 
 /// What a path leads to, if anything; a last link is kept.
-fn stands(store: &SlabStore, base: u64, path: &[u8]) -> Option<(u64, Kind)> {
+fn stands(store: &SlabStore, base: u64, path: &[u8]) -> Option<(u64, Kind)>
+    ensures { IfSome result (λ found. Stands store.now base path.now found.0 found.1) }
+{
     let call = Call::Look {
         base,
         path,
@@ -30,7 +36,9 @@ fn stands(store: &SlabStore, base: u64, path: &[u8]) -> Option<(u64, Kind)> {
 }
 
 /// What the name that a change takes away leads to, before the change.
-fn taken(store: &SlabStore, call: &Call<'_>) -> Option<(u64, Kind)> {
+fn taken(store: &SlabStore, call: &Call<'_>) -> Option<(u64, Kind)>
+    ensures { IfSome result (λ found. Loses store.now (request_of call.now) found.0 found.1) }
+{
     match *call {
         Call::Unlink { base, path } | Call::Rmdir { base, path } => stands(store, base, path),
         Call::Rename {
@@ -51,12 +59,21 @@ fn taken(store: &SlabStore, call: &Call<'_>) -> Option<(u64, Kind)> {
     }
 }
 
+/// Whether an inode has no other name. A directory never has.
+fn is_last(store: &SlabStore, number: u64, kind: Kind) -> bool
+    ensures { IsLast store.now number kind result }
+{
+    match kind {
+        Kind::Dir => true,
+        Kind::File | Kind::Link => store.count(number) <= 1,
+    }
+}
+
 /// What a change would take away, as it stands before the change.
-pub(crate) fn going(store: &SlabStore, call: &Call<'_>) -> Option<Gone> {
+pub(crate) fn going(store: &SlabStore, call: &Call<'_>) -> Option<Gone>
+    ensures { IfSome result (Goes store.now (request_of call.now)) }
+{
     let (number, kind) = taken(store, call)?;
-    Some(Gone {
-        number,
-        kind,
-        last: kind == Kind::Dir || store.count(number) <= 1,
-    })
+    let last = is_last(store, number, kind);
+    Some(Gone { number, kind, last })
 }

@@ -64,6 +64,14 @@
 //! of memory leaves the tree and the book as they were. A change that is refused, an `Unlink` and a
 //! `Rmdir` take none, and a `readlink` or a `list` that is refused takes none.
 //!
+//! # Without a runtime
+//!
+//! `Sleepless` is a cache without a call that waits. It has the calls of the table that never do, by the
+//! same names, and no thread ever sleeps on it; so its calls wake nobody, where those of a `Dcache` wake
+//! one who waits. It serves callers that can neither sleep nor wake, as a library for C. Two calls are its
+//! own: `look_text`, a `look_fast` of any bytes, and `try_change_telling`, which tells besides what stood at
+//! the name that a change took away.
+//!
 //! # Base, at, follow
 //!
 //! `base` is the number of the directory that a relative path starts from, as the open directory of

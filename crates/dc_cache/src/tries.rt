@@ -3,6 +3,7 @@
 
 ghost use Rattle.std.specs.Prelude.{◌≡◌, ◌≤◌, Some, IfSome, IfNone};
 ghost use Rattle.dc_cache.specs.Answers.{Answered, Made, Told};
+ghost use Rattle.dc_cache.specs.Losses.{Went};
 ghost use Rattle.dc_cache.specs.Passes.{view, share, FitsTable, Missed};
 ghost use Rattle.dc_events.specs.Rows.{most};
 ghost use Rattle.dc_names.specs.Paths.{fault_of};
@@ -112,6 +113,8 @@ pub(crate) fn try_change_telling(
     requires change { IsChange call.now }
     ensures same { FitsTable shared.now pass.new × (share pass.new ≡ share pass.old) }
     ensures made { IfSome result (λ r. Made pass.old pass.new (request_of call.now) r.0) }
+    ensures gone { IfSome result (λ r. IfSome r.1
+        (Went (share pass.old).limit r.0 (request_of call.now))) }
     ensures within { IfSome result (λ _. (view pass.new).book.seen ≤ most) }
     ensures held { IfNone result (Missed pass.old pass.new) }
 {

@@ -19,7 +19,7 @@ abbrev pub nothing : Status → Told
 nothing status = record { status = status; found = record { number = 0; count = 0; at = 0; kind = 0; why = 0 } }
 
 -- an inode with its kind and how many names it has, at a point
-abbrev inode : Status → ℕ → ℕ → ℕ → ℕ → Told
+abbrev pub inode : Status → ℕ → ℕ → ℕ → ℕ → Told
 inode status number kind count at = record { status = status; found = record { number = number; count = count; at = at; kind = kind; why = 0 } }
 
 abbrev reply_told : Reply → ℕ → Told

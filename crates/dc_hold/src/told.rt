@@ -3,7 +3,7 @@
 ghost use Rattle.std.specs.Prelude.{◌≡◌};
 ghost use Rattle.dc_hold.specs.Numbers.{kind_number, why_number};
 ghost use Rattle.dc_hold.specs.declared.status.Status.TheVariants as Status;
-ghost use Rattle.dc_hold.specs.Tells.{told_by, tells_change, tells_fast, tells_lost, tells_read, tells_tried};
+ghost use Rattle.dc_hold.specs.Tells.{inode, nothing, told_by, tells_change, tells_fast, tells_lost, tells_read, tells_tried};
 
 use crate::status::Status;
 use dc_cache::{ChangeFault, Fast, Gone, Kind, NoMemory, Reply, Stamped, Why};
@@ -87,6 +87,13 @@ fn nothing(status: Status) -> Told
     Told { status, found }
 }
 
+/// Another pass had the lock.
+fn busy() -> Told
+    ensures { result ≡ nothing Status.Busy }
+{
+    nothing(Status::Busy)
+}
+
 /// An answer that names an inode.
 fn inode(number: u64, kind: u32, count: u64, at: u64) -> Told
     ensures { result ≡ record {
@@ -148,7 +155,7 @@ pub fn told_tried(tried: &Option<Stamped>) -> Told
 {
     match tried {
         Some(stamped) => told_stamped(stamped),
-        None => nothing(Status::Busy),
+        None => busy(),
     }
 }
 
@@ -160,7 +167,7 @@ pub fn told_read(tried: &Option<Result<Stamped, NoMemory>>) -> Told
     match tried {
         Some(Ok(stamped)) => told_stamped(stamped),
         Some(Err(NoMemory)) => nothing(Status::NoMemory),
-        None => nothing(Status::Busy),
+        None => busy(),
     }
 }
 
@@ -172,7 +179,7 @@ pub fn told_change(tried: &Option<Result<Stamped, ChangeFault>>) -> Told
     match tried {
         Some(Ok(stamped)) => told_stamped(stamped),
         Some(Err(fault)) => nothing(Status::of_change(*fault)),
-        None => nothing(Status::Busy),
+        None => busy(),
     }
 }
 
