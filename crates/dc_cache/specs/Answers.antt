@@ -10,12 +10,19 @@ use Rattle.dc_events.specs.Views.{View}
 use Rattle.dc_rows.specs.Changes.{Failed}
 use Rattle.dc_rows.specs.declared.fault.ChangeFault.{ChangeFault}
 use Rattle.dc_table.specs.Changes.{NothingNew, Recorded}
+use Rattle.dc_walk.specs.declared.answer.Fast.{Fast}
+use Rattle.dc_walk.specs.declared.answer.Fast.TheVariants as fasts
 use Rattle.dc_cache.specs.Passes.{share, view}
 use Rattle.dc_cache.specs.declared.cache.Pass.{Pass}
 
 -- the pass recorded this call alone, with this reply at this point
 abbrev pub Answered : Pass → Pass → Request → Stamped → Type 0
 Answered p q call stamped = Recorded (view p) (view q) call (answer_of stamped.reply) stamped.at
+
+-- a look-up by the rows alone was answered, or nothing is recorded
+abbrev pub IfFast : Pass → Pass → Request → Fast → Type 0
+IfFast p q call (fasts.Done stamped) = Answered p q call stamped
+IfFast p q call (fasts.Again _) = NothingNew (view p) (view q)
 
 -- the clock was loaded, and is what the pass has seen now; nothing else was done
 pub record Loaded (v w : View) : Type 0 where

@@ -7,7 +7,9 @@ use Rattle.dc_plain.specs.declared.call.Call.{Call}
 use Rattle.dc_table.specs.Shares as shares
 use Rattle.dc_table.specs.Shares.{Known, Share, tried}
 use Rattle.dc_walk.specs.Findings as walks
+use Rattle.dc_table.specs.declared.shared.Shared.{Shared}
 use Rattle.dc_cache.specs.declared.cache.Dcache.{Dcache}
+use Rattle.dc_cache.specs.declared.cache.Sleepless.{Sleepless}
 use Rattle.dc_cache.specs.declared.cache.Pass.{Pass}
 
 -- what the pass has done and seen, and its share
@@ -26,6 +28,13 @@ buckets_of p = walks.buckets_of p.seat
 -- the pass is one of the cache, which has a bucket, and has not the lock
 abbrev pub Fits : Dcache → Pass → Type 0
 Fits cache p = walks.CanWalk cache.shared p.seat
+
+-- the same of a cache that nobody sleeps on, and of the table of either
+abbrev pub FitsSleepless : Sleepless → Pass → Type 0
+FitsSleepless cache p = walks.CanWalk cache.shared p.seat
+
+abbrev pub FitsTable : Shared → Pass → Type 0
+FitsTable shared p = walks.CanWalk shared p.seat
 
 -- another pass has the lock: this one has tried for it once, and has done and seen nothing
 abbrev pub Missed : Pass → Pass → Type 0

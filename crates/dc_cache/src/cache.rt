@@ -13,6 +13,14 @@ pub struct Dcache {
     pub(crate) shared: Shared,
 }
 
+/// A cache without a call that waits. No thread ever sleeps on it, so its calls wake nobody and need no
+/// runtime: it serves callers that have none, as a program in C. It has the calls of `Dcache` that never
+/// wait, with their contracts.
+#[derive(Drop)]
+pub struct Sleepless {
+    pub(crate) shared: Shared,
+}
+
 /// What a thread calls the cache with: what it has done and seen, for the proof alone, and room for the
 /// rows that a look-up rests on. It serves the cache that it comes from, and no other.
 #[derive(Drop)]

@@ -43,6 +43,7 @@ impl Dcache {
         let (back, found) = seek_held(filled, &Call::Look { base, path, follow });
         // For the proof: the seat is back as it is bound.
         let _seat = back;
+        self.shared.wake();
         found
     }
 }

@@ -65,6 +65,14 @@
 //! of memory leaves the tree and the book as they were. A change that is refused, an `Unlink` and a
 //! `Rmdir` take none, and a `readlink` or a `list` that is refused takes none.
 //!
+//! # Without a runtime
+//!
+//! `Sleepless` is a cache without a call that waits. It has the calls of the table that never do, by the
+//! same names, and no thread ever sleeps on it; so its calls wake nobody, where those of a `Dcache` wake
+//! one who waits. It serves callers that can neither sleep nor wake, as a library for C. Two calls are its
+//! own: `look_text`, a `look_fast` of any bytes, and `try_change_telling`, which tells besides what stood at
+//! the name that a change took away.
+//!
 //! # Base, at, follow
 //!
 //! `base` is the number of the directory that a relative path starts from, as the open directory of
@@ -99,16 +107,19 @@ mod cache;
 mod changing;
 mod filled;
 mod filler;
+mod gone;
 mod held;
 mod links;
 mod looking;
 mod passing;
 mod reading;
+mod sleepless;
 #[cfg(test)]
 mod tests;
+mod tries;
 mod trying;
 
-pub use cache::{Dcache, Ended, NotYet, Pass};
+pub use cache::{Dcache, Ended, NotYet, Pass, Sleepless};
 pub use dc_names::{Kind, Name, NoMemory, Part, PathText, Refusal, TextFault, parse};
 pub use dc_plain::{Call, Flags, Follow, Reply, Sort, Stamped};
 pub use dc_rows::ChangeFault;
@@ -116,6 +127,7 @@ pub use dc_store::{SlabStore, Store};
 pub use dc_table::{Counts, MakeFault};
 pub use dc_walk::{Fast, MOST_LOADS, Why};
 pub use links::FastLink;
+pub use gone::Gone;
 
 /// The number of the root directory: the base of a caller that has no other directory.
 pub const ROOT: u64 = 1;

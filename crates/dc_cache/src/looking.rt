@@ -14,8 +14,9 @@ ghost use Rattle.dc_walk.specs.Unpins.{rows_in, GivesBack};
 ghost use Rattle.dc_walk.specs.declared.TheConstants.{MOST_LOADS};
 
 use crate::cache::{Dcache, Pass};
+use crate::tries;
 use dc_names::{PathText, TextFault, parse};
-use dc_plain::{Call, Follow, Reply, Stamped};
+use dc_plain::{Call, Follow, Stamped};
 use dc_walk::{Fast, walk_counted, walk_fast, walk_locked};
 use std::alloc::Global;
 use std::sync::Wait;
@@ -112,13 +113,6 @@ impl Dcache {
         ensures same { Fits self.now pass.new × (share pass.new ≡ share pass.old) }
         ensures answered { Answered pass.old pass.new (Look base path.now follow) result }
     {
-        let at = self
-            .shared
-            .reader()
-            .pivot(&mut pass.seat, &Call::Look { base, path, follow }, true);
-        Stamped {
-            reply: Reply::Refused(fault.number()),
-            at,
-        }
+        tries::refuse(&self.shared, pass, base, path, follow, fault)
     }
 }

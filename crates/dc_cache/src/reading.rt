@@ -78,6 +78,7 @@ impl Dcache {
         let (back, told) = ask_held(guard, alloc, call);
         // For the proof: the seat is back as it is bound.
         let _seat = back;
+        self.shared.wake();
         told
     }
 }

@@ -4,20 +4,31 @@ ghost use Rattle.std.specs.Prelude.{◌≡◌, ◌≤◌, IfSome, IfNone};
 ghost use Rattle.dc_cache.specs.Answers.{Answered, Made, Told};
 ghost use Rattle.dc_cache.specs.Passes.{view, share, Fits, Missed};
 ghost use Rattle.dc_events.specs.Rows.{most};
-ghost use Rattle.dc_ops.specs.Asked.{IsChange, IsSought, IsToldAtLength};
+ghost use Rattle.dc_ops.specs.Asked.{IsChange};
 ghost use Rattle.dc_plain.specs.Requests.{request_of};
 ghost use Rattle.dc_plain.specs.Requests.Request.{Look, Stat, Readlink, List_names};
 ghost use Rattle.dc_table.specs.Changes.{NothingNew};
 
 use crate::cache::{Dcache, Pass};
-use crate::held::{ask_held, fill_held, seek_held};
+use crate::tries;
 use dc_names::{NoMemory, parse};
 use dc_plain::{Call, Follow, Stamped};
-use dc_rows::{ChangeFault, Guard};
+use dc_rows::ChangeFault;
 use dc_walk::Fast;
 use std::alloc::Global;
 
 impl Dcache {
+    /// Hands on what a call answered, and wakes a sleeper if the call had the lock.
+    fn woken<T>(&self, tried: Option<T>) -> Option<T>
+        ensures { result ≡ tried }
+    {
+        // Another pass may have gone to sleep while this one had the lock, and nobody else will wake it.
+        if tried.is_some() {
+            self.shared.wake();
+        }
+        tried
+    }
+
     /// Where a path leads. It goes by the rows alone, which takes no lock, else it asks the tree and
     /// fills the rows of the path, so that the next look-up finds them. `None` if the rows don't answer
     /// and another pass has the lock: then nothing is recorded.
@@ -42,16 +53,7 @@ impl Dcache {
         if let Fast::Done(stamped) = self.look_fast(pass, base, text, follow) {
             return Some(stamped);
         }
-        match Guard::try_lock(&self.shared, &mut pass.seat) {
-            Ok(guard) => {
-                let filled = fill_held(guard, alloc, base, text, follow);
-                let (back, found) = seek_held(filled, &Call::Look { base, path, follow });
-                // For the proof, here and below: the seat is back as it is bound.
-                let _seat = back;
-                Some(found)
-            }
-            Err(_seat) => None,
-        }
+        self.woken(tries::try_fill(&self.shared, alloc, pass, base, text, follow))
     }
 
     /// Makes a change, as `change` does. `None` if another pass has the lock: then nothing at all has
@@ -70,17 +72,7 @@ impl Dcache {
         ensures within { IfSome result (λ _. (view pass.new).book.seen ≤ most) }
         ensures held { IfNone result (Missed pass.old pass.new) }
     {
-        match Guard::try_lock(&self.shared, &mut pass.seat) {
-            Ok(guard) => {
-                let (back, made) = guard.change(alloc, call);
-                let _seat = back;
-                Some(match made {
-                    Ok((reply, at)) => Ok(Stamped { reply, at }),
-                    Err(fault) => Err(fault),
-                })
-            }
-            Err(_seat) => None,
-        }
+        self.woken(tries::try_change(&self.shared, alloc, pass, call))
     }
 
     /// Empties up to so many rows, as `shrink` does. `None` if another pass has the lock: then nothing
@@ -93,14 +85,7 @@ impl Dcache {
         ensures few { IfSome result (λ emptied. emptied ≤ most) }
         ensures held { IfNone result (Missed pass.old pass.new) }
     {
-        match Guard::try_lock(&self.shared, &mut pass.seat) {
-            Ok(mut guard) => {
-                let emptied = guard.shrink(most);
-                guard.give();
-                Some(emptied)
-            }
-            Err(_seat) => None,
-        }
+        self.woken(tries::try_shrink(&self.shared, pass, most))
     }
 
     /// Where a path leads, and how many names or entries that inode has, as `stat` does. `None` if
@@ -112,14 +97,7 @@ impl Dcache {
         ensures answered { IfSome result (Answered pass.old pass.new (Stat base path.now)) }
         ensures held { IfNone result (Missed pass.old pass.new) }
     {
-        match Guard::try_lock(&self.shared, &mut pass.seat) {
-            Ok(guard) => {
-                let (back, counted) = seek_held(guard, &Call::Stat { base, path });
-                let _seat = back;
-                Some(counted)
-            }
-            Err(_seat) => None,
-        }
+        self.woken(tries::try_seek(&self.shared, pass, &Call::Stat { base, path }))
     }
 
     /// The text of the symbolic link that a path leads to, as `readlink` does. `None` if another pass
@@ -137,7 +115,8 @@ impl Dcache {
         ensures told { IfSome result (Told pass.old pass.new (Readlink base path.now)) }
         ensures held { IfNone result (Missed pass.old pass.new) }
     {
-        self.try_tell(alloc, pass, &Call::Readlink { base, path })
+        let call = Call::Readlink { base, path };
+        self.woken(tries::try_tell(&self.shared, alloc, pass, &call))
     }
 
     /// The names in the directory that a path leads to, as `list` does. `None` if another pass has the
@@ -155,29 +134,7 @@ impl Dcache {
         ensures told { IfSome result (Told pass.old pass.new (List_names base path.now)) }
         ensures held { IfNone result (Missed pass.old pass.new) }
     {
-        self.try_tell(alloc, pass, &Call::List { base, path })
-    }
-
-    /// Answers a read whose reply takes memory, if the lock is free.
-    fn try_tell(
-        &self,
-        alloc: Global,
-        pass: &mut Pass,
-        call: &Call<'_>,
-    ) -> Option<Result<Stamped, NoMemory>>
-        requires pass { Fits self.now pass.old }
-        requires call { IsToldAtLength call.now }
-        ensures same { Fits self.now pass.new × (share pass.new ≡ share pass.old) }
-        ensures told { IfSome result (Told pass.old pass.new (request_of call.now)) }
-        ensures held { IfNone result (Missed pass.old pass.new) }
-    {
-        match Guard::try_lock(&self.shared, &mut pass.seat) {
-            Ok(guard) => {
-                let (back, told) = ask_held(guard, alloc, call);
-                let _seat = back;
-                Some(told)
-            }
-            Err(_seat) => None,
-        }
+        let call = Call::List { base, path };
+        self.woken(tries::try_tell(&self.shared, alloc, pass, &call))
     }
 }

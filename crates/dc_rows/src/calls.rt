@@ -36,6 +36,9 @@ pub fn change<R: Wait>(
     let (back, made) = guard.change(alloc, call);
     // For the proof: the pass is back as it is bound.
     let _pass = back;
+    // After the lock is given back, here and below: a sleeper that was woken before would find it held, and
+    // sleep on with nobody left to wake it.
+    shared.wake();
     made
 }
 
@@ -50,6 +53,7 @@ pub fn shrink<R: Wait>(shared: &Shared, rt: &R, pass: &mut Pass, most: u64) -> u
     let mut guard = Guard::lock(shared, rt, pass);
     let emptied = guard.shrink(most);
     guard.give();
+    shared.wake();
     emptied
 }
 
@@ -71,6 +75,7 @@ pub fn pin<R: Wait>(
     let mut guard = Guard::lock(shared, rt, pass);
     let row = guard.pin(alloc, key);
     guard.give();
+    shared.wake();
     row
 }
 
@@ -85,4 +90,5 @@ pub fn unpin_all<R: Wait>(shared: &Shared, rt: &R, pass: &mut Pass, rows: &[u64]
     let mut guard = Guard::lock(shared, rt, pass);
     guard.unpin_all(rows);
     guard.give();
+    shared.wake();
 }

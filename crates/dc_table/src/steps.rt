@@ -108,16 +108,19 @@ impl Shared {
 
     /// Sleeps while the lock is held.
     fn wait<R: Wait>(&self, rt: &R) {
-        // A holder that gave the lock back before it saw a sleeper would wake nobody. It sees each that
-        // came before, and one that comes later finds the lock free and doesn't sleep.
+        // Who gave the lock back and then saw no sleeper wakes nobody. It sees each that came before, and
+        // one that comes later finds the lock free and doesn't sleep.
         self.waiting.fetch_add(1, SeqCst);
         self.sleeps.fetch_add(1, Relaxed);
         self.table.shared.park(rt, LOCK, TAKEN as u32);
         self.waiting.fetch_sub(1, SeqCst);
     }
 
-    /// Wakes one of those who wait for the lock, if there are any.
-    fn wake(&self) {
+    /// Wakes one of those who wait for the lock, if there are any. Who gives the lock back of a table on
+    /// which passes wait calls this afterwards.
+    pub fn wake(&self) {
+        // A giver that looked for sleepers before it freed the lock would miss one that came between, who
+        // then sleeps for ever. So the lock is free first, and the count is read after.
         if self.waiting.load(SeqCst) > 0 {
             self.table.shared.wake_one(LOCK);
         }
@@ -136,7 +139,8 @@ impl Shared {
 }
 
 impl<'t> Holder<'t> {
-    /// Gives the lock back with what it guards, and hands the pass back.
+    /// Gives the lock back with what it guards, and hands the pass back. It wakes nobody: `Shared::wake`
+    /// does, afterwards.
     pub fn give(self, guarded: Box<Guarded>) -> &'t mut Pass
         requires home { Home (known (pass_of self)) guarded.value }
         ensures same_reference { result.ghost_name ≡ self.entry.pass.ghost_name }
@@ -148,11 +152,11 @@ impl<'t> Holder<'t> {
         // The slot is filled before the lock is free: turned round, the next holder would find it empty.
         shared.table.shared.exchange(pass, 0, Some(guarded));
         shared.table.shared.store::<Give>(pass, LOCK, FREE);
-        shared.wake();
         pass
     }
 
     /// Gives the lock back with what it guards, answers a call that alters nothing, and hands the pass back.
+    /// It wakes nobody, as `give`.
     pub fn answer(self, guarded: Box<Guarded>, call: &Call<'_>) -> &'t mut Pass
         requires may { MayAnswer self guarded.value (request_of call.now) }
         ensures same_reference { result.ghost_name ≡ self.entry.pass.ghost_name }
@@ -174,7 +178,6 @@ impl<'t> Holder<'t> {
         // The slot is filled before the lock is free: turned round, the next holder would find it empty.
         shared.table.shared.exchange(pass, 0, Some(guarded));
         shared.table.shared.store::<Answer<C>>(pass, LOCK, FREE);
-        shared.wake();
         pass
     }
 

@@ -24,5 +24,6 @@ pub fn walk_locked<R: Wait>(shared: &Shared, rt: &R, pass: &mut Pass, call: &Cal
     let reply = seek(guard.store(), call);
     let at = guard.clock();
     guard.answer(call);
+    shared.wake();
     Stamped { reply, at }
 }

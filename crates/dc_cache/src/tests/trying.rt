@@ -1,7 +1,7 @@
 //! Calls that never wait, with the lock held by hand and with the lock free.
 
 use super::{create, is, is_done, is_made, is_missed, look_fast, mkdir, symlink};
-use crate::{Dcache, Follow, Kind, ROOT, Reply};
+use crate::{Dcache, Follow, Kind, ROOT, Reply, Sleepless};
 use dc_rows::Guard;
 use std::test::Fail;
 
@@ -98,5 +98,19 @@ fn a_free_lock_is_an_answer(rt: HostRuntime) -> Result<(), Fail> {
     assert!(rt; is(&told, &Reply::Names(names), 1));
     assert!(rt; cache.try_shrink(&mut p, 2) == Some(1));
     assert!(rt; is_missed(&look_fast(&cache, &mut p, b"/s")));
+    Ok(())
+}
+
+#[test]
+fn nobody_sleeps_on_a_cache_without_waiting(rt: HostRuntime) -> Result<(), Fail> {
+    let (cache, mut p) = Sleepless::new(rt.alloc(), 1, 16).expect(&rt, "memory");
+    let mut q = cache.split(&mut p);
+    let made = cache.try_change(rt.alloc(), &mut q, &mkdir(b"/a"));
+    assert!(rt; is_made(&made.expect(&rt, "the lock is free"), &Reply::Done(2), 0));
+    cache.join(&mut p, q);
+    assert!(rt; cache.learn(&mut p, 1).is_ok() && cache.learn(&mut p, 2).is_err());
+    assert!(rt; cache.counts().sleeps == 0);
+    let ended = cache.close(p).expect(&rt, "no other pass is left");
+    assert!(rt; ended.clock == 1);
     Ok(())
 }

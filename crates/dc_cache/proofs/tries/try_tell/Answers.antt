@@ -1,7 +1,7 @@
 use Rattle.std.proofs.Common.{sym, ◌∙◌}
 use Rattle.dc_plain.specs.Requests.{request_of}
 use Rattle.dc_cache.proofs.Tellings.{nothing_took, told_back, told_with}
-use Rattle.dc_cache.proofs.cache.Dcache.try_tell.Goals as goal
+use Rattle.dc_cache.proofs.tries.try_tell.Goals as goal
 
 pub returns-in-Ok-clause-told : goal.returns-in-Ok-clause-told
 returns-in-Ok-clause-told c = let back = c.ask_held-back in let got = c.in-Ok.ensures.got in

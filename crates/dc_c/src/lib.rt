@@ -1,0 +1,20 @@
+//! The static library for programs in C: each function calls the proved call of its name.
+//!
+//! A handle is one pointer, null while it is blank, and owns a hold on a cache (`dc_hold::Hold`). Each
+//! function takes the hold out of its handle, calls, and puts it back, so that a handle in a call is blank,
+//! and a second call with it is answered `BadPass`. Each returns what `Status::number` says.
+#![tactic(auto)]
+
+mod changes;
+mod handle;
+mod looks;
+mod parts;
+mod passes;
+
+pub use changes::{
+    gb_try_create, gb_try_link, gb_try_mkdir, gb_try_rename, gb_try_rmdir, gb_try_symlink,
+    gb_try_unlink,
+};
+pub use handle::Handle;
+pub use looks::{gb_look_fast, gb_try_list, gb_try_look, gb_try_readlink, gb_try_stat};
+pub use passes::{gb_cache_new, gb_close, gb_learn, gb_pass_join, gb_pass_split, gb_try_shrink};

@@ -1,0 +1,56 @@
+-- The numbers that a program in C gives and gets.
+use Rattle.std.specs.Prelude.{ℕ, ℤ, pos, negsuc, min, Option, Some, None, true, false}
+use Rattle.dc_names.specs.declared.kind.Kind.{Kind}
+use Rattle.dc_names.specs.declared.kind.Kind.TheVariants.{Dir, File, Link}
+use Rattle.dc_plain.specs.declared.call.Flags.{Flags}
+use Rattle.dc_plain.specs.declared.call.Follow.{Follow}
+use Rattle.dc_plain.specs.declared.call.Follow.TheVariants as follows
+use Rattle.dc_rows.specs.declared.fault.ChangeFault.{ChangeFault}
+use Rattle.dc_rows.specs.declared.fault.ChangeFault.TheVariants as faults
+use Rattle.dc_walk.specs.declared.why.Why.{Why}
+use Rattle.dc_walk.specs.declared.why.Why.TheVariants as causes
+use Rattle.dc_hold.specs.declared.status.Status.{Status}
+use Rattle.dc_hold.specs.declared.status.Status.TheVariants as statuses
+
+-- 0 of an answer, the number of an error of a refusal, which is 4095 at most, and below 0 where nothing is recorded
+abbrev pub status_number : Status → ℤ
+status_number statuses.Done = pos 0
+status_number (statuses.Refused number) = pos (min number 4095)
+status_number statuses.Busy = negsuc 0
+status_number statuses.Again = negsuc 1
+status_number statuses.NoMemory = negsuc 2
+status_number statuses.Spent = negsuc 3
+status_number statuses.BadSize = negsuc 4
+status_number statuses.BadPass = negsuc 5
+status_number statuses.BadArgument = negsuc 6
+status_number statuses.NotYet = negsuc 7
+
+abbrev pub status_of_fault : ChangeFault → Status
+status_of_fault faults.NoMemory = statuses.NoMemory
+status_of_fault faults.Spent = statuses.Spent
+
+abbrev pub kind_number : Kind → ℕ
+kind_number Dir = 1
+kind_number File = 2
+kind_number Link = 3
+
+abbrev pub why_number : Why → ℕ
+why_number (causes.Miss _) = 1
+why_number (causes.Busy _) = 2
+why_number (causes.Changed _ _ _) = 3
+why_number causes.Long = 4
+why_number causes.Link = 5
+why_number causes.Memory = 1
+
+abbrev pub follow_by : ℕ → Option Follow
+follow_by 0 = Some follows.Yes
+follow_by 1 = Some follows.No
+follow_by 2 = Some follows.Dir
+follow_by _ = None
+
+abbrev pub flags_by : ℕ → Option Flags
+flags_by 0 = Some (record { no_replace = false; exchange = false })
+flags_by 1 = Some (record { no_replace = true; exchange = false })
+flags_by 2 = Some (record { no_replace = false; exchange = true })
+flags_by 3 = Some (record { no_replace = true; exchange = true })
+flags_by _ = None

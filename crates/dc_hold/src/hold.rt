@@ -1,0 +1,188 @@
+//! One thread's hold on a cache, for callers that have no runtime.
+
+ghost use Rattle.std.specs.Prelude.{◌≡◌, ◌≤◌, ◌↔◌, true, IfSome};
+ghost use Rattle.std.specs.Arc.{arc_value};
+ghost use Rattle.dc_cache.specs.Answers.{Answered, IfFast, Made, Told};
+ghost use Rattle.dc_cache.specs.Calls.{look, stat, readlink, list, request_of};
+ghost use Rattle.dc_cache.specs.Passes.{view, FitsSleepless, IsChange};
+ghost use Rattle.dc_hold.specs.Holds.{pass_of};
+
+use dc_cache::{
+    Call, ChangeFault, Fast, Follow, Gone, MakeFault, NoMemory, NotYet, Pass, Sleepless, Stamped,
+};
+use std::alloc::Global;
+use std::sync::Arc;
+use std::sync::atomic::AtomicU64;
+use std::sync::atomic::Ordering::SeqCst;
+
+/// A cache that holds share.
+#[derive(Drop)]
+struct Common {
+    cache: Sleepless,
+    /// How often two holds were compared of which the first was of this cache.
+    compared: AtomicU64,
+}
+
+/// A pass with its cache. It may go to another thread, and serves one call at a time.
+#[derive(Drop)]
+pub struct Hold {
+    common: Arc<Common, Global>,
+    pass: Pass,
+    ghost fits: { FitsSleepless (arc_value common).cache pass },
+}
+
+// A hold may go to another thread: this is refused where its type is not `Send`.
+fn sent<T: Send>(value: T) -> T {
+    value
+}
+
+impl Hold {
+    /// A cache with its first hold. `BadSize` where `Sleepless::new` says so.
+    pub fn new(alloc: Global, buckets: u64, max_inodes: u64) -> Result<Hold, MakeFault> {
+        let (cache, pass) = Sleepless::new(alloc, buckets, max_inodes)?;
+        let common = Common {
+            cache,
+            compared: AtomicU64::new(0),
+        };
+        match Arc::new(alloc, common) {
+            Ok(common) => Ok(sent(Hold { common, pass })),
+            Err(_) => Err(MakeFault::NoMemory),
+        }
+    }
+
+    /// Another hold on the same cache, for another thread.
+    pub fn split(&mut self) -> Result<Hold, NoMemory> {
+        let Ok(common) = Arc::try_clone(&self.common) else {
+            return Err(NoMemory);
+        };
+        let pass = common.cache.split(&mut self.pass);
+        Ok(Hold { common, pass })
+    }
+
+    /// Whether another hold is of the same cache. It says so of each that is. Of one that isn't it says so
+    /// only if holds of that one's cache are compared in another thread at the same moment.
+    #[must_use]
+    pub fn shares_with(&self, other: &Hold) -> bool {
+        // The first number is read before this cache's number grows: else a hold of this cache would find
+        // the grown one twice.
+        let before = other.common.compared.load(SeqCst);
+        self.common.compared.fetch_add(1, SeqCst);
+        other.common.compared.load(SeqCst) != before
+    }
+
+    /// Where a path leads, by the rows alone, as `Sleepless::look_text`.
+    #[must_use]
+    pub fn look_fast(&mut self, base: u64, path: &[u8], follow: Follow) -> Fast
+        ensures answered { IfFast (pass_of self.old) (pass_of self.new) (look base path.now follow) result }
+    {
+        self.common
+            .cache
+            .look_text(&mut self.pass, base, path, follow)
+    }
+
+    /// Where a path leads, as `Sleepless::try_look`.
+    #[must_use]
+    pub fn try_look(
+        &mut self,
+        alloc: Global,
+        base: u64,
+        path: &[u8],
+        follow: Follow,
+    ) -> Option<Stamped>
+        ensures answered { IfSome result
+            (Answered (pass_of self.old) (pass_of self.new) (look base path.now follow)) }
+    {
+        self.common
+            .cache
+            .try_look(alloc, &mut self.pass, base, path, follow)
+    }
+
+    /// Where a path leads, and how many names or entries that inode has, as `Sleepless::try_stat`.
+    #[must_use]
+    pub fn try_stat(&mut self, base: u64, path: &[u8]) -> Option<Stamped>
+        ensures answered { IfSome result (Answered (pass_of self.old) (pass_of self.new) (stat base path.now)) }
+    {
+        self.common.cache.try_stat(&mut self.pass, base, path)
+    }
+
+    /// The text of a symbolic link, as `Sleepless::try_readlink`.
+    #[must_use]
+    pub fn try_readlink(
+        &mut self,
+        alloc: Global,
+        base: u64,
+        path: &[u8],
+    ) -> Option<Result<Stamped, NoMemory>>
+        ensures told { IfSome result (Told (pass_of self.old) (pass_of self.new) (readlink base path.now)) }
+    {
+        self.common
+            .cache
+            .try_readlink(alloc, &mut self.pass, base, path)
+    }
+
+    /// The names in a directory, as `Sleepless::try_list`.
+    #[must_use]
+    pub fn try_list(
+        &mut self,
+        alloc: Global,
+        base: u64,
+        path: &[u8],
+    ) -> Option<Result<Stamped, NoMemory>>
+        ensures told { IfSome result (Told (pass_of self.old) (pass_of self.new) (list base path.now)) }
+    {
+        self.common
+            .cache
+            .try_list(alloc, &mut self.pass, base, path)
+    }
+
+    /// Makes a change, as `Sleepless::try_change`.
+    #[must_use]
+    pub fn try_change(
+        &mut self,
+        alloc: Global,
+        call: &Call<'_>,
+    ) -> Option<Result<Stamped, ChangeFault>>
+        requires change { IsChange call.now }
+        ensures made { IfSome result (Made (pass_of self.old) (pass_of self.new) (request_of call.now)) }
+    {
+        self.common.cache.try_change(alloc, &mut self.pass, call)
+    }
+
+    /// Makes a change, and tells what its name lost, as `Sleepless::try_change_telling`.
+    #[must_use]
+    pub fn try_change_telling(
+        &mut self,
+        alloc: Global,
+        call: &Call<'_>,
+    ) -> Option<(Result<Stamped, ChangeFault>, Option<Gone>)>
+        requires change { IsChange call.now }
+        ensures made { IfSome result (λ r.
+            Made (pass_of self.old) (pass_of self.new) (request_of call.now) r.0) }
+    {
+        self.common
+            .cache
+            .try_change_telling(alloc, &mut self.pass, call)
+    }
+
+    /// Empties up to so many rows, as `Sleepless::try_shrink`.
+    #[must_use]
+    pub fn try_shrink(&mut self, most: u64) -> Option<u64>
+        ensures few { IfSome result (λ emptied. emptied ≤ most) }
+    {
+        self.common.cache.try_shrink(&mut self.pass, most)
+    }
+
+    /// Sees how many calls have altered the tree. Answers whether these are `at` at least, and how many the
+    /// hold has seen.
+    pub fn learn(&mut self, at: u64) -> (bool, u64)
+        ensures seen { result.1 ≤ (view (pass_of self.new)).book.seen }
+        ensures come { (result.0 ≡ true) ↔ (at ≤ result.1) }
+    {
+        // It says how many these are only as it says that they are too few.
+        let clock = match self.common.cache.learn(&mut self.pass, u64::MAX) {
+            Ok(()) => u64::MAX,
+            Err(NotYet(clock)) => clock,
+        };
+        (at <= clock, clock)
+    }
+}
