@@ -10,7 +10,7 @@ ghost use Rattle.dc_plain.specs.Requests.Request.{Look, Stat, Readlink, List_nam
 ghost use Rattle.dc_table.specs.Changes.{NothingNew};
 
 use crate::cache::{Dcache, Pass};
-use crate::held::{ask_held, fill_held, seek_held};
+use crate::held::{ask_held, look_held, seek_held};
 use dc_names::{NoMemory, parse};
 use dc_plain::{Call, Follow, Stamped};
 use dc_rows::{ChangeFault, Guard};
@@ -44,8 +44,7 @@ impl Dcache {
         }
         match Guard::try_lock(&self.shared, &mut pass.seat) {
             Ok(guard) => {
-                let filled = fill_held(guard, alloc, base, text, follow);
-                let (back, found) = seek_held(filled, &Call::Look { base, path, follow });
+                let (back, found) = look_held(guard, alloc, base, text, follow);
                 // For the proof, here and below: the seat is back as it is bound.
                 let _seat = back;
                 Some(found)
