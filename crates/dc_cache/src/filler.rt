@@ -2,12 +2,14 @@
 
 ghost use Rattle.std.specs.Prelude.{◌≡◌};
 ghost use Rattle.dc_cache.specs.Fillings.{Fills, fills_none, fills_more, fills_keep};
+ghost use Rattle.dc_plain.specs.KeysShown.{key_shown};
 ghost use Rattle.dc_plain.specs.Trees.{told_of};
 ghost use Rattle.dc_rows.specs.Guards.{kept_by};
+ghost use Rattle.dc_rows.specs.RowChanges.{LeadsTo};
 
 use dc_names::{Kind, Part};
 use dc_ops::StoreFinder;
-use dc_plain::{Key, Label};
+use dc_plain::{Key, Label, Target};
 use dc_resolve::{Bytes, Finder, Stop};
 use dc_row::RowText;
 use dc_rows::Guard;
@@ -41,8 +43,17 @@ impl Filler<'_> {
         ensures fills { Fills self.old self.new }
         ensures stopped { self.new.stopped ≡ self.old.stopped }
     {
-        // A row that can't be had is missed again by the next look-up.
+        // A row that can't be had is missed again by the next look-up, here and below.
         let _ = self.guard.fill(self.alloc, key);
+    }
+
+    /// Fills the row of an entry that leads there, if one can be had.
+    fn fill_entry(&mut self, key: &Key<'_>, target: Option<Target>)
+        requires target { LeadsTo (kept_by self.old.guard).store (key_shown key.now) target }
+        ensures fills { Fills self.old self.new }
+        ensures stopped { self.new.stopped ≡ self.old.stopped }
+    {
+        let _ = self.guard.fill_entry(self.alloc, key, target);
     }
 }
 
@@ -64,13 +75,15 @@ impl Finder for Filler<'_> {
             // A walk stays where it is at a dot, and asks nothing: `is_asked` says so.
             Part::Dot => unreachable!(),
         };
-        self.fill(&Key { number: dir, label });
         let mut finder = StoreFinder {
             store: self.guard.store(),
         };
         let found = finder.find(dir, part);
         let StoreFinder { store: _ } = finder;
-        found
+        // A store has an answer to each question, so its finder never stops.
+        let Ok(target) = found else { unreachable!() };
+        self.fill_entry(&Key { number: dir, label }, target);
+        Ok(target)
     }
 
     fn link_text(&mut self, number: u64) -> Result<ShortText, Stop> {

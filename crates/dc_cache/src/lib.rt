@@ -126,8 +126,8 @@ pub use dc_rows::ChangeFault;
 pub use dc_store::{SlabStore, Store};
 pub use dc_table::{Counts, MakeFault};
 pub use dc_walk::{Fast, MOST_LOADS, Why};
-pub use links::FastLink;
 pub use gone::Gone;
+pub use links::FastLink;
 
 /// The number of the root directory: the base of a caller that has no other directory.
 pub const ROOT: u64 = 1;

@@ -3,7 +3,8 @@ use Rattle.std.specs.Prelude.{◌≡◌, ◌≢◌, ◌⊎◌, ◌↔◌, ℕ, �
 use Rattle.std.specs.List.{count_by}
 use Rattle.std.specs.Prelude.{nat_eq}
 use Rattle.dc_names.specs.declared.NoMemory.{NoMemory}
-use Rattle.dc_plain.specs.Facts.{Fact, Key, key_of}
+use Rattle.dc_plain.specs.Facts.{Fact, Key, Target, key_of}
+use Rattle.dc_plain.specs.Facts.Fact.{Leads}
 use Rattle.dc_plain.specs.Trees.{Tree, Holds}
 use Rattle.dc_row.specs.Spelling.{Spells, has_spelling}
 use Rattle.dc_index.specs.Slots.{Slot, slot_of, has_key, IsRowOf}
@@ -108,3 +109,7 @@ IsFilled slots row key found = (found ≡ row) × (slot_of slots found ≡ Held 
 -- there is a row that tells what the tree has under the key
 abbrev pub CanTell : Tree → Key → Type 0
 CanTell t key = (fact : Fact) × (key_of fact ≡ key) × Holds t fact × IsTrue (has_spelling (Some fact))
+
+-- the key is that of an entry, which leads there in the tree, if anywhere
+abbrev pub LeadsTo : Tree → Key → Option Target → Type 0
+LeadsTo t key target = Holds t (Leads key.number key.label target)

@@ -1,23 +1,23 @@
 //! Rows are filled for keys under the lock.
 
-ghost use Rattle.std.specs.Prelude.{◌≡◌, IfOk, IfSome};
-ghost use Rattle.dc_index.specs.Slots.{slot_of};
+ghost use Rattle.std.specs.Prelude.{◌≡◌, None, IfOk, IfSome};
+ghost use Rattle.dc_index.specs.Slots.{slot_of, IsRowOf};
 ghost use Rattle.dc_index.specs.Slots.Slot.{Holds as Held};
 ghost use Rattle.dc_plain.specs.KeysShown.{key_shown};
 ghost use Rattle.dc_rows.specs.Changes.{KeepsTree, OnlyWrites, RestAt};
 ghost use Rattle.dc_rows.specs.Filling.{GivenAt};
 ghost use Rattle.dc_rows.specs.Guards.{kept_by, rows_of, Keeps};
-ghost use Rattle.dc_rows.specs.RowChanges.{Gets, IsFilled, OnlyRow};
+ghost use Rattle.dc_rows.specs.RowChanges.{Gets, IsFilled, LeadsTo, OnlyRow};
 ghost use Rattle.dc_shrink.specs.Listings.{pins_of};
 ghost use Rattle.dc_table.specs.Changes.{tree_now};
 ghost use Rattle.dc_table.specs.Holders.{pass_of, rows_held};
 ghost use Rattle.dc_table.specs.Rows.{IsOf};
 
 use crate::evicting::{empty, rewrite};
-use crate::facts::words_for;
+use crate::facts::{entry_words, words_for};
 use crate::guard::Guard;
 use dc_names::NoMemory;
-use dc_plain::Key;
+use dc_plain::{Key, Target};
 use dc_row::{ROW_WORDS, empty_row_spells_nothing};
 use dc_table::{Guarded, Holder};
 use std::alloc::Global;
@@ -55,6 +55,38 @@ fn fill_given(
     Ok(None)
 }
 
+/// Fills a row of its bucket for a key that has none, with these words.
+fn fill_new(
+    holder: &mut Holder<'_>,
+    kept: &mut Guarded,
+    alloc: Global,
+    key: &Key<'_>,
+    words: &[u64; ROW_WORDS],
+) -> Result<Option<u64>, NoMemory>
+    requires rest { RestAt (pass_of holder.old) kept.old }
+    requires absent { IsRowOf kept.old.index (key_shown key.now) None }
+    requires words { IsOf (tree_now (pass_of holder.old)) words.now (key_shown key.now) }
+    ensures same_reference { holder.new.pass.ghost_name ≡ holder.old.pass.ghost_name }
+    ensures pass { OnlyWrites (pass_of holder.old) (pass_of holder.new) }
+    ensures tree { KeepsTree kept.old kept.new }
+    ensures rest { RestAt (pass_of holder.new) kept.new }
+    ensures row { IfOk result (λ found. IfSome found (λ row.
+        slot_of kept.new.index row ≡ Held (key_shown key.now))) }
+    ensures rows { Gets (key_shown key.now) 0 (rows_held holder.old kept.old)
+        (rows_held holder.new kept.new) result }
+{
+    let Some(row) = kept.index.choose(&kept.shrinker, key) else {
+        return Ok(None);
+    };
+    let evicts = kept.index.has_key(row);
+    kept.index.set(alloc, row, key)?;
+    if evicts {
+        holder.count_eviction();
+    }
+    kept.shrinker.remove(row);
+    fill_given(holder, kept, row, key, words)
+}
+
 /// The row of a key, which is filled where no row has the key.
 fn fill_row(
     holder: &mut Holder<'_>,
@@ -79,16 +111,36 @@ fn fill_row(
     let Some(words) = words_for(&kept.store, key) else {
         return Ok(None);
     };
-    let Some(row) = kept.index.choose(&kept.shrinker, key) else {
+    fill_new(holder, kept, alloc, key, &words)
+}
+
+/// The same of an entry of which the caller knows where it leads.
+fn fill_entry_row(
+    holder: &mut Holder<'_>,
+    kept: &mut Guarded,
+    alloc: Global,
+    key: &Key<'_>,
+    target: Option<Target>,
+) -> Result<Option<u64>, NoMemory>
+    requires store { kept.old.store ≡ tree_now (pass_of holder.old) }
+    requires rest { RestAt (pass_of holder.old) kept.old }
+    requires target { LeadsTo kept.old.store (key_shown key.now) target }
+    ensures same_reference { holder.new.pass.ghost_name ≡ holder.old.pass.ghost_name }
+    ensures pass { OnlyWrites (pass_of holder.old) (pass_of holder.new) }
+    ensures tree { KeepsTree kept.old kept.new }
+    ensures rest { RestAt (pass_of holder.new) kept.new }
+    ensures row { IfOk result (λ found. IfSome found (λ row.
+        slot_of kept.new.index row ≡ Held (key_shown key.now))) }
+    ensures rows { Gets (key_shown key.now) 0 (rows_held holder.old kept.old)
+        (rows_held holder.new kept.new) result }
+{
+    if let Some(row) = kept.index.row_of(key) {
+        return Ok(Some(row));
+    }
+    let Some(words) = entry_words(key, target) else {
         return Ok(None);
     };
-    let evicts = kept.index.has_key(row);
-    kept.index.set(alloc, row, key)?;
-    if evicts {
-        holder.count_eviction();
-    }
-    kept.shrinker.remove(row);
-    fill_given(holder, kept, row, key, &words)
+    fill_new(holder, kept, alloc, key, &words)
 }
 
 impl Guard<'_> {
@@ -103,5 +155,25 @@ impl Guard<'_> {
     {
         let holder = &mut self.holder;
         fill_row(holder, &mut self.guarded, alloc, key)
+    }
+
+    /// The row of an entry's key, as `fill` gives it, for a caller that has asked the store where the
+    /// entry leads: the store is not searched again. `None` where no row can be had, or no row can tell
+    /// it, and `NoMemory` where memory for the key was refused.
+    pub fn fill_entry(
+        &mut self,
+        alloc: Global,
+        key: &Key<'_>,
+        target: Option<Target>,
+    ) -> Result<Option<u64>, NoMemory>
+        requires target { LeadsTo (kept_by self.old).store (key_shown key.now) target }
+        ensures same_reference { self.new.holder.pass.ghost_name ≡ self.old.holder.pass.ghost_name }
+        ensures keeps { Keeps self.old self.new }
+        ensures row { IfOk result (λ found. IfSome found (λ row.
+            slot_of (kept_by self.new).index row ≡ Held (key_shown key.now))) }
+        ensures rows { Gets (key_shown key.now) 0 (rows_of self.old) (rows_of self.new) result }
+    {
+        let holder = &mut self.holder;
+        fill_entry_row(holder, &mut self.guarded, alloc, key, target)
     }
 }

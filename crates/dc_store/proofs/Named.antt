@@ -1,53 +1,100 @@
--- The names in a directory, found, put in and taken out by their bytes.
-use Rattle.std.proofs.Common.{◌≡◌, ℕ, List, [], ◌∷◌, Option, Some, None, map, option_map, IsSome, IsTrue, refl, ap, sym, ◌∙◌, subst}
-use Rattle.std.specs.BTreeMap.{is_at, insert_entry}
-use Rattle.std.specs.Cmp.Lexicographic.{slice_cmp, nat_list_cmp_total}
-use Rattle.std.specs.FinMap.Entries.{put, is_sorted, is_sorted-put, is_sorted-where_key}
+-- The names in a directory, found, put in and taken out by their bytes, in whatever order the map keeps them.
+use Rattle.std.proofs.Common.{◌≡◌, ℕ, ◌+◌, List, [], ◌∷◌, length, Bool, true, false, not, cond, nat_eq, Option, Some, None, is_some, IsTrue, T, refl, ap, sym, ◌∙◌, arith}
+use Rattle.std.proofs.lemmas.Map.{lookup-none}
+use Rattle.std.proofs.lemmas.Map.Entries.{none_past_head}
+use Rattle.std.proofs.lemmas.Map.Keys.{IsDistinct-tail}
+use Rattle.std.proofs.lemmas.Map.Lookups.{exact_bytes}
+use Rattle.std.specs.Cmp.Lexicographic.{pointwise, bytes_decides, nat_list_cmp_total, nat_list_eq_equiv, on_texts_equal, texts_ties}
+use Rattle.std.specs.FinMap.Entries.{put, is_sorted, is_sorted-put, is_sorted-where_key, find-put, length-put, same_entries}
 use Rattle.std.specs.FinMap.Entries.{find as lookup_entry}
 use Rattle.std.specs.Global.{Vec}
-use Rattle.std.specs.Map.{lookup, remove_entry, set_value}
-use Rattle.std.specs.Ordering.{nat_cmp}
-use Rattle.dc_store.specs.Names.{name_cmp, name_shown, without_name}
-use Rattle.dc_store.proofs.Maps.{Agree, lookup_shown, insert_shown, set_put, remove_shown, all_of_each}
-use Rattle.dc_store.proofs.Decides.{to_test, from_test, some_in}
+use Rattle.std.specs.List.{IsDistinct}
+use Rattle.std.specs.Map.{lookup, keys_of, KeepsOthers}
+use Rattle.std.specs.Ordering.{eq_by_cmp}
+use Rattle.dc_store.specs.Names.{in_order, name_cmp, without_name}
+use Rattle.dc_store.proofs.Spots.{lookup-take}
+use Rattle.dc_store.proofs.Decides.{from_test}
 
-module _ (entries : List (Vec ℕ × ℕ)) (name : List ℕ) where
-  agrees : Agree {X = ℕ} name_cmp (λ (k : Vec ℕ). k.items) (λ n. n) (λ k. slice_cmp nat_cmp name k.items) name entries
-  agrees = all_of_each _ (λ e. refl) entries
+-- what the map finds under some bytes
+abbrev pub found_by : List ℕ → List (Vec ℕ × ℕ) → Option ℕ
+found_by name es = lookup (λ (k : Vec ℕ). pointwise nat_eq name k.items) es
 
-  same_option : (o : Option ℕ) → option_map (λ n. n) o ≡ o
-  same_option None = refl
-  same_option (Some n) = refl
+pub same_bytes : (a b : List ℕ) → pointwise nat_eq a b ≡ true → a ≡ b
+same_bytes a b e = (bytes_decides a b).0 e
 
-  pub name_found : lookup (is_at (λ (k : Vec ℕ). slice_cmp nat_cmp name k.items)) entries ≡ lookup_entry name_cmp name (map name_shown entries)
-  name_found = sym (same_option _) ∙ lookup_shown name_cmp (λ (k : Vec ℕ). k.items) (λ n. n) (λ k. slice_cmp nat_cmp name k.items) name entries agrees
+pub sorted_in : (es : List (Vec ℕ × ℕ)) → T (is_sorted name_cmp (in_order es))
+sorted_in [] = tt
+sorted_in (e ∷ es) = is_sorted-put name_cmp nat_list_cmp_total e.0.items e.1 (in_order es) (sorted_in es)
 
-  module _ (sorted : IsTrue (is_sorted name_cmp (map name_shown entries))) where
-    pub name_taken : {less : List (Vec ℕ × ℕ)} → less ≡ remove_entry (is_at (λ (k : Vec ℕ). slice_cmp nat_cmp name k.items)) entries → map name_shown less ≡ without_name name (map name_shown entries)
-    name_taken taken =
-        ap (map name_shown) taken ∙ remove_shown name_cmp nat_list_cmp_total (λ (k : Vec ℕ). k.items) (λ n. n) (λ k. slice_cmp nat_cmp name k.items) name entries agrees (to_test _ sorted)
+pub names_sorted : (es : List (Vec ℕ × ℕ)) → IsTrue (is_sorted name_cmp (in_order es))
+names_sorted es = from_test _ (sorted_in es)
 
-    pub taken-sorted : {less : List (Vec ℕ × ℕ)} → less ≡ remove_entry (is_at (λ (k : Vec ℕ). slice_cmp nat_cmp name k.items)) entries → IsTrue (is_sorted name_cmp (map name_shown less))
-    taken-sorted taken = subst (λ es. IsTrue (is_sorted name_cmp es)) (sym (name_taken taken)) (from_test _ (is_sorted-where_key name_cmp _ (map name_shown entries) (to_test _ sorted)))
+pub found_in : (es : List (Vec ℕ × ℕ)) (q : List ℕ) → lookup_entry name_cmp q (in_order es) ≡ found_by q es
+found_in [] q = refl
+found_in (e ∷ es) q =
+    find-put name_cmp nat_list_cmp_total q e.0.items e.1 (in_order es)
+    ∙ ap (λ b. cond b (Some e.1) (lookup_entry name_cmp q (in_order es))) (sym (texts_ties q e.0.items))
+    ∙ ap (cond (pointwise nat_eq q e.0.items) (Some e.1)) (found_in es q)
 
-module _ (entries : List (Vec ℕ × ℕ)) (name : List ℕ) (n : ℕ) (sorted : IsTrue (is_sorted name_cmp (map name_shown entries))) (there : IsSome (lookup_entry name_cmp name (map name_shown entries)))
-    {after : List (Vec ℕ × ℕ)} (done : after ≡ set_value (is_at (λ (k : Vec ℕ). slice_cmp nat_cmp name k.items)) entries n) where
-  -- a name that is there leads elsewhere
-  pub name_set : map name_shown after ≡ put name_cmp name n (map name_shown entries)
-  name_set =
-      let (old, stood) = some_in (lookup_entry name_cmp name (map name_shown entries)) there in
-      ap (map name_shown) done ∙ set_put name_cmp nat_list_cmp_total (λ (k : Vec ℕ). k.items) (λ m. m) (λ k. slice_cmp nat_cmp name k.items) name n old entries (agrees entries name) (to_test _ sorted) stood
+pub same_names : (es fs : List (List ℕ × ℕ)) → T (is_sorted name_cmp es) → T (is_sorted name_cmp fs) → ((q : List ℕ) → lookup_entry name_cmp q es ≡ lookup_entry name_cmp q fs) → es ≡ fs
+same_names = same_entries name_cmp nat_list_cmp_total exact_bytes
 
-  pub set-sorted : IsTrue (is_sorted name_cmp (map name_shown after))
-  set-sorted = subst (λ es. IsTrue (is_sorted name_cmp es)) (sym name_set) (from_test _ (is_sorted-put name_cmp nat_list_cmp_total name n (map name_shown entries) (to_test _ sorted)))
+-- with this at a name, and no other
+abbrev with_name : List ℕ → Option ℕ → List (List ℕ × ℕ) → List (List ℕ × ℕ)
+with_name name None names = without_name name names
+with_name name (Some n) names = put name_cmp name n names
 
-module _ (entries : List (Vec ℕ × ℕ)) (key : Vec ℕ) (n : ℕ) {more : List (Vec ℕ × ℕ)} (entered : more ≡ insert_entry (λ (a b : Vec ℕ). slice_cmp nat_cmp a.items b.items) entries key n) where
-  pub name_put : map name_shown more ≡ put name_cmp key.items n (map name_shown entries)
-  name_put = ap (map name_shown) entered ∙ insert_shown name_cmp (λ (k : Vec ℕ). k.items) (λ m. m) (λ (a b : Vec ℕ). slice_cmp nat_cmp a.items b.items) key n entries (agrees entries key.items)
+turned : (b : Bool) (o : Option ℕ) → cond (not b) o None ≡ cond b None o
+turned true o = refl
+turned false o = refl
 
-  pub put-sorted : IsTrue (is_sorted name_cmp (map name_shown entries)) → IsTrue (is_sorted name_cmp (map name_shown more))
-  put-sorted sorted = subst (λ es. IsTrue (is_sorted name_cmp es)) (sym name_put) (from_test _ (is_sorted-put name_cmp nat_list_cmp_total key.items n (map name_shown entries) (to_test _ sorted)))
+tied_ways : (a b : List ℕ) → eq_by_cmp name_cmp a b ≡ eq_by_cmp name_cmp b a
+tied_ways a b = sym (texts_ties a b) ∙ nat_list_eq_equiv.symm a b ∙ texts_ties b a
 
-pub names_kept : (entries : List (Vec ℕ × ℕ)) → map (λ (k : Vec ℕ). k.items) (map (λ (e : Vec ℕ × ℕ). e.0) entries) ≡ map (λ (e : List ℕ × ℕ). e.0) (map name_shown entries)
-names_kept [] = refl
-names_kept (e ∷ es) = ap (λ l. e.0.items ∷ l) (names_kept es)
+found_with : (name : List ℕ) (w : Option ℕ) (names : List (List ℕ × ℕ)) (q : List ℕ) → lookup_entry name_cmp q (with_name name w names) ≡ cond (pointwise nat_eq name q) w (lookup_entry name_cmp q names)
+found_with name None names q =
+    lookup-take name_cmp nat_list_cmp_total name q names ∙ turned (eq_by_cmp name_cmp name q) (lookup_entry name_cmp q names)
+    ∙ ap (λ b. cond b None (lookup_entry name_cmp q names)) (sym (texts_ties name q))
+found_with name (Some n) names q =
+    find-put name_cmp nat_list_cmp_total q name n names ∙ ap (λ b. cond b (Some n) (lookup_entry name_cmp q names)) (tied_ways q name ∙ sym (texts_ties name q))
+
+sorted_with : (name : List ℕ) (w : Option ℕ) (names : List (List ℕ × ℕ)) → T (is_sorted name_cmp names) → T (is_sorted name_cmp (with_name name w names))
+sorted_with name None names s = is_sorted-where_key name_cmp _ names s
+sorted_with name (Some n) names s = is_sorted-put name_cmp nat_list_cmp_total name n names s
+
+module _ (es fs : List (Vec ℕ × ℕ)) (name : List ℕ) where
+  -- other names find what they found
+  elsewhere : KeepsOthers (λ (x y : Vec ℕ). pointwise nat_eq x.items y.items) (λ (k : Vec ℕ). pointwise nat_eq name k.items) es fs → (q : List ℕ) → pointwise nat_eq name q ≡ false → found_by q fs ≡ found_by q es
+  unfolding KeepsOthers
+  elsewhere keeps q apart =
+      keeps (λ (k : Vec ℕ). pointwise nat_eq q k.items) (λ x y e. nat_list_eq_equiv.congr q x.items y.items e)
+      (λ k e. ap (pointwise nat_eq q) (sym (same_bytes name k.items e)) ∙ nat_list_eq_equiv.symm q name ∙ apart)
+
+  -- one name leads elsewhere, or nowhere
+  module _ (w : Option ℕ) (here : found_by name fs ≡ w) (keeps : KeepsOthers (λ (x y : Vec ℕ). pointwise nat_eq x.items y.items) (λ (k : Vec ℕ). pointwise nat_eq name k.items) es fs) where
+    by_name : (q : List ℕ) → found_by q fs ≡ cond (pointwise nat_eq name q) w (found_by q es)
+    by_name q =
+        elim (pointwise nat_eq name q) as (λ b. pointwise nat_eq name q ≡ b → found_by q fs ≡ cond b w (found_by q es)) [
+          | true ↦ λ same. ap (λ k. found_by k fs) (sym (same_bytes name q same)) ∙ here
+          | false ↦ λ other. elsewhere keeps q other
+        ] refl
+
+    changed : in_order fs ≡ with_name name w (in_order es)
+    changed =
+        same_names (in_order fs) (with_name name w (in_order es)) (sorted_in fs) (sorted_with name w (in_order es) (sorted_in es))
+        (λ q. found_in fs q ∙ by_name q ∙ ap (cond (pointwise nat_eq name q) w) (sym (found_in es q)) ∙ sym (found_with name w (in_order es) q))
+
+  pub name_put : (n : ℕ) → found_by name fs ≡ Some n → KeepsOthers (λ (x y : Vec ℕ). pointwise nat_eq x.items y.items) (λ (k : Vec ℕ). pointwise nat_eq name k.items) es fs → in_order fs ≡ put name_cmp name n (in_order es)
+  name_put n here keeps = changed (Some n) here keeps
+
+  pub name_taken : found_by name fs ≡ None → KeepsOthers (λ (x y : Vec ℕ). pointwise nat_eq x.items y.items) (λ (k : Vec ℕ). pointwise nat_eq name k.items) es fs → in_order fs ≡ without_name name (in_order es)
+  name_taken here keeps = changed None here keeps
+
+pub length_in : (es : List (Vec ℕ × ℕ)) → IsDistinct (λ (x y : Vec ℕ). pointwise nat_eq x.items y.items) (keys_of es) → length (in_order es) ≡ length es
+length_in [] distinct = refl
+length_in (e ∷ es) distinct =
+    let none = lookup-none (λ (k : Vec ℕ). pointwise nat_eq e.0.items k.items) es (none_past_head (on_texts_equal (λ (k : Vec ℕ). k.items)) e.0 e es distinct (nat_list_eq_equiv.refl e.0.items)) in
+    let rest = length_in es (IsDistinct-tail _ e.0 (keys_of es) distinct) in
+    let longer = length-put name_cmp nat_list_cmp_total e.0.items e.1 (in_order es) (sorted_in es)
+    ∙ ap (λ (o : Option ℕ). cond (is_some o) (length (in_order es)) (length (in_order es) + 1)) (found_in es e.0.items ∙ none) in
+    omega (arith, longer, rest)

@@ -1,17 +1,15 @@
--- Entries and names that are there, and lead elsewhere.
-use Rattle.std.proofs.Common.{◌≡◌, ℕ, ◌<◌, ◌^◌, List, map, is_some, IsSome, IsTrue, ap, ◌∙◌}
+-- Entries that are there, and lead elsewhere.
+use Rattle.std.proofs.Common.{◌≡◌, ℕ, ◌<◌, ◌^◌, List, map, is_some, IsSome, ap, ◌∙◌}
 use Rattle.std.specs.BTreeMap.{is_at}
 use Rattle.std.specs.Cmp.Lexicographic.{slice_cmp}
-use Rattle.std.specs.FinMap.Entries.{put, is_sorted}
+use Rattle.std.specs.FinMap.Entries.{put}
 use Rattle.std.specs.FinMap.Entries.{find as lookup_entry}
 use Rattle.std.specs.Global.{Vec}
 use Rattle.std.specs.Map.{lookup, set_value}
 use Rattle.std.specs.Ordering.{nat_cmp}
 use Rattle.dc_plain.specs.Trees.{Spot, spot_cmp}
 use Rattle.dc_store.specs.Keys.{key_of, entry_shown, AreKept}
-use Rattle.dc_store.specs.Names.{name_cmp, name_shown}
 use Rattle.dc_store.proofs.Keyed.{found_at, set_to}
-use Rattle.dc_store.proofs.Named.{name_found, name_set, set-sorted}
 
 module _ {entries : List (Vec ℕ × ℕ)} {es : List (Spot × ℕ)} (kept : AreKept entries) (view : map entry_shown entries ≡ es) (spot : Spot) (fits : spot.dir < 2 ^ 64)
     {key : List ℕ} (is : key ≡ key_of spot) (there : IsSome (lookup_entry spot_cmp spot es)) where
@@ -24,16 +22,3 @@ module _ {entries : List (Vec ℕ × ℕ)} {es : List (Spot × ℕ)} (kept : Are
 
   pub entry_redirected : (n : ℕ) {after : List (Vec ℕ × ℕ)} → after ≡ set_value (is_at (λ (k : Vec ℕ). slice_cmp nat_cmp key k.items)) entries n → AreKept after × (map entry_shown after ≡ put spot_cmp spot n es)
   entry_redirected n done = let both = set_to kept spot fits n is stands done in (both.0, both.1 ∙ ap (put spot_cmp spot n) view)
-
-module _ (entries : List (Vec ℕ × ℕ)) (bytes : List ℕ) {names : List (List ℕ × ℕ)} {name : List ℕ} (sorted : IsTrue (is_sorted name_cmp (map name_shown entries))) (view : map name_shown entries ≡ names)
-    (is : bytes ≡ name) (there : IsSome (lookup_entry name_cmp name names)) where
-  held : IsSome (lookup_entry name_cmp bytes (map name_shown entries))
-  held = (λ i. is_some (lookup_entry name_cmp (is i) (view i))) ∙ there
-
-  -- a name is found by its bytes
-  pub found_name : IsSome (lookup (is_at (λ (k : Vec ℕ). slice_cmp nat_cmp bytes k.items)) entries)
-  found_name = ap is_some (name_found entries bytes) ∙ held
-
-  pub name_redirected : (n : ℕ) {after : List (Vec ℕ × ℕ)} → after ≡ set_value (is_at (λ (k : Vec ℕ). slice_cmp nat_cmp bytes k.items)) entries n
-      → IsTrue (is_sorted name_cmp (map name_shown after)) × (map name_shown after ≡ put name_cmp name n names)
-  name_redirected n done = (set-sorted entries bytes n sorted held done, name_set entries bytes n sorted held done ∙ (λ i. put name_cmp (is i) n (view i)))

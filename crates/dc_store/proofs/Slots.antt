@@ -1,23 +1,24 @@
 -- Inodes in the slots of a slab: what a number finds, and how they change as a slot does.
-use Rattle.std.proofs.Common.{◌≡◌, ◌≢◌, ℕ, List, [], ◌∷◌, length, Bool, true, false, not, cond, Option, Some, None, is_some, IsTrue, T, option_and_then, refl, ap, sym, ◌∙◌, arith}
+use Rattle.std.proofs.Common.{◌≡◌, ◌≢◌, ℕ, List, [], ◌∷◌, length, Bool, true, false, not, cond, Option, Some, None, is_some, IsTrue, T, option_and_then, nat_eq, refl, ap, sym, ◌∙◌, arith}
 use Rattle.std.proofs.lemmas.Bool.Decides.{nat_tests}
-use Rattle.std.specs.BTreeMap.{BTreeMap, get, btree_map_len}
 use Rattle.std.specs.Cmp.{nat_cmp_total}
 use Rattle.std.specs.FinMap.Entries.{is_sorted, is_sorted-put, is_sorted-where_key, find-put, same_entries}
-use Rattle.std.specs.FinMap.Entries.{find as lookup}
 use Rattle.std.specs.Ordering.{nat_cmp, eq_by_cmp, is_eq}
 use Rattle.std.specs.declared.cmp.Ordering.TheVariants.{Equal}
 use Rattle.slab.specs.Slab.{Slab, slab_len}
 use Rattle.slab.specs.Slab.{get as slot}
 use Rattle.dc_store.specs.Inodes.{inode_at, without_inode}
-use Rattle.dc_store.specs.Slots.{with_slot, inodes_in, IsKept}
+use Rattle.dc_store.specs.Slots.{with_slot, inodes_in, key_of, IsKept}
 use Rattle.dc_store.specs.declared.inode.Inode.{Inode}
-use Rattle.dc_store.proofs.Maps.{lookup_find}
 use Rattle.dc_store.proofs.Spots.{lookup-take}
 use Rattle.dc_store.proofs.Decides.{same_number, from_test}
 
 exact : (m n : ℕ) → nat_cmp m n ≡ Equal → m ≡ n
 exact m n e = same_number m n (ap is_eq e)
+
+-- by the order two numbers are one where they are equal
+pub tested : (m n : ℕ) → eq_by_cmp nat_cmp m n ≡ nat_eq m n
+tested m n = grind (arith, nat_tests)
 
 pub tied_ways : (m n : ℕ) → eq_by_cmp nat_cmp m n ≡ eq_by_cmp nat_cmp n m
 tied_ways m n = grind (arith, nat_tests)
@@ -48,68 +49,69 @@ sorted_in slab (e ∷ keys) = sorted_with e.0 (slot slab e.1) (inodes_in slab ke
 pub in_order : (slab : Slab Inode) (keys : List (ℕ × ℕ)) → IsTrue (is_sorted nat_cmp (inodes_in slab keys))
 in_order slab keys = from_test _ (sorted_in slab keys)
 
-found_in : (slab : Slab Inode) (keys : List (ℕ × ℕ)) (q : ℕ) → inode_at (inodes_in slab keys) q ≡ option_and_then (slot slab) (lookup nat_cmp q keys)
+found_in : (slab : Slab Inode) (keys : List (ℕ × ℕ)) (q : ℕ) → inode_at (inodes_in slab keys) q ≡ option_and_then (slot slab) (key_of keys q)
 found_in slab [] q = refl
 found_in slab (e ∷ keys) q =
     found_with e.0 (slot slab e.1) (inodes_in slab keys) q
-    ∙ elim (eq_by_cmp nat_cmp q e.0) as (λ b. cond b (slot slab e.1) (inode_at (inodes_in slab keys) q) ≡ option_and_then (slot slab) (cond b (Some e.1) (lookup nat_cmp q keys))) [
+    ∙ elim (eq_by_cmp nat_cmp q e.0) as (λ b. cond b (slot slab e.1) (inode_at (inodes_in slab keys) q) ≡ option_and_then (slot slab) (cond b (Some e.1) (key_of keys q))) [
       | true ↦ refl
       | false ↦ found_in slab keys q
     ]
+    ∙ ap (λ b. option_and_then (slot slab) (cond b (Some e.1) (key_of keys q))) (tested q e.0)
 
 -- a number finds what is in the slot of its key
-pub at_number : (slab : Slab Inode) (keys : BTreeMap ℕ ℕ) (q : ℕ) → inode_at (inodes_in slab keys.entries) q ≡ option_and_then (slot slab) (get nat_cmp keys q)
-at_number slab keys q = found_in slab keys.entries q ∙ ap (option_and_then (slot slab)) (sym (lookup_find nat_cmp_total q keys.entries))
+pub at_number : (slab : Slab Inode) (keys : List (ℕ × ℕ)) (q : ℕ) → inode_at (inodes_in slab keys) q ≡ option_and_then (slot slab) (key_of keys q)
+at_number = found_in
 
 -- only what is at one number changes
-pub record IsAt (n : ℕ) (slab new : Slab Inode) (keys news : BTreeMap ℕ ℕ) : Type 0 where
-  pub others : (q : ℕ) → eq_by_cmp nat_cmp n q ≡ false → get nat_cmp news q ≡ get nat_cmp keys q
-  pub slots : (q key : ℕ) → eq_by_cmp nat_cmp n q ≡ false → get nat_cmp keys q ≡ Some key → slot new key ≡ slot slab key
-  pub filled : (key : ℕ) → get nat_cmp news n ≡ Some key → IsTrue (is_some (slot new key))
-  pub fresh : (q key : ℕ) → eq_by_cmp nat_cmp n q ≡ false → get nat_cmp keys q ≡ Some key → get nat_cmp news n ≢ Some key
+pub record IsAt (n : ℕ) (slab new : Slab Inode) (keys news : List (ℕ × ℕ)) : Type 0 where
+  pub others : (q : ℕ) → eq_by_cmp nat_cmp n q ≡ false → key_of news q ≡ key_of keys q
+  pub slots : (q key : ℕ) → eq_by_cmp nat_cmp n q ≡ false → key_of keys q ≡ Some key → slot new key ≡ slot slab key
+  pub filled : (key : ℕ) → key_of news n ≡ Some key → IsTrue (is_some (slot new key))
+  pub fresh : (q key : ℕ) → eq_by_cmp nat_cmp n q ≡ false → key_of keys q ≡ Some key → key_of news n ≢ Some key
 
-module _ {slab new : Slab Inode} {keys news : BTreeMap ℕ ℕ} {n : ℕ} (at : IsAt n slab new keys news) where
-  same_slot : (q : ℕ) → eq_by_cmp nat_cmp n q ≡ false → option_and_then (slot new) (get nat_cmp news q) ≡ option_and_then (slot slab) (get nat_cmp keys q)
-  same_slot q other = ap (option_and_then (slot new)) (at.others q other) ∙ by_key (get nat_cmp keys q) refl
+module _ {slab new : Slab Inode} {keys news : List (ℕ × ℕ)} {n : ℕ} (at : IsAt n slab new keys news) where
+  same_slot : (q : ℕ) → eq_by_cmp nat_cmp n q ≡ false → option_and_then (slot new) (key_of news q) ≡ option_and_then (slot slab) (key_of keys q)
+  same_slot q other = ap (option_and_then (slot new)) (at.others q other) ∙ by_key (key_of keys q) refl
     where
-      by_key : (o : Option ℕ) → get nat_cmp keys q ≡ o → option_and_then (slot new) o ≡ option_and_then (slot slab) o
+      by_key : (o : Option ℕ) → key_of keys q ≡ o → option_and_then (slot new) o ≡ option_and_then (slot slab) o
       by_key None e = refl
       by_key (Some key) e = at.slots q key other e
 
-  by_number : (o : Option Inode) → option_and_then (slot new) (get nat_cmp news n) ≡ o → (q : ℕ) → option_and_then (slot new) (get nat_cmp news q) ≡ cond (eq_by_cmp nat_cmp n q) o (inode_at (inodes_in slab keys.entries) q)
+  by_number : (o : Option Inode) → option_and_then (slot new) (key_of news n) ≡ o → (q : ℕ) → option_and_then (slot new) (key_of news q) ≡ cond (eq_by_cmp nat_cmp n q) o (inode_at (inodes_in slab keys) q)
   by_number o here q =
-      elim (eq_by_cmp nat_cmp n q) as (λ b. eq_by_cmp nat_cmp n q ≡ b → option_and_then (slot new) (get nat_cmp news q) ≡ cond b o (inode_at (inodes_in slab keys.entries) q)) [
-        | true ↦ λ same. ap (λ k. option_and_then (slot new) (get nat_cmp news k)) (sym (same_number n q same)) ∙ here
+      elim (eq_by_cmp nat_cmp n q) as (λ b. eq_by_cmp nat_cmp n q ≡ b → option_and_then (slot new) (key_of news q) ≡ cond b o (inode_at (inodes_in slab keys) q)) [
+        | true ↦ λ same. ap (λ k. option_and_then (slot new) (key_of news k)) (sym (same_number n q same)) ∙ here
         | false ↦ λ other. same_slot q other ∙ sym (at_number slab keys q)
       ] refl
 
   -- so the list has another inode at the number, or none
-  pub placed : (o : Option Inode) → option_and_then (slot new) (get nat_cmp news n) ≡ o → inodes_in new news.entries ≡ with_slot n o (inodes_in slab keys.entries)
+  pub placed : (o : Option Inode) → option_and_then (slot new) (key_of news n) ≡ o → inodes_in new news ≡ with_slot n o (inodes_in slab keys)
   placed o here =
-      same_inodes (inodes_in new news.entries) (with_slot n o (inodes_in slab keys.entries)) (sorted_in new news.entries) (sorted_with n o (inodes_in slab keys.entries) (sorted_in slab keys.entries))
-      (λ q. at_number new news q ∙ by_number o here q ∙ ap (λ b. cond b o (inode_at (inodes_in slab keys.entries) q)) (tied_ways n q) ∙ sym (found_with n o (inodes_in slab keys.entries) q))
+      same_inodes (inodes_in new news) (with_slot n o (inodes_in slab keys)) (sorted_in new news) (sorted_with n o (inodes_in slab keys) (sorted_in slab keys))
+      (λ q. at_number new news q ∙ by_number o here q ∙ ap (λ b. cond b o (inode_at (inodes_in slab keys) q)) (tied_ways n q) ∙ sym (found_with n o (inodes_in slab keys) q))
 
   module _ (kept : IsKept slab keys) where
-    all_filled : (q key : ℕ) → get nat_cmp news q ≡ Some key → IsTrue (is_some (slot new key))
+    all_filled : (q key : ℕ) → key_of news q ≡ Some key → IsTrue (is_some (slot new key))
     all_filled q key e =
         elim (eq_by_cmp nat_cmp n q) as (λ b. eq_by_cmp nat_cmp n q ≡ b → IsTrue (is_some (slot new key))) [
-          | true ↦ λ same. at.filled key (ap (get nat_cmp news) (same_number n q same) ∙ e)
+          | true ↦ λ same. at.filled key (ap (key_of news) (same_number n q same) ∙ e)
           | false ↦ λ other. let was = sym (at.others q other) ∙ e in ap is_some (at.slots q key other was) ∙ kept.filled q key was
         ] refl
 
-    all_apart : (p q key : ℕ) → get nat_cmp news p ≡ Some key → get nat_cmp news q ≡ Some key → p ≡ q
+    all_apart : (p q key : ℕ) → key_of news p ≡ Some key → key_of news q ≡ Some key → p ≡ q
     all_apart p q key d e =
         elim (eq_by_cmp nat_cmp n p) as (λ b. eq_by_cmp nat_cmp n p ≡ b → p ≡ q) [
           | true ↦ λ here. let p_is = same_number n p here in
               elim (eq_by_cmp nat_cmp n q) as (λ b. eq_by_cmp nat_cmp n q ≡ b → p ≡ q) [
                 | true ↦ λ there. sym p_is ∙ same_number n q there
-                | false ↦ λ other. absurd (at.fresh q key other (sym (at.others q other) ∙ e) (ap (get nat_cmp news) p_is ∙ d))
+                | false ↦ λ other. absurd (at.fresh q key other (sym (at.others q other) ∙ e) (ap (key_of news) p_is ∙ d))
               ] refl
           | false ↦ λ other. elim (eq_by_cmp nat_cmp n q) as (λ b. eq_by_cmp nat_cmp n q ≡ b → p ≡ q) [
-            | true ↦ λ there. absurd (at.fresh p key other (sym (at.others p other) ∙ d) (ap (get nat_cmp news) (same_number n q there) ∙ e))
+            | true ↦ λ there. absurd (at.fresh p key other (sym (at.others p other) ∙ d) (ap (key_of news) (same_number n q there) ∙ e))
             | false ↦ λ apart. kept.apart p q key (sym (at.others p other) ∙ d) (sym (at.others q apart) ∙ e)
           ] refl
         ] refl
 
-    pub kept_so : length (inodes_in new news.entries) ≡ btree_map_len news → slab_len new ≡ btree_map_len news → IsKept new news
+    pub kept_so : length (inodes_in new news) ≡ length news → slab_len new ≡ length news → IsKept new news
     kept_so each no_more = record { filled = all_filled; apart = all_apart; each = each; no_more = no_more }

@@ -12,7 +12,7 @@ use crate::inode::Inode;
 use dc_names::{Name, NoMemory};
 use slab::Slab;
 use std::alloc::Global;
-use std::collections::BTreeMap;
+use std::collections::HashMap;
 use std::marker::Model;
 
 /// Inodes by their numbers, seen as a list in the order of these. Where the slab keeps them is seen
@@ -20,7 +20,7 @@ use std::marker::Model;
 #[derive(Drop)]
 pub struct Inodes {
     slab: Slab<Inode>,
-    keys: BTreeMap<u64, usize>,
+    keys: HashMap<u64, usize>,
 }
 
 impl Model for Inodes {
@@ -33,7 +33,7 @@ impl Model for Inodes {
 
     ghost view = { λ s. inodes_in s.slab s.keys.entries };
 
-    ghost invariant = { λ s. IsKept s.slab s.keys };
+    ghost invariant = { λ s. IsKept s.slab s.keys.entries };
 }
 
 impl Inodes {
@@ -42,7 +42,7 @@ impl Inodes {
     {
         Inodes {
             slab: Slab::new(alloc),
-            keys: BTreeMap::new(alloc),
+            keys: HashMap::new(alloc),
         }
     }
 

@@ -4,26 +4,24 @@ ghost use Rattle.std.specs.Prelude.{◌≡◌, ℕ, List, [], length, map, IsSom
 ghost use Rattle.std.specs.FinMap.Entries.{put, is_sorted};
 ghost use Rattle.std.specs.FinMap.Entries.{find as lookup};
 ghost use Rattle.dc_plain.specs.BytesShown.{names_shown};
-ghost use Rattle.dc_store.specs.Names.{name_cmp, name_shown, without_name};
+ghost use Rattle.dc_store.specs.Names.{in_order, name_cmp, without_name};
 
 use dc_names::{Name, NoMemory};
 use std::alloc::Global;
-use std::collections::BTreeMap;
+use std::collections::HashMap;
 use std::marker::Model;
 
-/// The names in a directory, each with the number that it leads to, seen as a list in the order of their
-/// bytes.
+/// The names in a directory, each with the number that it leads to, found by a hash. They are seen as a
+/// list in the order of their bytes, whatever order the map keeps them in.
 #[derive(Drop)]
 pub struct Names {
-    by_name: BTreeMap<Vec<u8>, u64>,
+    by_name: HashMap<Vec<u8>, u64>,
 }
 
 impl Model for Names {
     ghost Value = { List (List ℕ × ℕ) };
 
-    ghost view = { λ names. map name_shown names.by_name.entries };
-
-    ghost invariant = { λ names. IsTrue (is_sorted name_cmp (map name_shown names.by_name.entries)) };
+    ghost view = { λ names. in_order names.by_name.entries };
 }
 
 impl Names {
@@ -31,7 +29,7 @@ impl Names {
         ensures { result ≡ [] }
     {
         Names {
-            by_name: BTreeMap::new(alloc),
+            by_name: HashMap::new(alloc),
         }
     }
 
@@ -85,7 +83,7 @@ impl Names {
         self.by_name.len() as u64
     }
 
-    /// The names, by their bytes.
+    /// The names in the order of their bytes.
     pub fn list(&self, alloc: Global) -> Result<Vec<Vec<u8>>, NoMemory>
         ensures names { IfOk result (λ names. names_shown names ≡ map (λ e. e.0) self.now) }
         ensures sorted { IsTrue (is_sorted name_cmp self.now) }
@@ -94,6 +92,7 @@ impl Names {
         for name in self.by_name.keys() {
             names.push(name.to_vec(alloc)?)?;
         }
+        names.sort_unstable();
         Ok(names)
     }
 }

@@ -1,10 +1,10 @@
-use Rattle.std.proofs.Common.{◌∙◌}
+use Rattle.std.proofs.Common.{sym, ◌∙◌}
 use Rattle.std.specs.FinMap.Entries.{find}
 use Rattle.dc_store.specs.Names.{name_cmp}
-use Rattle.dc_store.proofs.Named.{name_found}
+use Rattle.dc_store.proofs.Named.{found_in}
 use Rattle.dc_store.proofs.names.Names.get.Goals as goal
 
 pub returns : goal.returns
 returns c =
-    c.copied.ensures ∙ c.get.ensures.value ∙ name_found c.self.inside.by_name.entries c.bytes.result.now
+    c.copied.ensures ∙ c.get.ensures.value ∙ sym (found_in c.self.inside.by_name.entries c.bytes.result.now)
     ∙ (λ i. find name_cmp (c.bytes.ensures.bytes i) (c.self.view_is i))

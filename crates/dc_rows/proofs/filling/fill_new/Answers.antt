@@ -3,7 +3,7 @@ use Rattle.dc_plain.specs.KeysShown.{key_shown}
 use Rattle.dc_table.specs.Changes.{words_of}
 use Rattle.dc_table.specs.Holders.{rows_held}
 use Rattle.dc_rows.proofs.Pinning.{gets_chosen}
-use Rattle.dc_rows.proofs.filling.fill_row.Goals as goal
+use Rattle.dc_rows.proofs.filling.fill_new.Goals as goal
 
 pub fill_given-requires-clause-given : goal.fill_given-requires-clause-given
 fill_given-requires-clause-given c = record {
@@ -19,5 +19,5 @@ fill_given-requires-clause-given c = record {
 
 pub returns-clause-rows : goal.returns-clause-rows
 returns-clause-rows c = gets_chosen (key_shown c.args.key.now) (rows_held c.args.holder.now c.args.kept.now) record { words = words_of c.args.holder.now.pass.now; slots = c.set.new.self; used = c.remove.new.self } _ c.in-Some-choose.row
-    record { absent = c.in_default.ensures.row; chosen = sym c.in-Some-choose.ensures.choice; may = c.in-Some-choose.ensures.safe } c.in-Some-choose.ensures.within
+    record { absent = c.requires.absent; chosen = sym c.in-Some-choose.ensures.choice; may = c.in-Some-choose.ensures.safe } c.in-Some-choose.ensures.within
     refl c.in_ok-set.ensures.set c.remove.ensures.dropped c.remove.ensures.unused c.fill_given.ensures.rows c.fill_given.ensures.unpinned c.fill_given.result c.fill_given.ensures.filled
