@@ -53,6 +53,8 @@ fn at_end(place: Target, links: u64, is_last: bool, slash: bool, follow: Follow)
 
 /// Goes over some bytes, part after part, up to the end of the resolution or of the bytes. `is_last` says
 /// that nothing is left below them, and `links` how many links may be followed.
+// Inlined (measured): a look-up without a link is then one function, with no arguments to hand over.
+#[inline(always)]
 #[cycle(over_links)]
 fn walk_bytes<F: Finder>(
     finder: &mut F,
@@ -104,8 +106,8 @@ fn walk_bytes<F: Finder>(
 ///
 /// A text may have links too, or the link itself: with each that is followed one less may be, so no more
 /// than `MOST_LINKS` texts are gone over one within another.
-// Inlined into the loop over the parts (measured): what a call answers would be copied once more.
-#[inline(always)]
+// A call of its own, which has a loop over the text's parts inside: the loop over the path's parts is inlined.
+#[inline(never)]
 #[cycle(over_links)]
 fn walk_link<F: Finder>(
     finder: &mut F,

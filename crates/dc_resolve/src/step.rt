@@ -47,13 +47,15 @@ pub(crate) fn step_on<F: Finder>(
     ensures link { IfOk result (IsSaidMet (F.said finder.new)) }
     ensures kept { KeepsAnswering F.Finder finder.old finder.new result }
 {
-    if !is_directory(place) {
-        return Ok(Reached::Stops(Refusal::NotDirectory));
-    }
+    // The part is looked at first (measured): what it is was just found out.
+    let is_below = is_directory(place);
     match part {
-        Part::Dot => Ok(Reached::Dir(place.0)),
-        Part::DotDot if place.0 == ROOT.0 => Ok(Reached::Dir(place.0)),
-        Part::DotDot | Part::Normal(_) => Ok(on_to(finder.find_hashed(place.0, part, hash)?)),
+        Part::Dot if is_below => Ok(Reached::Dir(place.0)),
+        Part::DotDot if is_below && place.0 == ROOT.0 => Ok(Reached::Dir(place.0)),
+        Part::DotDot | Part::Normal(_) if is_below => {
+            Ok(on_to(finder.find_hashed(place.0, part, hash)?))
+        }
+        Part::Dot | Part::DotDot | Part::Normal(_) => Ok(Reached::Stops(Refusal::NotDirectory)),
     }
 }
 

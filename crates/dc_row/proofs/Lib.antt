@@ -10,3 +10,4 @@ pub mod Texts
 pub mod Lanes
 pub mod Empty
 pub mod Lasts
+pub mod Entries

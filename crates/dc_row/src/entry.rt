@@ -1,17 +1,19 @@
 //! A fact of a key that is sought in the words of rows, which are compared and not decoded.
 
-ghost use Rattle.std.specs.Prelude.{◌≡◌, ◌≤◌, ◌↔◌, length, slice_index, Some, IfSome, IsTrue, true, false};
+ghost use Rattle.std.specs.Prelude.{◌≡◌, ◌≤◌, ◌↔◌, length, slice_index, Option, Some, IfSome, IsTrue, true, false};
 ghost use Rattle.dc_names.specs.Words.{AreBytes};
+ghost use Rattle.dc_plain.specs.Facts.{Target, label_bytes};
 ghost use Rattle.dc_plain.specs.Facts.Fact.{Reads};
 ghost use Rattle.dc_plain.specs.KeysShown.{key_shown};
+ghost use Rattle.dc_row.specs.Decoding.{target_by};
 ghost use Rattle.dc_row.specs.Rooms.{EndsAt};
-ghost use Rattle.dc_row.specs.Spelling.{Spells, SpellsEntry, SpellsNoEntry, SpellsText, TellsOf, TellsText, entry_of, has_spelling, fields, IsSpelled};
+ghost use Rattle.dc_row.specs.Spelling.{Spells, SpellsEntry, SpellsNoEntry, SpellsText, TellsOf, TellsText, entry_of, has_spelling, is_numbered, kind_code, target_number, fields, IsSpelled};
 ghost use Rattle.dc_row.specs.declared.TheConstants.{ROW_WORDS, ROW_TEXT};
 
 use crate::reading::{room_of, spelled_text};
-use crate::writing::{is_numbered, kind_code, target_number, text_word};
-use crate::{KIND_UNIT, LENGTH_UNIT, ROW_TEXT, ROW_WORDS, RowText, TAGS, number, target};
-use dc_names::{Kind, no_piece_is_longer};
+use crate::writing::text_word;
+use crate::{KIND_UNIT, LENGTH_UNIT, ROW_TEXT, ROW_WORDS, RowText, TAGS, kind, number, value};
+use dc_names::no_piece_is_longer;
 use dc_plain::{Key, Label};
 use std::simd::prelude::*;
 
@@ -76,17 +78,18 @@ fn ends_at(room: u8x32, len: u64) -> bool
 }
 
 /// Whether the words spell an entry of a key, wherever it leads.
-#[inline(always)]
+// A call of its own (measured): inlined, what it works out of the name would stand before the loop over
+// the rows, and leave the walk no registers.
+#[inline(never)]
 fn is_entry_of(words: &[u64], key: Key<'_>) -> bool
     requires size { length words.now ≡ ROW_WORDS }
     ensures spelled { result ≡ true → SpellsEntry words.now (key_shown key.entry) }
     ensures none { result ≡ false → SpellsNoEntry words.now (key_shown key.entry) }
 {
-    let target = target(words);
-    if !has_spelling(key, &target) {
+    let (kind, value) = (kind(words), value(words));
+    if !is_target(kind, value) || !has_room(key, kind) {
         return false;
     }
-    let (kind, value) = (kind_code(&target), target_number(&target));
     is_spelled(words, 1, kind, key.number, value, key.label.bytes())
 }
 
@@ -112,15 +115,31 @@ fn is_spelled(words: &[u64], tag: u64, kind: u64, number: u64, value: u64, text:
     true
 }
 
-/// Whether an entry can stand in a row.
-fn has_spelling(key: Key<'_>, target: &Option<(u64, Kind)>) -> bool
-    ensures { result ≡ has_spelling (entry_of (key_shown key.entry) target.now) }
+/// Whether an entry can have this kind and this number: one that leads nowhere has no number.
+#[inline(always)]
+fn is_target(kind: u64, value: u64) -> bool
+    ensures some { result ≡ true → let t = target_by kind value in
+        (kind_code t ≡ kind) × (target_number t ≡ value) × (is_numbered t ≡ true) }
+    ensures all { (target : Option Target) → kind ≡ kind_code target → value ≡ target_number target
+        → is_numbered target ≡ true → result ≡ true }
+{
+    if kind == 0 {
+        value == 0
+    } else {
+        kind <= 3 && value != 0
+    }
+}
+
+/// Whether an entry that leads to something of a kind can stand in a row.
+#[inline(always)]
+fn has_room(key: Key<'_>, kind: u64) -> bool
+    ensures spelling { (target : Option Target) → kind ≡ kind_code target →
+        is_numbered target ≡ true → result ≡ has_spelling (entry_of (key_shown key.entry) target) }
+    ensures room { result ≡ true → length (label_bytes (key_shown key.entry).label) ≤ ROW_TEXT }
 {
     match key.label {
-        Label::Name(name) => {
-            key.number != 0 && name.bytes().len() <= ROW_TEXT && is_numbered(target)
-        }
-        Label::DotDot => key.number != 0 && is_numbered(target) && kind_code(target) <= 1,
+        Label::Name(name) => key.number != 0 && name.bytes().len() <= ROW_TEXT,
+        Label::DotDot => key.number != 0 && kind <= 1,
         Label::Text => false,
     }
 }
