@@ -8,7 +8,7 @@
  * more for another thread. A pass is the cache's as long as it is open: the cache ends with its last pass.
  *
  * No call here waits. One that needs the lock tries for it once, and answers GB_BUSY where another pass has it; nothing
- * has happened then. The blocking forms at the end of this file (gb_look, gb_mkdir, ..) try again, and sleep in between.
+ * has happened then. The blocking forms at the end of this file (gb_look, gb_mkdir, ..) try again, and sleep meanwhile.
  *
  * A path is so many bytes, and needs no zero byte at its end. `base` is the number of the directory where a relative
  * path starts. Names have up to 255 bytes, paths up to 4,095, and at most 8 links are followed. No pointer may be null,

@@ -215,15 +215,13 @@ static int fs_rename(const char *old_path, const char *path, unsigned flags)
     return answer == GB_BAD_ARGUMENT ? -EINVAL : took(answer, &gone);
 }
 
-/* Which file got the name is looked up first, since the library doesn't tell. A rename in between would miscount names,
- * and no more; libfuse keeps renames of a path away as long as a call on it runs. */
+/* The library doesn't tell which inode got the name, so that is looked up. A change in between would miscount names, and
+ * no more; the kernel lets none in, as it keeps the directory locked until this is answered. */
 static int fs_link(const char *old_path, const char *path)
 {
     struct gb_found found;
     struct body *body;
-    int answer = gb_look(&gate, pass(), ROOT, old_path, strlen(old_path), GB_NO_FOLLOW, &found);
-    if (answer == 0)
-        answer = gb_link(&gate, pass(), ROOT, old_path, strlen(old_path), path, strlen(path), &found);
+    int answer = gb_link(&gate, pass(), ROOT, old_path, strlen(old_path), path, strlen(path), &found);
     atomic_fetch_add(&changes, 1);
     if (answer != 0 || take(path, NULL, &body) != 0)
         return told(answer);
