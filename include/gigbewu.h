@@ -52,7 +52,7 @@ enum {
     GB_BUSY = -1,         /* another pass had the lock at some moment of this call: try again */
     GB_AGAIN = -2,        /* gb_look_fast: the rows don't answer; `why` says why not */
     GB_NO_MEMORY = -3,    /* malloc refused what the call needed */
-    GB_SPENT = -4,        /* 2^64 - 2 changes were made, and no more can be; look-ups go on */
+    GB_SPENT = -4,        /* 2^62 changes were made, and no more can be; look-ups go on */
     GB_BAD_SIZE = -5,     /* gb_cache_new: not those numbers of buckets or inodes */
     GB_BAD_PASS = -6,     /* a blank pass where an open one is wanted, or the other way round, or of another cache */
     GB_BAD_ARGUMENT = -7, /* `follow` or `flags` is none of the numbers below */

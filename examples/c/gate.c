@@ -1,52 +1,59 @@
-/* Four threads take turns at a lock that is held longer than they spin, and sleep at a gate as the blocking forms do. A
- * lost wake-up would leave a thread asleep, and the alarm would end the program. Prints the same whatever the schedule.
+/* Threads take turns at a lock that is held longer than they spin, and sleep at a gate as the blocking forms do. In each
+ * round each takes one turn, and none begins the next before all have: so a wake-up that is lost leaves the round without
+ * an end, and the alarm ends the program. Sleeps where the hazards are make losses likely, if there could be any.
+ * Prints the same whatever the schedule.
  */
 #define _GNU_SOURCE
 #include <gigbewu.h>
 #include <pthread.h>
-#include <sched.h>
 #include <stdatomic.h>
 #include <stdio.h>
 #include <unistd.h>
 
-enum { THREADS = 4, TURNS = 3000, HELD = 3, SECONDS = 60 };
+enum { THREADS = 4, ROUNDS = 300, MICROSECONDS = 50, MOST_SECONDS = 60 };
 
 static struct gb_gate gate;
+static pthread_barrier_t round_end;
 static atomic_int held;
 static atomic_long slept;
 static long turns; /* under the lock */
 
-static int try_lock(void)
+/* As a call that tries for the lock. A thread that is refused may be late to learn it: the lock is free meanwhile. */
+static int try_turn(const struct gb_turn *turn)
 {
     int free = 0;
-    return atomic_compare_exchange_strong(&held, &free, 1) ? 0 : GB_BUSY;
+    if (!atomic_compare_exchange_strong(&held, &free, 1)) {
+        if (turn->counted)
+            usleep(MICROSECONDS);
+        return GB_BUSY;
+    }
+    turns++;
+    usleep(2 * MICROSECONDS);
+    atomic_store(&held, 0);
+    return 0;
 }
 
-/* Waits as gb_gate_wait, and counts. */
-static void count_and_wait(struct gb_gate *at, uint32_t seen)
+/* A thread may be late to fall asleep: it has been called meanwhile. */
+static void wait_late(struct gb_gate *at, uint32_t seen)
 {
     atomic_fetch_add(&slept, 1);
+    usleep(MICROSECONDS);
     gb_gate_wait(at, seen);
 }
 
 static void take_a_turn(void)
 {
     struct gb_turn turn = gb_turn_new(&gate);
-    while (try_lock() == GB_BUSY)
-        gb_turn_again(&turn, GB_BUSY);
-    turns++;
-    for (int i = 0; i < HELD; i++)
-        sched_yield();
-    if (turns % 50 == 0)
-        usleep(300);
-    atomic_store(&held, 0);
-    gb_turn_again(&turn, 0);
+    while (gb_turn_again(&turn, try_turn(&turn)))
+        ;
 }
 
 static void *take_turns(void *unused)
 {
-    for (int i = 0; i < TURNS; i++)
+    for (int i = 0; i < ROUNDS; i++) {
         take_a_turn();
+        pthread_barrier_wait(&round_end);
+    }
     return unused;
 }
 
@@ -54,8 +61,9 @@ int main(void)
 {
     pthread_t threads[THREADS];
     gate = gb_gate_new();
-    gate.wait = count_and_wait;
-    alarm(SECONDS);
+    gate.wait = wait_late;
+    alarm(MOST_SECONDS);
+    pthread_barrier_init(&round_end, NULL, THREADS);
     for (int i = 0; i < THREADS; i++)
         pthread_create(&threads[i], NULL, take_turns, NULL);
     for (int i = 0; i < THREADS; i++)
