@@ -14,10 +14,11 @@
  * path starts. Names have up to 255 bytes, paths up to 4,095, and at most 8 links are followed. No pointer may be null,
  * also where nothing is to be read or written behind it.
  *
- * What is proved. The library is proved as it was written, in Rattle: each function is safe and ends, where its caller
- * keeps the rules below; whatever the schedule of the threads, each call that answers 0 or a refusal takes effect at
- * one moment between its call and its return, and the answer is what that operation gives on the tree of that moment.
- * In the order of these moments all answers are those of a single thread. docs/PROMISES.md has it clause by clause.
+ * What is proved. The library is proved as it is written, in Rattle. Each function is safe and ends, where its caller
+ * keeps the rules below, and it answers what the proved call of its name does: whatever the schedule of the threads,
+ * each call that answers 0 or a refusal takes effect at one moment between its call and its return, and the answer is
+ * what that operation gives on the tree of that moment. In the order of these moments all answers are those of a single
+ * thread. docs/PROMISES.md of the library has it clause by clause.
  *
  * What is not proved: this file, the compiler, the C library (malloc, free), and what a caller does wrong. The rules:
  *
@@ -28,8 +29,9 @@
  *     found: GB_BAD_PASS. A copy made before is not blank, and using it is an error that is not noticed.
  *   - A pass knows its cache, so no call can be made with the pass of another cache. gb_pass_join takes two passes, and
  *     finds out where they are of two caches.
- *   - Pointers lead to as many bytes as is said, which nobody else writes during the call; what is written to overlaps
- *     nothing else. Not tested.
+ *   - Pointers lead to as many bytes as is said, which nobody else writes during the call. No two of one call lead to the
+ *     same bytes where either is written to: the passes of a call are two, and a path is not read from where the answer
+ *     goes. Not tested.
  */
 #ifndef GIGBEWU_H
 #define GIGBEWU_H
