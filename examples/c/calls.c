@@ -123,7 +123,10 @@ static void try_texts(void)
         is(calls[i].name, "a zero byte", calls[i].call(&pass, "f\0", 2), EINVAL);
         is(calls[i].name, "4,096 bytes", calls[i].call(&pass, longest, sizeof longest), ENAMETOOLONG);
         is(calls[i].name, "a name of 256", calls[i].call(&pass, name, sizeof name), ENAMETOOLONG);
-        is(calls[i].name, "beneath a file", calls[i].call(&pass, "/f/x", 4), calls[i].call == symlink_to ? 0 : ENOTDIR);
+        int answer = calls[i].call(&pass, "/f/x", 4);
+        if (answer == GB_AGAIN && calls[i].call == look_fast)
+            continue;
+        is(calls[i].name, "beneath a file", answer, calls[i].call == symlink_to ? 0 : ENOTDIR);
         if (calls[i].call == symlink_to)
             is("unlink", "what it made", unlink(&pass, "/made", 5), 0);
     }
