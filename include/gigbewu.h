@@ -28,7 +28,8 @@
  *   - A pass is never copied by its bytes, and changed by these calls alone. Used after its end it is blank, which is
  *     found: GB_BAD_PASS. A copy made before is not blank, and using it is an error that is not noticed.
  *   - A pass knows its cache, so no call can be made with the pass of another cache. gb_pass_join takes two passes, and
- *     finds out where they are of two caches.
+ *     finds out where they are of two caches, unless passes of the second one are joined elsewhere at that moment; then
+ *     it may end the pass all the same.
  *   - Pointers lead to as many bytes as is said, which nobody else writes during the call. No two of one call lead to the
  *     same bytes where either is written to: the passes of a call are two, and a path is not read from where the answer
  *     goes. Not tested.
@@ -93,7 +94,8 @@ struct gb_found {
 };
 
 /* What a change took away, so that a caller can let go what it keeps by inode number: the number and kind of what stood
- * at the name, and 1 where that name was its last (numbers are never used again). All 0 where nothing went. */
+ * at the name, and 1 where that name was its last (numbers are never used again). All 0 where nothing went. It is read
+ * under the same hold of the lock; what it says is tested, and not proved. */
 struct gb_gone {
     uint64_t number;
     uint32_t kind;
