@@ -66,6 +66,14 @@ static int told(int answer)
     return answer == GB_NO_MEMORY ? -ENOMEM : -EIO;
 }
 
+/* Of a change. */
+static int changed(int answer)
+{
+    if (answer == 0)
+        atomic_fetch_add(&changes, 1);
+    return told(answer);
+}
+
 static int look(const char *path, struct gb_found *found)
 {
     size_t len = strlen(path);
@@ -127,7 +135,6 @@ static int make(mode_t mode, const char *path, const char *text, struct body **m
     if (!body)
         return -ENOMEM;
     body->size = text ? strlen(text) : 0;
-    atomic_fetch_add(&changes, 1);
     making_begin();
     int answer = make_inode(mode, path, text, &found);
     if (answer == 0)
@@ -135,7 +142,7 @@ static int make(mode_t mode, const char *path, const char *text, struct body **m
     else
         body_free(body);
     making_end();
-    return told(answer);
+    return changed(answer);
 }
 
 static int make_and_let_go(mode_t mode, const char *path, const char *text)
@@ -179,7 +186,6 @@ static int fs_create(const char *path, mode_t mode, struct fuse_file_info *file)
 static int took(int answer, const struct gb_gone *gone)
 {
     struct body *body = answer == 0 && gone->number ? body_of(gone->number) : NULL;
-    atomic_fetch_add(&changes, 1);
     if (body) {
         pthread_mutex_lock(&body->lock);
         body->names = gone->last ? 0 : body->names - 1;
@@ -187,7 +193,7 @@ static int took(int answer, const struct gb_gone *gone)
         pthread_mutex_unlock(&body->lock);
         body_let_go(body, gone->last);
     }
-    return told(answer);
+    return changed(answer);
 }
 
 static int fs_unlink(const char *path)
@@ -222,11 +228,11 @@ static int fs_link(const char *old_path, const char *path)
     struct gb_found found;
     struct body *body;
     int answer = gb_link(&gate, pass(), ROOT, old_path, strlen(old_path), path, strlen(path), &found);
-    atomic_fetch_add(&changes, 1);
-    if (answer != 0 || take(path, NULL, &body) != 0)
-        return told(answer);
-    body->names++;
-    return give_changed(body);
+    if (answer == 0 && take(path, NULL, &body) == 0) {
+        body->names++;
+        give_changed(body);
+    }
+    return changed(answer);
 }
 
 /* What asks. */
