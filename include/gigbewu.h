@@ -210,8 +210,9 @@ int gb_try_shrink(struct gb_pass *pass, uint64_t most, uint64_t *emptied);
  *     and then, its call having returned, reads `sleepers` in gb_gate_call. W has counted itself by then.
  * (3) H thus raises `calls` and wakes one sleeper. W read `calls` before, so either `wait` finds another number there
  *     and returns at once, or W sleeps already and is one of those that may be woken.
- * (4) Is another sleeper woken in place of W, it tries; it gets the lock, or is refused by one who has it. Either way
- *     someone who had the lock calls again while W is counted. So while anyone sleeps, someone is yet to call. */
+ * (4) If another sleeper is woken in place of W, it tries: it gets the lock, or is refused by one who has it. Either way
+ *     someone who had the lock calls again while W is counted. So while anyone sleeps, someone is yet to call.
+ * `calls` wraps: a thread that were called 2^32 times between reading it and falling asleep would miss them all. */
 struct gb_gate {
     uint32_t calls;    /* how often a sleeper was called, modulo 2^32 */
     uint32_t sleepers; /* threads that sleep, or are about to */
