@@ -1,0 +1,137 @@
+//! The functions of `gigbewu.h` that are called here.
+
+use std::ffi::c_void;
+use std::os::raw::{c_char, c_int};
+
+#[repr(C)]
+pub struct Pass {
+    pub at: *mut c_void,
+}
+
+#[repr(C)]
+#[derive(Default)]
+pub struct Found {
+    pub number: u64,
+    pub count: u64,
+    pub at: u64,
+    pub kind: u32,
+    pub why: u32,
+}
+
+#[repr(C)]
+#[derive(Default)]
+pub struct Gone {
+    pub number: u64,
+    pub kind: u32,
+    pub last: u32,
+}
+
+type Path = *const c_char;
+
+extern "C" {
+    pub fn gb_cache_new(buckets: u64, inodes: u64, blank: *mut Pass) -> c_int;
+    pub fn gb_pass_split(pass: *mut Pass, blank: *mut Pass) -> c_int;
+    pub fn gb_close(pass: *mut Pass) -> c_int;
+    pub fn gb_look_fast(
+        pass: *mut Pass,
+        base: u64,
+        path: Path,
+        len: usize,
+        follow: u32,
+        found: *mut Found,
+    ) -> c_int;
+    pub fn gb_try_look(
+        pass: *mut Pass,
+        base: u64,
+        path: Path,
+        len: usize,
+        follow: u32,
+        found: *mut Found,
+    ) -> c_int;
+    pub fn gb_try_stat(
+        pass: *mut Pass,
+        base: u64,
+        path: Path,
+        len: usize,
+        found: *mut Found,
+    ) -> c_int;
+    pub fn gb_try_readlink(
+        pass: *mut Pass,
+        base: u64,
+        path: Path,
+        len: usize,
+        text: *mut c_char,
+        room: usize,
+        found: *mut Found,
+    ) -> c_int;
+    pub fn gb_try_list(
+        pass: *mut Pass,
+        base: u64,
+        path: Path,
+        len: usize,
+        names: *mut c_char,
+        room: usize,
+        found: *mut Found,
+    ) -> c_int;
+    pub fn gb_try_mkdir(
+        pass: *mut Pass,
+        base: u64,
+        path: Path,
+        len: usize,
+        found: *mut Found,
+    ) -> c_int;
+    pub fn gb_try_create(
+        pass: *mut Pass,
+        base: u64,
+        path: Path,
+        len: usize,
+        found: *mut Found,
+    ) -> c_int;
+    pub fn gb_try_symlink(
+        pass: *mut Pass,
+        base: u64,
+        text: Path,
+        text_len: usize,
+        path: Path,
+        len: usize,
+        found: *mut Found,
+    ) -> c_int;
+    pub fn gb_try_link(
+        pass: *mut Pass,
+        base: u64,
+        old: Path,
+        old_len: usize,
+        path: Path,
+        len: usize,
+        found: *mut Found,
+    ) -> c_int;
+    pub fn gb_try_unlink(
+        pass: *mut Pass,
+        base: u64,
+        path: Path,
+        len: usize,
+        found: *mut Found,
+        gone: *mut Gone,
+    ) -> c_int;
+    pub fn gb_try_rmdir(
+        pass: *mut Pass,
+        base: u64,
+        path: Path,
+        len: usize,
+        found: *mut Found,
+        gone: *mut Gone,
+    ) -> c_int;
+    pub fn gb_try_rename(
+        pass: *mut Pass,
+        base: u64,
+        old: Path,
+        old_len: usize,
+        path: Path,
+        len: usize,
+        flags: u32,
+        found: *mut Found,
+        gone: *mut Gone,
+    ) -> c_int;
+    pub fn gb_learn(pass: *mut Pass, at: u64, clock: *mut u64) -> c_int;
+    pub fn gb_try_shrink(pass: *mut Pass, most: u64, emptied: *mut u64) -> c_int;
+}

@@ -1,0 +1,80 @@
+/* Four threads look /p/d/f up while a fifth renames. At no moment is there a /p/d/f: the file is made and unlinked while
+ * p is named q. The right answer to each look-up is thus ENOENT. Prints the same whatever the schedule.
+ */
+#include <errno.h>
+#include <gigbewu.h>
+#include <pthread.h>
+#include <stdatomic.h>
+#include <stdio.h>
+#include <stdlib.h>
+#include <string.h>
+
+enum { ROOT = 1, LOOKERS = 4, LOOKS = 250000 };
+
+struct looker {
+    pthread_t thread;
+    struct gb_pass pass;
+    long wrong;
+};
+
+static struct gb_gate gate;
+static atomic_int looking = LOOKERS;
+
+static void must(int answer)
+{
+    if (answer != 0) {
+        printf("an answer was %d\n", answer);
+        exit(1);
+    }
+}
+
+static void *look(void *given)
+{
+    struct looker *looker = given;
+    struct gb_found found;
+    for (int i = 0; i < LOOKS; i++) {
+        int answer = gb_look_fast(&looker->pass, ROOT, "/p/d/f", 6, GB_FOLLOW, &found);
+        if (answer == GB_AGAIN)
+            answer = gb_look(&gate, &looker->pass, ROOT, "/p/d/f", 6, GB_FOLLOW, &found);
+        looker->wrong += answer != ENOENT;
+    }
+    atomic_fetch_sub(&looking, 1);
+    return NULL;
+}
+
+static void rename_to_and_fro(struct gb_pass *pass)
+{
+    struct gb_found found;
+    struct gb_gone gone;
+    must(gb_rename(&gate, pass, ROOT, "/p", 2, "/q", 2, 0, &found, &gone));
+    must(gb_create(&gate, pass, ROOT, "/q/d/f", 6, &found));
+    must(gb_unlink(&gate, pass, ROOT, "/q/d/f", 6, &found, &gone));
+    must(gb_rename(&gate, pass, ROOT, "/q", 2, "/p", 2, 0, &found, &gone));
+}
+
+int main(void)
+{
+    struct gb_pass pass = {0};
+    struct looker lookers[LOOKERS];
+    struct gb_found found;
+    long wrong = 0;
+    gate = gb_gate_new();
+    must(gb_cache_new(1024, 1000, &pass));
+    must(gb_mkdir(&gate, &pass, ROOT, "/p", 2, &found));
+    must(gb_mkdir(&gate, &pass, ROOT, "/p/d", 4, &found));
+    memset(lookers, 0, sizeof lookers);
+    for (int i = 0; i < LOOKERS; i++) {
+        must(gb_pass_split(&pass, &lookers[i].pass));
+        must(pthread_create(&lookers[i].thread, NULL, look, &lookers[i]));
+    }
+    while (atomic_load(&looking) > 0)
+        rename_to_and_fro(&pass);
+    for (int i = 0; i < LOOKERS; i++) {
+        pthread_join(lookers[i].thread, NULL);
+        must(gb_pass_join(&pass, &lookers[i].pass));
+        wrong += lookers[i].wrong;
+    }
+    must(gb_close(&pass));
+    printf("%d look-ups of a path that never was: %ld found it\n", LOOKERS * LOOKS, wrong);
+    return wrong != 0;
+}
