@@ -81,7 +81,7 @@ pub struct Cache {
 }
 
 impl Cache {
-    /// `buckets`, of four rows each, is a power of two up to 1,024; `inodes`, how many may live, 1 to 1,048,576.
+    /// `buckets`, of four rows each, is a power of two up to 1,048,576; `inodes`, how many may live, 1 to 1,048,576.
     pub fn new(buckets: u64, inodes: u64) -> Result<Cache, Error> {
         let mut pass = Pass::blank(Arc::default());
         // SAFETY: the pass is blank, and nobody else's.

@@ -5,7 +5,7 @@ ghost use Rattle.dc_cache.specs.Answers.{Answered, IfFast, Loaded, Made, Told};
 ghost use Rattle.dc_cache.specs.Losses.{Went};
 ghost use Rattle.dc_cache.specs.Passes.{buckets_of, known, view, share, FitsSleepless, Missed};
 ghost use Rattle.dc_events.specs.Rows.{most};
-ghost use Rattle.dc_names.specs.Sizes.{are_right};
+ghost use Rattle.dc_names.specs.Tables.{fit_a_table};
 ghost use Rattle.dc_names.specs.declared.sizes.MakeFault.TheVariants.{BadSize};
 ghost use Rattle.dc_ops.specs.Asked.{IsChange};
 ghost use Rattle.dc_plain.specs.Facts.{told_by};
@@ -31,14 +31,14 @@ use std::alloc::Global;
 
 impl Sleepless {
     /// A cache with four rows in each bucket, over the root directory alone, and its first pass, as
-    /// `Dcache::new`. `BadSize` where buckets are no power of two from 1 to 1,024, or the limit of live
-    /// inodes, the root among them, isn't from 1 to 1,048,576.
+    /// `Dcache::with_buckets`. `BadSize` where buckets are no power of two from 1 to 1,048,576, or the
+    /// limit of live inodes, the root among them, isn't from 1 to 1,048,576.
     pub fn new(alloc: Global, buckets: u64, max_inodes: u64) -> Result<(Sleepless, Pass), MakeFault>
         ensures made { IfOk result (λ r. FitsSleepless r.0 r.1
             × (known r.1 ≡ first_known max_inodes (4 * buckets))) }
-        ensures size { (result ≡ Err BadSize) ↔ (are_right buckets max_inodes ≡ false) }
+        ensures size { (result ≡ Err BadSize) ↔ (fit_a_table buckets max_inodes ≡ false) }
     {
-        let (shared, seat) = Shared::new(alloc, buckets, max_inodes)?;
+        let (shared, seat) = Shared::with_buckets(alloc, buckets, max_inodes)?;
         let room = Room::new();
         Ok((Sleepless { shared }, Pass { seat, room }))
     }
