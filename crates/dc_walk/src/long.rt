@@ -13,6 +13,8 @@ use dc_row::ROW_TEXT;
 const BLOCK_BYTES: usize = 16;
 
 /// Whether a path has a name of more bytes than a row has room for.
+// Inlined (measured): short paths are done after the first test, and a call of it costs longer ones, too.
+#[inline(always)]
 pub(crate) fn has_long_name(path: PathText<'_>) -> bool
     ensures { result ≡ has_long_name path.entry.bytes.now }
 {
