@@ -1,5 +1,5 @@
 -- The numbers that a program in C gives and gets.
-use Rattle.std.specs.Prelude.{ℕ, ℤ, pos, negsuc, min, Option, Some, None, true, false}
+use Rattle.std.specs.Prelude.{ℕ, zero, suc, ℤ, pos, negsuc, min, Option, Some, None, true, false}
 use Rattle.dc_names.specs.declared.kind.Kind.{Kind}
 use Rattle.dc_names.specs.declared.kind.Kind.TheVariants.{Dir, File, Link}
 use Rattle.dc_plain.specs.declared.call.Flags.{Flags}
@@ -43,14 +43,14 @@ why_number causes.Link = 5
 why_number causes.Memory = 1
 
 abbrev pub follow_by : ℕ → Option Follow
-follow_by 0 = Some follows.Yes
-follow_by 1 = Some follows.No
-follow_by 2 = Some follows.Dir
-follow_by _ = None
+follow_by zero = Some follows.Yes
+follow_by (suc zero) = Some follows.No
+follow_by (suc (suc zero)) = Some follows.Dir
+follow_by (suc (suc (suc _))) = None
 
 abbrev pub flags_by : ℕ → Option Flags
-flags_by 0 = Some (record { no_replace = false; exchange = false })
-flags_by 1 = Some (record { no_replace = true; exchange = false })
-flags_by 2 = Some (record { no_replace = false; exchange = true })
-flags_by 3 = Some (record { no_replace = true; exchange = true })
-flags_by _ = None
+flags_by zero = Some (record { no_replace = false; exchange = false })
+flags_by (suc zero) = Some (record { no_replace = true; exchange = false })
+flags_by (suc (suc zero)) = Some (record { no_replace = false; exchange = true })
+flags_by (suc (suc (suc zero))) = Some (record { no_replace = true; exchange = true })
+flags_by (suc (suc (suc (suc _)))) = None

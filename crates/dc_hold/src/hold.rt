@@ -5,7 +5,6 @@ ghost use Rattle.std.specs.Arc.{arc_value};
 ghost use Rattle.dc_cache.specs.Answers.{Answered, IfFast, Made, Told};
 ghost use Rattle.dc_cache.specs.Calls.{look, stat, readlink, list, request_of};
 ghost use Rattle.dc_cache.specs.Passes.{view, FitsSleepless, IsChange};
-ghost use Rattle.dc_hold.specs.Holds.{pass_of};
 
 use dc_cache::{
     Call, ChangeFault, Fast, Follow, Gone, MakeFault, NoMemory, NotYet, Pass, Sleepless, Stamped,
@@ -73,7 +72,7 @@ impl Hold {
     /// Where a path leads, by the rows alone, as `Sleepless::look_text`.
     #[must_use]
     pub fn look_fast(&mut self, base: u64, path: &[u8], follow: Follow) -> Fast
-        ensures answered { IfFast (pass_of self.old) (pass_of self.new) (look base path.now follow) result }
+        ensures answered { IfFast self.old.pass self.new.pass (look base path.now follow) result }
     {
         self.common
             .cache
@@ -90,7 +89,7 @@ impl Hold {
         follow: Follow,
     ) -> Option<Stamped>
         ensures answered { IfSome result
-            (Answered (pass_of self.old) (pass_of self.new) (look base path.now follow)) }
+            (Answered self.old.pass self.new.pass (look base path.now follow)) }
     {
         self.common
             .cache
@@ -100,7 +99,7 @@ impl Hold {
     /// Where a path leads, and how many names or entries that inode has, as `Sleepless::try_stat`.
     #[must_use]
     pub fn try_stat(&mut self, base: u64, path: &[u8]) -> Option<Stamped>
-        ensures answered { IfSome result (Answered (pass_of self.old) (pass_of self.new) (stat base path.now)) }
+        ensures answered { IfSome result (Answered self.old.pass self.new.pass (stat base path.now)) }
     {
         self.common.cache.try_stat(&mut self.pass, base, path)
     }
@@ -113,7 +112,7 @@ impl Hold {
         base: u64,
         path: &[u8],
     ) -> Option<Result<Stamped, NoMemory>>
-        ensures told { IfSome result (Told (pass_of self.old) (pass_of self.new) (readlink base path.now)) }
+        ensures told { IfSome result (Told self.old.pass self.new.pass (readlink base path.now)) }
     {
         self.common
             .cache
@@ -128,7 +127,7 @@ impl Hold {
         base: u64,
         path: &[u8],
     ) -> Option<Result<Stamped, NoMemory>>
-        ensures told { IfSome result (Told (pass_of self.old) (pass_of self.new) (list base path.now)) }
+        ensures told { IfSome result (Told self.old.pass self.new.pass (list base path.now)) }
     {
         self.common
             .cache
@@ -143,7 +142,7 @@ impl Hold {
         call: &Call<'_>,
     ) -> Option<Result<Stamped, ChangeFault>>
         requires change { IsChange call.now }
-        ensures made { IfSome result (Made (pass_of self.old) (pass_of self.new) (request_of call.now)) }
+        ensures made { IfSome result (Made self.old.pass self.new.pass (request_of call.now)) }
     {
         self.common.cache.try_change(alloc, &mut self.pass, call)
     }
@@ -157,7 +156,7 @@ impl Hold {
     ) -> Option<(Result<Stamped, ChangeFault>, Option<Gone>)>
         requires change { IsChange call.now }
         ensures made { IfSome result (λ r.
-            Made (pass_of self.old) (pass_of self.new) (request_of call.now) r.0) }
+            Made self.old.pass self.new.pass (request_of call.now) r.0) }
     {
         self.common
             .cache
@@ -175,7 +174,7 @@ impl Hold {
     /// Sees how many calls have altered the tree. Answers whether these are `at` at least, and how many the
     /// hold has seen.
     pub fn learn(&mut self, at: u64) -> (bool, u64)
-        ensures seen { result.1 ≤ (view (pass_of self.new)).book.seen }
+        ensures seen { result.1 ≤ (view self.new.pass).book.seen }
         ensures come { (result.0 ≡ true) ↔ (at ≤ result.1) }
     {
         // It says how many these are only as it says that they are too few.
