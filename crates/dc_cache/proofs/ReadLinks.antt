@@ -1,7 +1,7 @@
 -- What the reply of a look-up that follows no last link tells of a readlink.
-use Rattle.std.proofs.Common.{◌≡◌, ◌≢◌, ℕ, List, Result, Ok, Err, Option, Some, None, option_map, option_and_then, refl, ap, sym, ◌∙◌, subst}
+use Rattle.std.proofs.Common.{◌≡◌, ◌≢◌, ◌⊎◌, inl, inr, ℕ, List, Result, Ok, Err, Option, Some, None, option_map, option_and_then, refl, ap, sym, ◌∙◌, subst}
 use Rattle.dc_names.specs.declared.kind.Kind.{Kind}
-use Rattle.dc_names.specs.declared.kind.Kind.TheVariants.{Link}
+use Rattle.dc_names.specs.declared.kind.Kind.TheVariants.{Dir, File, Link}
 use Rattle.dc_names.specs.declared.refusal.Refusal.{Refusal}
 use Rattle.dc_names.specs.declared.refusal.Refusal.TheVariants.{Invalid}
 use Rattle.dc_names.specs.Refusals.{refusal_number}
@@ -65,20 +65,33 @@ pub read_refused : WalksLeadToTheLiving → KeepsRunsWellFormed → IsWellFormed
 read_refused living runs opened base text n k apart limit history e = let t = tree_of limit history in
     refused_at t (walk_on t base text follow.No) (λ place found. living t base text follow.No place (runs limit empty_tree history opened) found) n k apart e
 
+pub no_link : (k : Kind) → (k ≡ Dir) ⊎ (k ≡ File) → k ≢ Link
+no_link k (inl dir) e = let no : Dir ≡ Link = sym dir ∙ e in absurd cc
+no_link k (inr file) e = let no : File ≡ Link = sym file ∙ e in absurd cc
+
+-- the same of a reply that is known by its parts
+pub read_invalid : WalksLeadToTheLiving → KeepsRunsWellFormed → IsWellFormed empty_tree → (base : ℕ) (text : List ℕ) (n : ℕ) (k : Kind) → k ≢ Link → (looked : Answer) (number : ℕ) → looked ≡ Found n k → number ≡ refusal_number Invalid
+    → ReadsAs base text looked (Refused number)
+read_invalid living runs opened base text n k apart looked number is told = subst (λ m. ReadsAs base text looked (Refused m)) (sym told) (subst (λ a. ReadsAs base text a (Refused (refusal_number Invalid))) (sym is) (read_refused living runs opened base text n k apart))
+
 pub read_too : (base : ℕ) (text : List ℕ) (looked : Answer) → IsNoPlace looked → ReadsAs base text looked looked
 read_too base text looked nowhere limit history e = let t = tree_of limit history in refused_too t (walk_on t base text follow.No) looked nowhere e
 
 -- what was recorded of the look-up, with what is told by it
-pub reads_fast : (base : ℕ) (text : List ℕ) (buckets : ℕ) (before now : View) (found : Stamped) (told : rust_link.FastLink) → TellsOf base text found told → Keeps base text follow.No buckets before now (fasts.Done found)
+reads_by : (base : ℕ) (text : List ℕ) (buckets : ℕ) (before now : View) (found : Stamped) (told : rust_link.FastLink) → TellsOf base text found told → Keeps base text follow.No buckets before now (fasts.Done found)
     → ReadsFast base text buckets before now told
-reads_fast base text buckets before now found (links.Refused stamped) tells kept = record {
+reads_by base text buckets before now found (links.Refused stamped) tells kept = record {
   looked = answer_of found.reply;
   recorded = subst (λ at. Recorded (look_there base text) (answer_of found.reply) at before now) (sym tells.0) kept;
   reads = tells.1;
 }
-reads_fast base text buckets before now found (links.Link stamped) tells kept = record {
+reads_by base text buckets before now found (links.Link stamped) tells kept = record {
   number = tells.1.0;
   found = ap (λ s. answer_of s.reply) tells.0 ∙ tells.1.1;
   recorded = subst (λ s. Recorded (look_there base text) (answer_of s.reply) s.at before now) (sym tells.0) kept;
 }
-reads_fast base text buckets before now found (links.Again why) tells kept = absurd tells
+reads_by base text buckets before now found (links.Again why) tells kept = absurd tells
+
+pub reads_fast : (base : ℕ) (text : List ℕ) (buckets : ℕ) (before now : View) (found : Stamped) (told : rust_link.FastLink) → ((base : ℕ) (text : List ℕ) → TellsOf base text found told) → Keeps base text follow.No buckets before now (fasts.Done found)
+    → ReadsFast base text buckets before now told
+reads_fast base text buckets before now found told tells kept = reads_by base text buckets before now found told (tells base text) kept

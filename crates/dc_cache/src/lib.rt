@@ -29,12 +29,12 @@
 //! is lent to one call at a time, as `&mut` says. A pass serves the cache that it comes from and no other,
 //! which each contract states as `Fits cache pass`, and each call leaves that true.
 //!
-//! `new` hands out the first pass, and so does `with_buckets`, for a table of more than 4,096 rows. `split`
-//! cuts one for another thread from a pass that is there, and `join` takes it back together with its book.
-//! Each pass has a share of the cache: the first has the whole, `split` halves it, and `join` adds. `close`
-//! ends the cache and gives the tree with the number of changes. It never fails for the pass that has the
-//! whole share; with a lesser one it gives `None` if another pass has the lock, and the tree is lost. A pass
-//! that is dropped takes its share with it.
+//! `new` hands out the first pass, and `with_buckets` that of a larger table. `split` cuts one for
+//! another thread from a pass that is there, and `join` takes it back together with its book. Each pass
+//! has a share of the cache: the first has the whole, `split` halves it, and `join` adds. `close` ends
+//! the cache and gives the tree with the number of changes. It never fails for the pass that has the
+//! whole share; with a lesser one it gives `None` if another pass has the lock, and the tree is lost. A
+//! pass that is dropped takes its share with it.
 //!
 //! # Which calls wait, and which take memory
 //!
@@ -96,12 +96,11 @@
 //! zero byte); `parse`, which `look_fast` wants called first, says the same as `TextFault`.
 //!
 //! Faults are no answers: nothing is recorded. `MakeFault` comes from `new` and `with_buckets` alone.
-//! `ChangeFault::Spent` says that the tree was altered 2^62 times. `Why` is the cause of an `Again`: `Miss`
-//! and `Link` if no row has the name or the link's text, `Busy` and `Changed` if a change came between,
-//! `Long` if a name is longer than a row has room for or more than 256 rows would be used, `Memory` from
-//! `look_counted`.
-//! After `Busy` and `Changed` a second `look_fast` may well answer; after the others only `look`, or a
-//! `try_look`, which fills the rows.
+//! `ChangeFault::Spent` says that the tree was altered 2^62 times. `Why` is the cause of an `Again`:
+//! `Miss` and `Link` if no row has the name or the link's text, `Busy` and `Changed` if a change came
+//! between, `Long` if a name is longer than a row has room for or more than 256 rows would be used,
+//! `Memory` from `look_counted`. After `Busy` and `Changed` a second `look_fast` may well answer; after
+//! the others only `look`, or a `try_look`, which fills the rows.
 #![tactic(auto)]
 
 mod cache;

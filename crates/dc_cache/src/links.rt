@@ -53,13 +53,15 @@ fn told_of(found: Stamped) -> FastLink
     opening_tree_is_well_formed();
     operations_keep_trees_well_formed();
     paths_lead_to_the_living();
-    match found.reply {
-        Reply::Found(_, Kind::Link) => FastLink::Link(found),
-        Reply::Found(_, Kind::Dir | Kind::File) => FastLink::Refused(Stamped {
+    let Reply::Found(_, kind) = found.reply else {
+        // A look-up that finds nothing is refused, and a readlink with it.
+        return FastLink::Refused(found);
+    };
+    match kind {
+        Kind::Link => FastLink::Link(found),
+        Kind::Dir | Kind::File => FastLink::Refused(Stamped {
             reply: Reply::Refused(Refusal::Invalid.number()),
             at: found.at,
         }),
-        // A look-up that finds nothing is refused, and a readlink with it.
-        _ => FastLink::Refused(found),
     }
 }
