@@ -86,7 +86,7 @@ enum {
 
 /* What was found. With answer 0 all of it holds, with a refusal `at` alone; with GB_AGAIN `why` alone; else none. */
 struct gb_found {
-    uint64_t number; /* what the path leads to; of gb_try_mkdir, gb_try_create, gb_try_symlink the new inode */
+    uint64_t number; /* what the path leads to; the inode that a change made, or gb_try_link gave a name; else 0 */
     uint64_t count;  /* gb_try_stat, gb_try_readlink and gb_try_list say of what */
     uint64_t at;     /* how many changes came before the moment of this answer */
     uint32_t kind;   /* GB_DIR, GB_FILE, GB_LINK; of changes 0 */
@@ -170,7 +170,7 @@ int gb_try_create(struct gb_pass *pass, uint64_t base, const char *path, size_t 
 int gb_try_symlink(struct gb_pass *pass, uint64_t base, const char *text, size_t text_len, const char *path, size_t len,
                    struct gb_found *found);
 
-/* Gives a file or symbolic link one more name, of up to 65,000. */
+/* Gives a file or symbolic link, whose number is found, one more name, of up to 65,000. */
 int gb_try_link(struct gb_pass *pass, uint64_t base, const char *old_path, size_t old_len, const char *path, size_t len,
                 struct gb_found *found);
 

@@ -188,8 +188,7 @@ static void make_all(void)
     is_made("mkdir", mkdir(&pass, "/d", 2), 2, 0);
     is_made("create", create(&pass, "/f", 2), 3, 1);
     is_made("symlink", gb_try_symlink(&pass, ROOT, "d/g", 3, "/l", 2, &found), 4, 2);
-    is("link", "f d/g", gb_try_link(&pass, ROOT, "/f", 2, "d/g", 3, &found), 0);
-    is("link", "at", (int64_t)found.at, 3);
+    is_made("link", gb_try_link(&pass, ROOT, "/f", 2, "d/g", 3, &found), 3, 3);
     is("mkdir", "there", mkdir(&pass, "/d", 2), EEXIST);
     is("mkdir", "at of a refusal", (int64_t)found.at, 4);
     is("create", "there", create(&pass, "/l", 2), EEXIST);

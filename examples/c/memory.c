@@ -9,7 +9,7 @@
 #include <stdlib.h>
 #include <string.h>
 
-enum { ROOT = 1, NEVER = -1, MOST = 1000, LOOKS = 100 };
+enum { ROOT = 1, NEVER = -1, MOST = 10000, LOOKS = 100 };
 
 void *__real_malloc(size_t size);
 void *__real_realloc(void *old, size_t size);

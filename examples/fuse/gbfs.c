@@ -182,17 +182,23 @@ static int fs_create(const char *path, mode_t mode, struct fuse_file_info *file)
 
 /* What moves and takes away names. */
 
-/* What follows a change that took a name away. The one that took the last name lets the body end. */
+/* What follows of a change of names for the body, unless it has gone since. The one that took the last name says so, and
+ * lets the body end. */
+static void count_names(struct body *body, int more, bool gone)
+{
+    if (!body)
+        return;
+    pthread_mutex_lock(&body->lock);
+    body->names = gone ? 0 : body->names + (nlink_t)more;
+    body->changed = now();
+    pthread_mutex_unlock(&body->lock);
+    body_let_go(body, gone);
+}
+
 static int took(int answer, const struct gb_gone *gone)
 {
-    struct body *body = answer == 0 && gone->number ? body_of(gone->number) : NULL;
-    if (body) {
-        pthread_mutex_lock(&body->lock);
-        body->names = gone->last ? 0 : body->names - 1;
-        body->changed = now();
-        pthread_mutex_unlock(&body->lock);
-        body_let_go(body, gone->last);
-    }
+    if (answer == 0 && gone->number)
+        count_names(body_of(gone->number), -1, gone->last);
     return changed(answer);
 }
 
@@ -221,17 +227,12 @@ static int fs_rename(const char *old_path, const char *path, unsigned flags)
     return answer == GB_BAD_ARGUMENT ? -EINVAL : took(answer, &gone);
 }
 
-/* The library doesn't tell which inode got the name, so that is looked up. A change in between would miscount names, and
- * no more; the kernel lets none in, as it keeps the directory locked until this is answered. */
 static int fs_link(const char *old_path, const char *path)
 {
     struct gb_found found;
-    struct body *body;
     int answer = gb_link(&gate, pass(), ROOT, old_path, strlen(old_path), path, strlen(path), &found);
-    if (answer == 0 && take(path, NULL, &body) == 0) {
-        body->names++;
-        give_changed(body);
-    }
+    if (answer == 0)
+        count_names(body_of(found.number), 1, false);
     return changed(answer);
 }
 

@@ -67,7 +67,8 @@ pub enum Replace {
     Exchange = 2,
 }
 
-/// A change: the number of what it made, or 0; so many changes came before it; and what it took away.
+/// A change: the number of what it made or linked, else 0; so many changes came before it; and what it
+/// took away.
 #[derive(Clone, Copy, Debug, PartialEq, Eq)]
 pub struct Done {
     pub number: u64,

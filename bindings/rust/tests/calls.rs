@@ -10,7 +10,7 @@ fn each_call() -> Result<(), Error> {
     assert_eq!(pass.mkdir(ROOT, b"/d")?.number, 2);
     assert_eq!(pass.create(2, b"f")?.number, 3);
     assert_eq!(pass.symlink(ROOT, b"d/f", b"/l")?.number, 4);
-    assert_eq!(pass.link(ROOT, b"/d/f", b"/h")?.at, 3);
+    assert_eq!(pass.link(ROOT, b"/d/f", b"/h")?.number, 3);
     assert_eq!(pass.look(ROOT, b"/l", Follow::No)?.kind, Kind::Link);
     assert_eq!(pass.stat(ROOT, b"/l")?.1, 2);
     assert_eq!(pass.readlink(ROOT, b"/l")?, b"d/f");
