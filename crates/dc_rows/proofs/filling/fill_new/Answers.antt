@@ -13,11 +13,11 @@ fill_given-requires-clause-given c = record {
   given = c.in_ok-set.ensures.set;
   unused = c.remove.ensures.unused;
   same_rows = ap (λ l. l.rows) c.remove.ensures.dropped;
-  inside = c.in-Some-choose.ensures.within;
-  open_still = c.in-Some-choose.ensures.safe.2;
+  inside = c.in-Some.ensures.within;
+  open_still = c.in-Some.ensures.safe.2;
 }
 
 pub returns-clause-rows : goal.returns-clause-rows
-returns-clause-rows c = gets_chosen (key_shown c.args.key.now) (rows_held c.args.holder.now c.args.kept.now) record { words = words_of c.args.holder.now.pass.now; slots = c.set.new.self; used = c.remove.new.self } _ c.in-Some-choose.row
-    record { absent = c.requires.absent; chosen = sym c.in-Some-choose.ensures.choice; may = c.in-Some-choose.ensures.safe } c.in-Some-choose.ensures.within
+returns-clause-rows c = gets_chosen (key_shown c.args.key.now) (rows_held c.args.holder.now c.args.kept.now) record { words = words_of c.args.holder.now.pass.now; slots = c.set.new.self; used = c.remove.new.self } _ c.in-Some.row
+    record { absent = c.requires.absent; chosen = sym c.in-Some.ensures.choice; may = c.in-Some.ensures.safe } c.in-Some.ensures.within
     refl c.in_ok-set.ensures.set c.remove.ensures.dropped c.remove.ensures.unused c.fill_given.ensures.rows c.fill_given.ensures.unpinned c.fill_given.result c.fill_given.ensures.filled
