@@ -4,6 +4,8 @@ use Rattle.dc_cache.proofs.ReadLinks.{no_link, read_invalid}
 use Rattle.dc_cache.proofs.links.told_of.Goals as goal
 
 pub returns-in-Dir : goal.returns-in-Dir
-returns-in-Dir c base text =
-    (refl, read_invalid c.paths_lead_to_the_living.ensures.walks c.operations_keep_trees_well_formed.ensures.runs c.opening_tree_is_well_formed.ensures base text _ c.in-Found.kind (no_link c.in-Found.kind c.in-Dir.is) (answer_of c.args.found.reply) c.number.result
-      (ap answer_of c.in-Found.is) c.number.ensures)
+returns-in-Dir c base text = (
+  refl,
+  read_invalid c.paths_lead_to_the_living.ensures.walks c.operations_keep_trees_well_formed.ensures.runs c.opening_tree_is_well_formed.ensures base text _ c.in-Found.kind (no_link c.in-Found.kind c.in-Dir.is) (answer_of c.args.found.reply) c.number.result
+      (ap answer_of c.in-Found.is) c.number.ensures,
+)
