@@ -1,6 +1,6 @@
 //! What the rows tell of a `readlink`.
 
-ghost use Rattle.std.specs.Prelude.{◌≡◌, ◌≤◌, ◌+◌, [], ℕ, List, true, None};
+ghost use Rattle.std.specs.Prelude.{◌≡◌, ◌≤◌, ◌+◌, ℕ, List};
 ghost use Rattle.dc_cache.specs.Links.{ReadsFast, TellsOf};
 ghost use Rattle.dc_cache.specs.Passes.{buckets_of, known, view, share, Fits};
 ghost use Rattle.dc_table.specs.Shares.{HasNotTried};
