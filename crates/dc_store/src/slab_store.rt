@@ -23,8 +23,8 @@ use dc_plain::Spot;
 use std::alloc::Global;
 use std::marker::Model;
 
-/// A store of inodes in a slab. Each directory has an ordered map of its own names, and each inode counts
-/// the entries that lead to it, so that no call scans the tree.
+/// A store of inodes in a slab. Each directory has a map of its own names, found by a hash, and each inode
+/// counts the entries that lead to it, so that no call scans the tree.
 #[derive(Drop)]
 pub struct SlabStore {
     inodes: Inodes,
