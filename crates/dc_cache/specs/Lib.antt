@@ -3,4 +3,3 @@ pub mod Calls
 pub mod Passes
 pub mod Answers
 pub mod Fillings
-pub mod Losses
