@@ -4,4 +4,3 @@ pub mod Passes
 pub mod Answers
 pub mod Fillings
 pub mod Links
-pub mod Losses

@@ -1,9 +1,5 @@
 //! What a change takes away.
 
-ghost use Rattle.std.specs.Prelude.{IfSome};
-ghost use Rattle.dc_cache.specs.Losses.{Goes, IsLast, Loses, Stands};
-ghost use Rattle.dc_plain.specs.Requests.{request_of};
-
 use dc_names::Kind;
 use dc_ops::seek;
 use dc_plain::{Call, Flags, Follow, Reply};
@@ -21,9 +17,7 @@ pub struct Gone {
 }
 
 /// What a path leads to, if anything; a last link is kept.
-fn stands(store: &SlabStore, base: u64, path: &[u8]) -> Option<(u64, Kind)>
-    ensures { IfSome result (λ found. Stands store.now base path.now found.0 found.1) }
-{
+fn stands(store: &SlabStore, base: u64, path: &[u8]) -> Option<(u64, Kind)> {
     let call = Call::Look {
         base,
         path,
@@ -36,9 +30,7 @@ fn stands(store: &SlabStore, base: u64, path: &[u8]) -> Option<(u64, Kind)>
 }
 
 /// What the name that a change takes away leads to, before the change.
-fn taken(store: &SlabStore, call: &Call<'_>) -> Option<(u64, Kind)>
-    ensures { IfSome result (λ found. Loses store.now (request_of call.now) found.0 found.1) }
-{
+fn taken(store: &SlabStore, call: &Call<'_>) -> Option<(u64, Kind)> {
     match *call {
         Call::Unlink { base, path } | Call::Rmdir { base, path } => stands(store, base, path),
         Call::Rename {
@@ -60,9 +52,7 @@ fn taken(store: &SlabStore, call: &Call<'_>) -> Option<(u64, Kind)>
 }
 
 /// Whether an inode has no other name. A directory never has.
-fn is_last(store: &SlabStore, number: u64, kind: Kind) -> bool
-    ensures { IsLast store.now number kind result }
-{
+fn is_last(store: &SlabStore, number: u64, kind: Kind) -> bool {
     match kind {
         Kind::Dir => true,
         Kind::File | Kind::Link => store.count(number) <= 1,
@@ -70,9 +60,7 @@ fn is_last(store: &SlabStore, number: u64, kind: Kind) -> bool
 }
 
 /// What a change would take away, as it stands before the change.
-pub(crate) fn going(store: &SlabStore, call: &Call<'_>) -> Option<Gone>
-    ensures { IfSome result (Goes store.now (request_of call.now)) }
-{
+pub(crate) fn going(store: &SlabStore, call: &Call<'_>) -> Option<Gone> {
     let (number, kind) = taken(store, call)?;
     let last = is_last(store, number, kind);
     Some(Gone { number, kind, last })

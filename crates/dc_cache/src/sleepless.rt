@@ -2,7 +2,6 @@
 
 ghost use Rattle.std.specs.Prelude.{◌≡◌, ◌*◌, ◌+◌, ◌≤◌, ◌↔◌, [], true, false, Err, None, IsOk, IfOk, IfErr, IfSome, IfNone, IsSome};
 ghost use Rattle.dc_cache.specs.Answers.{Answered, IfFast, Loaded, Made, Told};
-ghost use Rattle.dc_cache.specs.Losses.{Went};
 ghost use Rattle.dc_cache.specs.Passes.{buckets_of, known, view, share, FitsSleepless, Missed};
 ghost use Rattle.dc_events.specs.Rows.{most};
 ghost use Rattle.dc_names.specs.Tables.{fit_a_table};
@@ -134,7 +133,10 @@ impl Sleepless {
         ensures answered { IfFast pass.old pass.new (Look base path.now follow) result }
     {
         match parse(path) {
-            Ok(text) => self.look_fast(pass, base, text, follow),
+            Ok(text) => match self.look_fast(pass, base, text, follow) {
+                Fast::Done(found) => Fast::Done(found),
+                Fast::Again(why) => Fast::Again(why),
+            },
             Err(fault) => {
                 let found = tries::refuse(&self.shared, pass, base, path, follow, fault);
                 Fast::Done(found)
@@ -205,8 +207,6 @@ impl Sleepless {
         requires change { IsChange call.now }
         ensures same { FitsSleepless self.now pass.new × (share pass.new ≡ share pass.old) }
         ensures made { IfSome result (λ r. Made pass.old pass.new (request_of call.now) r.0) }
-        ensures gone { IfSome result (λ r. IfSome r.1
-            (Went (share pass.old).limit r.0 (request_of call.now))) }
         ensures within { IfSome result (λ _. (view pass.new).book.seen ≤ most) }
         ensures held { IfNone result (Missed pass.old pass.new) }
     {

@@ -3,7 +3,6 @@
 
 ghost use Rattle.std.specs.Prelude.{◌≡◌, ◌≤◌, Some, IfSome, IfNone};
 ghost use Rattle.dc_cache.specs.Answers.{Answered, Made, Told};
-ghost use Rattle.dc_cache.specs.Losses.{Went};
 ghost use Rattle.dc_cache.specs.Passes.{view, share, FitsTable, Missed};
 ghost use Rattle.dc_events.specs.Rows.{most};
 ghost use Rattle.dc_names.specs.Paths.{fault_of};
@@ -107,25 +106,22 @@ pub(crate) fn try_change_telling(
     requires change { IsChange call.now }
     ensures same { FitsTable shared.now pass.new × (share pass.new ≡ share pass.old) }
     ensures made { IfSome result (λ r. Made pass.old pass.new (request_of call.now) r.0) }
-    ensures gone { IfSome result (λ r. IfSome r.1
-        (Went (share pass.old).limit r.0 (request_of call.now))) }
     ensures within { IfSome result (λ _. (view pass.new).book.seen ≤ most) }
     ensures held { IfNone result (Missed pass.old pass.new) }
 {
     match Guard::try_lock(shared, &mut pass.seat) {
         Ok(guard) => {
             let gone = going(guard.store(), call);
-            let (back, made) = guard.change(alloc, call);
+            let (back, result) = guard.change(alloc, call);
             let _seat = back;
-            let told = match made {
+            Some(match result {
                 Ok((Reply::Refused(number), at)) => {
                     let reply = Reply::Refused(number);
                     (Ok(Stamped { reply, at }), None)
                 }
                 Ok((reply, at)) => (Ok(Stamped { reply, at }), gone),
                 Err(fault) => (Err(fault), None),
-            };
-            Some(told)
+            })
         }
         Err(_seat) => None,
     }
