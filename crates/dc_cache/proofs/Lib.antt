@@ -1,3 +1,2 @@
 pub mod Tellings
 pub mod ReadLinks
-pub mod Walked

@@ -1,11 +1,8 @@
 -- What one who fills rows makes of the guard.
-use Rattle.std.specs.Prelude.{◌≡◌, ℕ, List}
+use Rattle.std.specs.Prelude.{◌≡◌}
 use Rattle.std.proofs.Common.{refl, ap, ◌∙◌}
 use Rattle.dc_plain.specs.Tellers.{Extends}
-use Rattle.dc_plain.specs.Trees.{Tree, told_of}
-use Rattle.dc_plain.specs.declared.call.Follow.{Follow}
-use Rattle.dc_resolve.specs.Ends.{Answers, outcome_shown, walk_by}
-use Rattle.dc_resolve.specs.declared.walked.Walked.{Walked}
+use Rattle.dc_plain.specs.Trees.{told_of}
 use Rattle.dc_ops.specs.Same.{same_tells}
 use Rattle.dc_rows.specs.Guards.{Keeps, seat_of, kept_by}
 use Rattle.dc_table.specs.Changes.{with_words, words_of}
@@ -41,7 +38,3 @@ fills_more f g h a b = record {
 
 pub fills_keep : (f g : Filler) → Fills f g → Extends (told_of (kept_by f.guard).store) (told_of (kept_by g.guard).store)
 fills_keep f g p = same_tells (kept_by f.guard).store (kept_by g.guard).store p.keeps.tree.tree
-
--- where a text leads on the tree, if the walk came to an end
-abbrev pub WalksTo : Tree → ℕ → List ℕ → Follow → Walked → Type 0
-WalksTo t base text how walked = Answers (told_of t) (walk_by base text how) (outcome_shown walked)

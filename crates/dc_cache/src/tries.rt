@@ -13,7 +13,7 @@ ghost use Rattle.dc_table.specs.Changes.{NothingNew};
 
 use crate::cache::Pass;
 use crate::gone::{Gone, going};
-use crate::held::{ask_held, look_held, seek_held};
+use crate::held::{ask_held, fill_held, seek_held};
 use dc_names::{NoMemory, PathText, TextFault};
 use dc_plain::{Call, Follow, Reply, Stamped};
 use dc_rows::{ChangeFault, Guard};
@@ -59,7 +59,13 @@ pub(crate) fn try_fill(
 {
     match Guard::try_lock(shared, &mut pass.seat) {
         Ok(guard) => {
-            let (back, found) = look_held(guard, alloc, base, path, follow);
+            let filled = fill_held(guard, alloc, base, path, follow);
+            let call = Call::Look {
+                base,
+                path: path.bytes(),
+                follow,
+            };
+            let (back, found) = seek_held(filled, &call);
             // For the proof, here and below: the seat is back as it is bound.
             let _seat = back;
             Some(found)
