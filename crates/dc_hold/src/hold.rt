@@ -5,6 +5,7 @@ ghost use Rattle.std.specs.Arc.{arc_value};
 ghost use Rattle.dc_cache.specs.Answers.{Answered, IfFast, Made, Told};
 ghost use Rattle.dc_cache.specs.Calls.{look, stat, readlink, list, request_of};
 ghost use Rattle.dc_cache.specs.Passes.{view, FitsSleepless, IsChange};
+ghost use Rattle.dc_hold.specs.Fitting.{fits_prop};
 
 use dc_cache::{
     Call, ChangeFault, Fast, Follow, Gone, MakeFault, NoMemory, NotYet, Pass, Sleepless, Stamped,
@@ -27,7 +28,7 @@ struct Common {
 pub struct Hold {
     common: Arc<Common, Global>,
     pass: Pass,
-    ghost fits: { FitsSleepless (arc_value common).cache pass },
+    ghost fits: { FitsSleepless (arc_value common).cache pass } by { fits_prop (arc_value common).cache pass },
 }
 
 // A hold may go to another thread: this is refused where its type is not `Send`.
