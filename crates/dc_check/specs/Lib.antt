@@ -6,3 +6,4 @@ pub mod Phases
 pub mod Reaches
 pub mod Verdicts
 pub mod Records
+pub mod Due

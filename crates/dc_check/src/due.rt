@@ -1,13 +1,10 @@
 //! What the tree gives a call at its point.
 
-ghost use Rattle.std.specs.Prelude.{◌≡◌, ◌≤◌, IfOk, IfSome};
-ghost use Rattle.dc_plain.specs.OwnCalls.{own_request};
-ghost use Rattle.dc_plain.specs.Requests.{answer_of};
-ghost use Rattle.dc_plain.specs.Runs.{reply_of};
+ghost use Rattle.std.specs.Prelude.{◌≤◌, IfOk, IfSome};
 ghost use Rattle.dc_names.specs.declared.limits.TheConstants.{MOST_INODES};
 ghost use Rattle.dc_check.specs.Stamps.{stamps_of};
 ghost use Rattle.dc_check.specs.Judges.{all_numbered};
-ghost use Rattle.dc_check.specs.Phases.{tree_at};
+ghost use Rattle.dc_check.specs.Due.{IsDue};
 
 use crate::fault::Fault;
 use crate::judge::Judge;
@@ -17,7 +14,7 @@ use dc_names::NoMemory;
 use dc_plain::Reply;
 use std::alloc::Global;
 
-/// The same of stamps that stand by their points.
+/// What the tree gives a call at its point, by stamps that stand by theirs.
 fn due_among(
     alloc: Global,
     max_inodes: u64,
@@ -26,8 +23,8 @@ fn due_among(
 ) -> Result<Option<Reply>, NoMemory>
     requires least { 1 ≤ max_inodes }
     requires most { max_inodes ≤ MOST_INODES }
-    ensures { IfOk result (λ due. IfSome due (λ reply. answer_of reply ≡ reply_of max_inodes
-        (tree_at max_inodes (all_numbered sorted.now) stamp.now.at) (own_request stamp.now.call))) }
+    ensures { IfOk result (λ due. IfSome due
+        (IsDue max_inodes (all_numbered sorted.now) stamp.now)) }
 {
     let mut judge = Judge::new(alloc, max_inodes)?;
     for numbered in sorted {
@@ -57,9 +54,7 @@ pub fn reply_due(
 ) -> Result<Option<Reply>, NoMemory>
     requires least { 1 ≤ max_inodes }
     requires most { max_inodes ≤ MOST_INODES }
-    // The operation's reply on that tree.
-    ensures { IfOk result (λ due. IfSome due (λ reply. answer_of reply ≡ reply_of max_inodes
-        (tree_at max_inodes (stamps_of stamps.now) stamp.now.at) (own_request stamp.now.call))) }
+    ensures { IfOk result (λ due. IfSome due (IsDue max_inodes (stamps_of stamps.now) stamp.now)) }
 {
     let sorted = by_point(alloc, stamps, &[])?;
     due_among(alloc, max_inodes, &sorted, stamp)
