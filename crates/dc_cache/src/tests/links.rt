@@ -1,34 +1,55 @@
 //! What the rows tell of a `readlink`, beside the reply that it has.
 
+ghost use Rattle.dc_cache.specs.Passes.{Fits};
+
 use super::{create, is, mkdir, symlink};
-use crate::{Dcache, FastLink, Follow, Reply, Why};
+use crate::{Dcache, FastLink, Follow, Pass, Reply, Why};
 use dc_names::{Kind, parse};
+use std::alloc::Global;
+use std::sync::Wait;
 use std::test::Fail;
+
+/// Whether the rows, once they are filled, and the tree refuse a `readlink` so, after three changes.
+fn is_refused<R: Wait>(
+    rt: &R,
+    alloc: Global,
+    cache: &Dcache,
+    pass: &mut Pass,
+    text: &[u8],
+    number: u64,
+) -> bool
+    requires { Fits cache.now pass.old }
+    ensures { Fits cache.now pass.new }
+{
+    cache.look(rt, alloc, pass, 1, text, Follow::No);
+    let Ok(path) = parse(text) else {
+        return false;
+    };
+    let FastLink::Refused(told) = cache.readlink_fast(pass, 1, path) else {
+        return false;
+    };
+    let Ok(read) = cache.readlink(rt, alloc, pass, 1, text) else {
+        return false;
+    };
+    let refused = Reply::Refused(number);
+    is(&told, &refused, 3) && is(&read, &refused, 3)
+}
 
 #[test]
 fn rows_tell_what_is_no_link(rt: HostRuntime) -> Result<(), Fail> {
     let (cache, mut p) = Dcache::new(rt.alloc(), 16, 16).expect(&rt, "memory");
-    for call in [mkdir(b"/d"), create(b"/d/f"), symlink(b"d", b"/s")] {
-        assert!(rt; cache.change(&rt, rt.alloc(), &mut p, &call).is_ok());
-    }
-    let refused = [
-        (b"/".as_slice(), 22),
-        (b"/d", 22),
-        (b"/s/f", 22),
-        (b"/s/", 22),
-        (b"/x", 2),
-        (b"/d/f/", 20),
-    ];
-    for (text, number) in refused {
-        cache.look(&rt, rt.alloc(), &mut p, 1, text, Follow::No);
-        let told = cache.readlink_fast(&mut p, 1, parse(text)?);
-        let FastLink::Refused(told) = told else {
-            return Err("not refused".into());
-        };
-        assert!(rt; is(&told, &Reply::Refused(number), 3));
-        let read = cache.readlink(&rt, rt.alloc(), &mut p, 1, text);
-        assert!(rt; is(&read.expect(&rt, "memory"), &told.reply, 3));
-    }
+    let made = cache.change(&rt, rt.alloc(), &mut p, &mkdir(b"/d"));
+    assert!(rt; made.is_ok());
+    let made = cache.change(&rt, rt.alloc(), &mut p, &create(b"/d/f"));
+    assert!(rt; made.is_ok());
+    let made = cache.change(&rt, rt.alloc(), &mut p, &symlink(b"d", b"/s"));
+    assert!(rt; made.is_ok());
+    assert!(rt; is_refused(&rt, rt.alloc(), &cache, &mut p, b"/", 22));
+    assert!(rt; is_refused(&rt, rt.alloc(), &cache, &mut p, b"/d", 22));
+    assert!(rt; is_refused(&rt, rt.alloc(), &cache, &mut p, b"/s/f", 22));
+    assert!(rt; is_refused(&rt, rt.alloc(), &cache, &mut p, b"/s/", 22));
+    assert!(rt; is_refused(&rt, rt.alloc(), &cache, &mut p, b"/x", 2));
+    assert!(rt; is_refused(&rt, rt.alloc(), &cache, &mut p, b"/d/f/", 20));
     Ok(())
 }
 
