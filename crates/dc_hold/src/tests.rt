@@ -146,7 +146,7 @@ fn texts_and_names_are_written(rt: HostRuntime) -> Result<(), Fail> {
     assert!(rt; told_read(&tried).status == Status::Done);
     let listed = tried.expect(&rt, "the lock is free").expect(&rt, "memory");
     let mut room = [9u8; 5];
-    if let Reply::Names(names) = listed.reply {
+    if let Reply::Names(names) = &listed.reply {
         assert!(rt; put_names(&mut room, names.as_slice()) == 6);
     }
     assert!(rt; room == [97, 98, 0, 9, 9]);
