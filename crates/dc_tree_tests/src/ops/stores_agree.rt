@@ -1,5 +1,8 @@
 //! Both stores and the slow machine answer a long list of calls alike.
-use super::{answered, create, exchange, link, look, mkdir, rename, rmdir, symlink, unlink};
+use super::answered;
+use crate::calls::{
+    create, exchange, link, list, look, mkdir, readlink, rename, rmdir, stat, symlink, unlink,
+};
 use dc_names::NoMemory;
 use dc_plain::{Call, PlainTree, Reply};
 use dc_store::{MapStore, SlabStore, Store};
@@ -34,9 +37,9 @@ fn call_of(number: u32) -> Call<'static> {
         5 => rmdir(path),
         6 | 13 => rename(other, path),
         7 => look(path),
-        8 => Call::Stat { base: 1, path },
-        9 => Call::Readlink { base: 1, path },
-        _ => Call::List { base: 1, path },
+        8 => stat(path),
+        9 => readlink(path),
+        _ => list(path),
     }
 }
 

@@ -4,7 +4,7 @@ ghost use Rattle.std.specs.Prelude.{◌≡◌, IfOk, map};
 ghost use Rattle.dc_names.specs.Names.{part_shown};
 ghost use Rattle.dc_names.specs.Paths.{parts_of};
 
-use crate::{
+use dc_names::{
     Last, Name, Part, PathText, Refusal, TextFault, first_part_hashed, hash, no_piece_is_longer,
     pack, parse, parts_are_names_or_dots, unpack,
 };

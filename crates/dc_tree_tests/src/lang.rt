@@ -1,6 +1,6 @@
 //! Lines, inputs and outputs, read and written.
 
-use crate::{
+use dc_lang::{
     Command, InputFault, Line, LineFault, SESSIONS, Verb, base_after, call,
     each_line_has_one_meaning, read_line, read_lines, read_replies, read_reply, serving_order,
     write_command, write_line, write_reply,

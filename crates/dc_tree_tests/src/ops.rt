@@ -3,20 +3,18 @@
 ghost use Rattle.std.specs.Prelude.{IfOk};
 ghost use Rattle.dc_ops.specs.Plans.{CanCarry};
 
-use crate::{Plan, ask, carry, plan, seek};
+use crate::calls::{
+    create, exchange, link, list, look, mkdir, readlink, rename, rmdir, stat, symlink, unlink,
+};
 use dc_names::{Kind, NoMemory};
-use dc_plain::{Call, Flags, Follow, Key, Label, Reply, Sort};
+use dc_ops::{Plan, ask, carry, plan, seek};
+use dc_plain::{Call, Key, Label, Reply, Sort};
 use dc_store::{SlabStore, Store};
 use std::alloc::Global;
 use std::test::Fail;
 
 mod flags;
 mod stores_agree;
-
-const EXCHANGE: Flags = Flags {
-    no_replace: false,
-    exchange: true,
-};
 
 /// The plan of a change on a store of at most 16 inodes. A read has none.
 fn planned<'a, S: Store>(store: &S, call: &Call<'a>) -> Result<Plan<'a>, Reply>
@@ -40,59 +38,6 @@ fn answered<S: Store>(alloc: Global, store: &mut S, call: &Call) -> Result<Reply
     }
 }
 
-fn look(path: &[u8]) -> Call<'_> {
-    Call::Look {
-        base: 1,
-        path,
-        follow: Follow::Yes,
-    }
-}
-
-fn mkdir(path: &[u8]) -> Call<'_> {
-    Call::Mkdir { base: 1, path }
-}
-
-fn create(path: &[u8]) -> Call<'_> {
-    Call::Create { base: 1, path }
-}
-
-fn link<'a>(old: &'a [u8], new: &'a [u8]) -> Call<'a> {
-    Call::Link { base: 1, old, new }
-}
-
-fn symlink<'a>(text: &'a [u8], path: &'a [u8]) -> Call<'a> {
-    Call::Symlink {
-        base: 1,
-        text,
-        path,
-    }
-}
-
-fn unlink(path: &[u8]) -> Call<'_> {
-    Call::Unlink { base: 1, path }
-}
-
-fn rmdir(path: &[u8]) -> Call<'_> {
-    Call::Rmdir { base: 1, path }
-}
-
-fn rename<'a>(old: &'a [u8], new: &'a [u8]) -> Call<'a> {
-    rename_with(Flags::default(), old, new)
-}
-
-fn rename_with<'a>(flags: Flags, old: &'a [u8], new: &'a [u8]) -> Call<'a> {
-    Call::Rename {
-        base: 1,
-        old,
-        new,
-        flags,
-    }
-}
-
-fn exchange<'a>(old: &'a [u8], new: &'a [u8]) -> Call<'a> {
-    rename_with(EXCHANGE, old, new)
-}
-
 #[test]
 fn changes_and_look_ups(rt: HostRuntime) -> Result<(), Fail> {
     let mut store = SlabStore::new(rt.alloc())?;
@@ -106,13 +51,7 @@ fn changes_and_look_ups(rt: HostRuntime) -> Result<(), Fail> {
         (symlink(b"a/b", b"/l"), Reply::Done(5)),
         (symlink(b"", b"/m"), Reply::Refused(2)),
         (look(b"/l/.."), Reply::Found(2, Kind::Dir)),
-        (
-            Call::Stat {
-                base: 1,
-                path: b"/f",
-            },
-            Reply::Stat(4, Kind::File, 2),
-        ),
+        (stat(b"/f"), Reply::Stat(4, Kind::File, 2)),
         (rename(b"/f", b"/a/g"), Reply::Unit),
         (rename(b"/a", b"/a/b/c"), Reply::Refused(22)),
         (rename(b"/a/b", b"/c"), Reply::Unit),
@@ -133,19 +72,11 @@ fn texts_and_names(rt: HostRuntime) -> Result<(), Fail> {
     for call in [symlink(b"./d", b"/s"), mkdir(b"/d"), create(b"/a")] {
         answered(rt.alloc(), &mut store, &call)?;
     }
-    let text = Call::Readlink {
-        base: 1,
-        path: b"/s",
-    };
-    let Reply::Text(bytes) = answered(rt.alloc(), &mut store, &text)? else {
+    let Reply::Text(bytes) = answered(rt.alloc(), &mut store, &readlink(b"/s"))? else {
         panic!(rt; "no text");
     };
     assert!(rt; bytes.as_slice() == b"./d".as_slice());
-    let names = Call::List {
-        base: 1,
-        path: b"/",
-    };
-    let Reply::Names(names) = answered(rt.alloc(), &mut store, &names)? else {
+    let Reply::Names(names) = answered(rt.alloc(), &mut store, &list(b"/"))? else {
         panic!(rt; "no names");
     };
     assert_eq!(rt; names.len(), 3);

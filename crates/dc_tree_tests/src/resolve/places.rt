@@ -1,9 +1,9 @@
 //! Where the last part of a path stands, over fixed answers.
 
 use super::{Asked, PARENTS, ROWS, TEXTS, new_fixed};
-use crate::{Placed, place};
 use dc_names::{Last, Name, Refusal, parse};
 use dc_plain::Where;
+use dc_resolve::{Placed, place};
 use std::test::Fail;
 
 fn named(name: &[u8]) -> Last<'_> {

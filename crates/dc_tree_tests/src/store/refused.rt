@@ -1,7 +1,7 @@
 //! After a refused allocation every inode is as it was: `rt try --test --fail-alloc N` refuses the Nth.
 use super::{Step, answers};
-use crate::{MapStore, New, SlabStore, Store};
 use dc_names::{NoMemory, parse};
+use dc_store::{MapStore, New, SlabStore, Store};
 use std::alloc::Global;
 use std::test::Fail;
 

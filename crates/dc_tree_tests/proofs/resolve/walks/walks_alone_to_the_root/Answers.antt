@@ -4,7 +4,7 @@ use Rattle.dc_plain.specs.declared.call.Follow.TheVariants as follow
 use Rattle.dc_plain.specs.Facts.{told_by}
 use Rattle.dc_plain.specs.Places.{walk}
 use Rattle.dc_plain.specs.Resolution.{resolve}
-use Rattle.dc_resolve.proofs.tests.walks.walks_alone_to_the_root.Goals as goal
+use Rattle.dc_tree_tests.proofs.resolve.walks.walks_alone_to_the_root.Goals as goal
 
 needs_no_fact : IsSome (walk (told_by []) 4 (path_in (47 ∷ 46 ∷ 46 ∷ 47 ∷ 46 ∷ [])) follow.Dir)
 unfolding resolve

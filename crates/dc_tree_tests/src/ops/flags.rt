@@ -1,15 +1,13 @@
 //! Renames that may not replace, and exchanges: replies by the rules, worked out by hand.
-use super::{EXCHANGE, answered, create, exchange, link, look, mkdir, rename_with, symlink};
+use super::answered;
+use crate::calls::{
+    EXCHANGE, NO_REPLACE, create, exchange, kept, link, look, mkdir, rename_with, symlink,
+};
 use dc_names::{Kind, NoMemory};
-use dc_plain::{Call, Flags, Follow, Reply};
+use dc_plain::{Call, Flags, Reply};
 use dc_store::{MapStore, SlabStore, Store};
 use std::alloc::Global;
 use std::test::Fail;
-
-const NO_REPLACE: Flags = Flags {
-    no_replace: true,
-    exchange: false,
-};
 
 const BOTH: Flags = Flags {
     no_replace: true,
@@ -27,15 +25,6 @@ fn dir(number: u64) -> Reply {
 
 fn file(number: u64) -> Reply {
     Reply::Found(number, Kind::File)
-}
-
-/// What a path leads to, its last link kept.
-fn kept(path: &[u8]) -> Call<'_> {
-    Call::Look {
-        base: 1,
-        path,
-        follow: Follow::No,
-    }
 }
 
 /// The first call, counted from 0, that has another reply, or as many as there are.

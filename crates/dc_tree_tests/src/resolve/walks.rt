@@ -1,9 +1,9 @@
 //! Where paths lead, over fixed answers.
 
 use super::{Asked, PARENTS, ROWS, TEXTS, new_fixed};
-use crate::{Walked, walk, walk_alone};
 use dc_names::{Kind, Refusal, TextFault, parse};
 use dc_plain::Follow;
+use dc_resolve::{Walked, walk, walk_alone};
 use std::test::Fail;
 
 fn walked(base: u64, path: &[u8], follow: Follow) -> Result<Walked, TextFault> {

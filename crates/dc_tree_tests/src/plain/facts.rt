@@ -1,20 +1,13 @@
 //! Facts of a tree, what touches them, and what follows from them.
 
-use crate::{
-    Call, Fact, Follow, Label, OwnCall, PlainTree, Reply, answer,
-    answers_from_true_facts_are_replies, untouched_facts_stay,
-};
+use crate::calls::{look, mkdir, stat, symlink, unlink};
 use dc_names::{Kind, Name, parse};
+use dc_plain::{
+    Fact, Label, OwnCall, PlainTree, Reply, answer, answers_from_true_facts_are_replies,
+    untouched_facts_stay,
+};
 use std::alloc::Global;
 use std::test::Fail;
-
-fn look<'a>(path: &'a [u8]) -> Call<'a> {
-    Call::Look {
-        base: 1,
-        path,
-        follow: Follow::Yes,
-    }
-}
 
 fn named<'a>(
     directory: u64,
@@ -28,21 +21,8 @@ fn named<'a>(
 /// `/a`, and `/l`, a link to it.
 fn small_tree(alloc: Global) -> Result<PlainTree, Fail> {
     let mut tree = PlainTree::new(alloc, 16)?;
-    tree.apply(
-        alloc,
-        &Call::Mkdir {
-            base: 1,
-            path: b"/a",
-        },
-    )?;
-    tree.apply(
-        alloc,
-        &Call::Symlink {
-            base: 1,
-            text: b"a",
-            path: b"/l",
-        },
-    )?;
+    tree.apply(alloc, &mkdir(b"/a"))?;
+    tree.apply(alloc, &symlink(b"a", b"/l"))?;
     Ok(tree)
 }
 
@@ -65,10 +45,7 @@ fn touches_what_alters(rt: HostRuntime) -> Result<(), Fail> {
     let alloc = rt.alloc();
     let tree = small_tree(alloc)?;
     let text = parse(b"a").ok().ok_or("no path")?;
-    let unlink = Call::Unlink {
-        base: 1,
-        path: b"/l",
-    };
+    let unlink = unlink(b"/l");
     assert!(rt; tree.touches(alloc, &unlink, &named(1, b"l", None)?)?);
     assert!(rt; tree.touches(alloc, &unlink, &Fact::Text(3, text))?);
     assert!(rt; !tree.touches(alloc, &unlink, &named(1, b"a", None)?)?);
@@ -89,11 +66,7 @@ fn answers_by_facts(rt: HostRuntime) -> Result<(), Fail> {
     assert_eq!(rt; answer(alloc, &facts, &look(b"/l"))?, Some(found));
     assert_eq!(rt; answer(alloc, &facts, &look(b"/l/x"))?, None);
     assert_eq!(rt; answer(alloc, &facts, &look(b""))?, Some(Reply::Refused(2)));
-    let stat = Call::Stat {
-        base: 1,
-        path: b"/a",
-    };
-    assert_eq!(rt; answer(alloc, &facts, &stat)?, None);
+    assert_eq!(rt; answer(alloc, &facts, &stat(b"/a"))?, None);
     answers_from_true_facts_are_replies();
     Ok(())
 }

@@ -3,14 +3,14 @@
 ghost use Rattle.std.specs.Prelude.{◌≡◌, option_map, refl};
 ghost use Rattle.std.proofs.Common.{sym, subst, ◌∙◌};
 ghost use Rattle.dc_plain.specs.Tellers.{Extends};
-ghost use Rattle.dc_resolve.specs.Tables.{target_in, parent_in, text_in, said_by};
+ghost use Rattle.dc_tree_tests.specs.Tables.{target_in, parent_in, text_in, said_by};
 
 mod places;
 mod walks;
 
-use crate::{Finder, Stop};
 use arrayvec::ArrayVec;
 use dc_names::{Kind, Part, parse};
+use dc_resolve::{Finder, Stop};
 
 /// A name in a directory, and where it leads.
 type Row<'a> = (u64, &'a [u8], (u64, Kind));

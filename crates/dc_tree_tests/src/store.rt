@@ -7,9 +7,9 @@ ghost use Rattle.dc_plain.specs.Conditions.{CanBeNamed, is_full_directory};
 ghost use Rattle.dc_store.specs.Added.{CanAdd};
 ghost use Rattle.dc_plain.specs.Spots.{spot_at};
 
-use crate::{MapStore, New, SlabStore, Store};
 use dc_names::{Kind, Name, NoMemory, parse};
 use dc_plain::{MOST_NAMES, NUMBER_LIMIT, Spot};
+use dc_store::{MapStore, New, SlabStore, Store};
 use std::alloc::Global;
 use std::test::Fail;
 
