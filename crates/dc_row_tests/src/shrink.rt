@@ -16,6 +16,7 @@ use std::test::*;
 pub(crate) fn new_again(alloc: Global, rows: u64) -> Result<Shrinker, NoMemory>
     requires { 0 < rows }
     ensures new { IfOk result (λ s. s ≡ listing rows [] map.empty) }
+    ensures rows { IfOk result (λ s. s.rows ≡ rows) }
     ensures unused { IfOk result UsesNone }
 {
     match Shrinker::new(alloc, rows) {
@@ -29,6 +30,7 @@ pub(crate) fn add_again(rows: &mut Shrinker, row: u64) -> Result<(), NoMemory>
     requires unused { IsTrue (not (is_used rows.old row)) }
     ensures first { OnOk result (rows.new ≡ added rows.old row) }
     ensures used { OnOk result (SetsUse row true rows.old rows.new) }
+    ensures rows { OnOk result (rows.new.rows ≡ rows.old.rows) }
 {
     let victims = (rows.victim(), rows.victim_of(row / 4));
     match rows.add(row) {
@@ -46,6 +48,7 @@ pub(crate) fn pin_again(rows: &mut Shrinker, row: u64) -> Result<(), PinFault>
     requires { IsTrue (is_used rows.old row) }
     ensures pinned { OnOk result (rows.new ≡ pinned_once rows.old row) }
     ensures same_use { KeepsUse rows.old rows.new }
+    ensures rows { OnOk result (rows.new.rows ≡ rows.old.rows) }
 {
     let (pins, victim) = (rows.pins(row), rows.victim());
     match rows.pin(row) {
