@@ -19,7 +19,7 @@
 
 enum { BUCKETS = 1024, BUCKET_ROWS = 4, ROW = 8, NAME_WORDS = 4, MOST_NOTES = 256, ENTRY = 1, ROOT = 1 };
 enum { NONE, DIRECTORY, PLAIN_FILE };
-enum { HEADS = 1 << 17, WALKS = 8, SPINS = 200 };
+enum { HEADS = 1 << 17, WALKS = 8, TRIES = 20, MOST_DOUBLINGS = 9 };
 
 /* What a walk by rows finds: what the path leads to or that it leads nowhere, that a name has no row, or that a row
  * was changed meanwhile. */
@@ -147,14 +147,16 @@ static enum answer walk(const char *path, size_t length)
     return told.kind != NONE && at == length ? FOUND : ABSENT;
 }
 
-/* Takes the lock. It tries some times after looks at the word, so that who waits briefly doesn't sleep. */
+/* Takes the lock. Who finds it taken looks again after pauses that double, so that its holder has the word to itself,
+ * and sleeps in the end. */
 static void take(void)
 {
-    for (int i = 0; i < SPINS; i++) {
+    for (int i = 0; i < TRIES; i++) {
         uint64_t is_free = 0;
         if (!words[1] && atomic_compare_exchange_strong(&words[1], &is_free, 1))
             return;
-        __builtin_ia32_pause();
+        for (int j = 0; j < 1 << (i < MOST_DOUBLINGS ? i : MOST_DOUBLINGS); j++)
+            __builtin_ia32_pause();
     }
     while (atomic_exchange(&words[1], 2))
         syscall(SYS_futex, &words[1], FUTEX_WAIT_PRIVATE, 2, NULL, NULL, 0);

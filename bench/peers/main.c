@@ -2,10 +2,10 @@
  *
  * usage: PEER read|absent|mixed|churn|change THREADS MILLISECONDS TREE
  *
- * TREE has the lines that `dcbench tree` writes. Each path that is asked is looked up once. Then each thread looks 64 of
- * them up in a turn, in a random order, until the time is over. With `mixed` it renames a file of its own to and fro
- * after each 19 of them, with `churn` it makes, renames and unlinks one after each, and with `change` it looks none up,
- * but makes and unlinks a file in the root. It prints a line of JSON with the same words as dcbench.
+ * TREE has the lines that `dcbench tree` writes. Each path that is asked is looked up once. Then each thread looks 64
+ * of them up in a turn, in a random order, until the time is over. With `mixed` it renames a file of its own to and
+ * fro after each 19 of them, with `churn` it makes, renames and unlinks one after each, and with `change` it looks none
+ * up, but makes and unlinks a file in the root. It prints a line of JSON with the same words as dcbench.
  */
 #define _GNU_SOURCE
 #include "peer.h"
@@ -199,6 +199,21 @@ static void *work(void *argument)
     return NULL;
 }
 
+/* Runs the threads until the time is over. */
+static void run(struct worker *workers)
+{
+    pthread_barrier_init(&gate, NULL, (unsigned)thread_count);
+    for (size_t i = 0; i < thread_count; i++) {
+        workers[i].number = i;
+        own(&workers[i]);
+        workers[i].turns = malloc(MOST_TURNS * sizeof *workers[i].turns);
+        if (!workers[i].turns || pthread_create(&workers[i].thread, NULL, work, &workers[i]))
+            give_up("no thread");
+    }
+    for (size_t i = 0; i < thread_count; i++)
+        pthread_join(workers[i].thread, NULL);
+}
+
 static int compare(const void *a, const void *b)
 {
     uint64_t x = *(const uint64_t *)a, y = *(const uint64_t *)b;
@@ -253,16 +268,7 @@ int main(int count, char **words)
     if (kind != CHANGE)
         make_order();
     peer_leave();
-    pthread_barrier_init(&gate, NULL, (unsigned)thread_count);
-    for (size_t i = 0; i < thread_count; i++) {
-        workers[i].number = i;
-        own(&workers[i]);
-        workers[i].turns = malloc(MOST_TURNS * sizeof *workers[i].turns);
-        if (!workers[i].turns || pthread_create(&workers[i].thread, NULL, work, &workers[i]))
-            give_up("no thread");
-    }
-    for (size_t i = 0; i < thread_count; i++)
-        pthread_join(workers[i].thread, NULL);
+    run(workers);
     tell(workers);
     peer_end();
     return 0;

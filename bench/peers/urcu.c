@@ -1,7 +1,7 @@
 /* The lock-free hash table of liburcu: a map of names to what they lead to, and no lock.
  *
- * A look-up takes one name after the other in one read-side section. Each step is right when it is made; of the path as a
- * whole nothing is promised. A rename adds the new name before it removes the old one, and readers can see both. */
+ * A look-up takes one name after the other in one read-side section. Each step is right when it is made; of the path as
+ * a whole nothing is promised. A rename adds the new name before it removes the old one, and readers can see both. */
 #define _LGPL_SOURCE
 #define URCU_INLINE_SMALL_FUNCTIONS
 #include "hash.h"
