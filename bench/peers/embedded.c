@@ -13,7 +13,6 @@ enum { ROOT = 1, BUCKETS = 1024, INODES = 1048576 };
 static struct gb_gate gate;
 static struct gb_pass first;
 static pthread_mutex_t splitting = PTHREAD_MUTEX_INITIALIZER;
-/* Ended by nobody: the program ends soon after its threads. */
 static _Thread_local struct gb_pass own;
 
 static void must(int answer)
@@ -24,58 +23,56 @@ static void must(int answer)
     }
 }
 
-static struct gb_pass *pass(void)
-{
-    if (!own.at) {
-        pthread_mutex_lock(&splitting);
-        must(gb_pass_split(&first, &own));
-        pthread_mutex_unlock(&splitting);
-    }
-    return &own;
-}
-
 void peer_begin(void)
 {
     gate = gb_gate_new();
     must(gb_cache_new(BUCKETS, INODES, &first));
 }
 
+void peer_enter(void)
+{
+    pthread_mutex_lock(&splitting);
+    must(gb_pass_split(&first, &own));
+    pthread_mutex_unlock(&splitting);
+}
+
+void peer_leave(void)
+{
+    must(gb_close(&own));
+}
+
 int peer_make(char kind, const char *path)
 {
     struct gb_found found;
     if (kind == 'd')
-        return gb_mkdir(&gate, pass(), ROOT, path, strlen(path), &found) == 0;
-    return gb_create(&gate, pass(), ROOT, path, strlen(path), &found) == 0;
+        return gb_mkdir(&gate, &own, ROOT, path, strlen(path), &found) == 0;
+    return gb_create(&gate, &own, ROOT, path, strlen(path), &found) == 0;
 }
 
 int peer_rename(const char *old, const char *new)
 {
     struct gb_found found;
     struct gb_gone gone;
-    return gb_rename(&gate, pass(), ROOT, old, strlen(old), new, strlen(new), 0, &found, &gone) == 0;
+    return gb_rename(&gate, &own, ROOT, old, strlen(old), new, strlen(new), 0, &found, &gone) == 0;
 }
 
 int peer_unlink(const char *path)
 {
     struct gb_found found;
     struct gb_gone gone;
-    return gb_unlink(&gate, pass(), ROOT, path, strlen(path), &found, &gone) == 0;
-}
-
-void peer_expect_absent(const char *path)
-{
-    (void)path;
+    return gb_unlink(&gate, &own, ROOT, path, strlen(path), &found, &gone) == 0;
 }
 
 int peer_look(const char *path, size_t length)
 {
     struct gb_found found;
-    int answer = gb_look_fast(pass(), ROOT, path, length, GB_FOLLOW, &found);
+    int answer = gb_look_fast(&own, ROOT, path, length, GB_FOLLOW, &found);
     if (answer == GB_AGAIN)
-        answer = gb_look(&gate, pass(), ROOT, path, length, GB_FOLLOW, &found);
+        answer = gb_look(&gate, &own, ROOT, path, length, GB_FOLLOW, &found);
     return answer == 0;
 }
 
 void peer_end(void)
 {
+    must(gb_close(&first));
 }

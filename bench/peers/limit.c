@@ -2,14 +2,28 @@
  *
  * Word 0 is the clock, word 1 the lock, and row r has the words from 2 + 8r on: its count, its header (tag 1, the
  * length from bit 8, the kind from bit 24), the number of its directory, the target's number or 0, and the name in four
- * words. A bucket has four rows. Each load is sequentially consistent. */
+ * words. A bucket has four rows. Each load and each store is sequentially consistent.
+ *
+ * Behind the rows stands a table of all names, which is read and changed by who has the lock. A change makes the counts
+ * of its names' rows odd, adds one to the clock, writes what the rows tell now, and makes the counts even. */
+#define _GNU_SOURCE
 #include "peer.h"
+#include <linux/futex.h>
 #include <stdatomic.h>
 #include <stdint.h>
+#include <stdio.h>
+#include <stdlib.h>
 #include <string.h>
+#include <sys/syscall.h>
+#include <unistd.h>
 
-enum { BUCKETS = 1024, BUCKET_ROWS = 4, ROW = 8, NAME_WORDS = 4, MOST_NOTES = 256, ENTRY = 1 };
+enum { BUCKETS = 1024, BUCKET_ROWS = 4, ROW = 8, NAME_WORDS = 4, MOST_NOTES = 256, ENTRY = 1, ROOT = 1 };
 enum { NONE, DIRECTORY, PLAIN_FILE };
+enum { HEADS = 1 << 17, WALKS = 8, TRIES = 20, MOST_DOUBLINGS = 9 };
+
+/* What a walk by rows finds: what the path leads to or that it leads nowhere, that a name has no row, or that a row
+ * was changed meanwhile. */
+enum answer { ABSENT, FOUND, MISSED, DISTURBED };
 
 #define PRIME 1099511628211u
 #define PRIME_TO_6TH (PRIME * PRIME * PRIME * PRIME * PRIME * PRIME)
@@ -25,11 +39,31 @@ struct note {
     uint64_t count;
 };
 
-/* One row's words behind its count. */
+/* What a name leads to. */
 struct told {
     uint64_t target;
     int kind;
 };
+
+/* A name of a directory. */
+struct key {
+    uint64_t parent, hash;
+    const char *name;
+    size_t length;
+};
+
+/* What the table behind the rows has of a name. */
+struct entry {
+    struct entry *next;
+    uint64_t parent, hash;
+    struct told told;
+    size_t length;
+    char name[];
+};
+
+static struct entry *heads[HEADS];
+/* The row of each bucket that is given up next. */
+static unsigned char turns[BUCKETS];
 
 /* The hash of a directory's number, to which the name's bytes are added. A byte that is zero only multiplies. */
 static inline uint64_t hash_number(uint64_t number)
@@ -56,14 +90,16 @@ static size_t row_of(uint64_t hash, size_t i)
     return 2 + (hash % BUCKETS * BUCKET_ROWS + i) * ROW;
 }
 
-/* Reads the row of a key, if its bucket has one that is even. */
-static inline int find(uint64_t number, uint64_t hash, const uint64_t name[NAME_WORDS], size_t length,
-                       struct told *told, struct note *note)
+/* Reads the row of a key, if its bucket has one that is even: FOUND, else MISSED or DISTURBED. */
+static inline enum answer find(uint64_t number, uint64_t hash, const uint64_t name[NAME_WORDS], size_t length,
+                               struct told *told, struct note *note)
 {
+    uint64_t counts = 0;
     for (size_t i = 0; i < BUCKET_ROWS; i++) {
         size_t row = row_of(hash, i);
         uint64_t count = words[row];
         uint64_t header = words[row + 1];
+        counts |= count;
         if (count % 2 || (header & 0xffffff) != (ENTRY | (uint64_t)length << 8))
             continue;
         uint64_t parent = words[row + 2], target = words[row + 3], differ = parent ^ number;
@@ -73,9 +109,9 @@ static inline int find(uint64_t number, uint64_t hash, const uint64_t name[NAME_
             continue;
         *told = (struct told){target, (int)(header >> 24)};
         *note = (struct note){row, count};
-        return 1;
+        return FOUND;
     }
-    return 0;
+    return counts % 2 ? DISTURBED : MISSED;
 }
 
 static int all_stand(const struct note *notes, size_t count)
@@ -86,11 +122,11 @@ static int all_stand(const struct note *notes, size_t count)
     return 1;
 }
 
-int peer_look(const char *path, size_t length)
+static enum answer walk(const char *path, size_t length)
 {
     static _Thread_local struct note notes[MOST_NOTES];
     size_t used = 0, at = 0;
-    struct told told = {1, DIRECTORY};
+    struct told told = {ROOT, DIRECTORY};
     while (at < length && told.kind == DIRECTORY) {
         at += 1;
         size_t begin = at;
@@ -98,93 +134,258 @@ int peer_look(const char *path, size_t length)
         while (at < length && path[at] != '/')
             hash = (hash ^ (unsigned char)path[at++]) * PRIME;
         if (at - begin > 8 * NAME_WORDS || used == MOST_NOTES)
-            return 0;
+            return MISSED;
         pack(path + begin, at - begin, name);
-        if (!find(told.target, hash, name, at - begin, &told, &notes[used]))
-            return 0;
+        enum answer answer = find(told.target, hash, name, at - begin, &told, &notes[used]);
+        if (answer != FOUND)
+            return answer;
         used += 1;
     }
     (void)atomic_load(&words[0]);
-    return all_stand(notes, used) && told.kind != NONE && at == length;
+    if (!all_stand(notes, used))
+        return DISTURBED;
+    return told.kind != NONE && at == length ? FOUND : ABSENT;
+}
+
+/* Takes the lock. Who finds it taken looks again after pauses that double, so that its holder has the word to itself,
+ * and sleeps in the end. */
+static void take(void)
+{
+    for (int i = 0; i < TRIES; i++) {
+        uint64_t is_free = 0;
+        if (!words[1] && atomic_compare_exchange_strong(&words[1], &is_free, 1))
+            return;
+        for (int j = 0; j < 1 << (i < MOST_DOUBLINGS ? i : MOST_DOUBLINGS); j++)
+            __builtin_ia32_pause();
+    }
+    while (atomic_exchange(&words[1], 2))
+        syscall(SYS_futex, &words[1], FUTEX_WAIT_PRIVATE, 2, NULL, NULL, 0);
+}
+
+/* Gives the lock back, and wakes a thread if one may sleep. */
+static void give(void)
+{
+    if (atomic_exchange(&words[1], 0) == 2)
+        syscall(SYS_futex, &words[1], FUTEX_WAKE_PRIVATE, 1, NULL, NULL, 0);
+}
+
+/* Takes a slash and the name behind it off a path. */
+static struct key next_key(uint64_t parent, const char **path)
+{
+    const char *name = *path + 1, *at = name;
+    uint64_t hash = hash_number(parent);
+    while (*at && *at != '/')
+        hash = (hash ^ (unsigned char)*at++) * PRIME;
+    *path = at;
+    return (struct key){parent, hash, name, (size_t)(at - name)};
+}
+
+/* The link of a chain that leads to a key's entry, or the chain's end. */
+static struct entry **link_of(const struct key *key)
+{
+    struct entry **link = &heads[key->hash % HEADS];
+    for (; *link; link = &(*link)->next)
+        if ((*link)->hash == key->hash && (*link)->parent == key->parent && (*link)->length == key->length &&
+            !memcmp((*link)->name, key->name, key->length))
+            break;
+    return link;
+}
+
+static struct told told_of(const struct entry *entry)
+{
+    return entry ? entry->told : (struct told){0, NONE};
+}
+
+/* The key of a path's last name, if the directories above it are there. */
+static int last_of(const char *path, struct key *key)
+{
+    struct told told = {ROOT, DIRECTORY};
+    while (*path && told.kind == DIRECTORY) {
+        *key = next_key(told.target, &path);
+        if (*path)
+            told = told_of(*link_of(key));
+    }
+    return !*path && told.kind == DIRECTORY;
+}
+
+static uint64_t header_of(size_t length, int kind)
+{
+    return ENTRY | (uint64_t)length << 8 | (uint64_t)kind << 24;
+}
+
+/* The row of a key, or 0. */
+static size_t row_with(const struct key *key)
+{
+    uint64_t name[NAME_WORDS];
+    struct told told;
+    struct note note;
+    if (key->length > 8 * NAME_WORDS)
+        return 0;
+    pack(key->name, key->length, name);
+    return find(key->parent, key->hash, name, key->length, &told, &note) == FOUND ? note.row : 0;
+}
+
+/* A row that tells nothing, or where there is none the one whose turn it is. */
+static size_t row_for(uint64_t hash)
+{
+    for (size_t i = 0; i < BUCKET_ROWS; i++)
+        if (!words[row_of(hash, i) + 1])
+            return row_of(hash, i);
+    return row_of(hash, turns[hash % BUCKETS]++ % BUCKET_ROWS);
+}
+
+static void fill(const struct key *key, struct told told)
+{
+    uint64_t name[NAME_WORDS];
+    if (key->length > 8 * NAME_WORDS)
+        return;
+    size_t row = row_for(key->hash);
+    pack(key->name, key->length, name);
+    words[row]++;
+    words[row + 1] = header_of(key->length, told.kind);
+    words[row + 2] = key->parent;
+    words[row + 3] = told.target;
+    for (size_t i = 0; i < NAME_WORDS; i++)
+        words[row + 4 + i] = name[i];
+    words[row]++;
+}
+
+/* Looks a path up in the table, and fills the rows that it wants. */
+static int look_held(const char *path)
+{
+    struct told told = {ROOT, DIRECTORY};
+    while (*path && told.kind == DIRECTORY) {
+        struct key key = next_key(told.target, &path);
+        told = told_of(*link_of(&key));
+        if (!row_with(&key))
+            fill(&key, told);
+    }
+    return !*path && told.kind != NONE;
+}
+
+int peer_look(const char *path, size_t length)
+{
+    for (int i = 0; i < WALKS; i++) {
+        enum answer answer = walk(path, length);
+        if (answer == MISSED)
+            break;
+        if (answer != DISTURBED)
+            return answer == FOUND;
+    }
+    take();
+    int found = look_held(path);
+    give();
+    return found;
+}
+
+/* Shuts the row of a key, if it has one. */
+static size_t shut(const struct key *key)
+{
+    size_t row = row_with(key);
+    if (row)
+        words[row]++;
+    return row;
+}
+
+/* Writes what a name leads to into its row that was shut, and opens that. */
+static void tell_and_open(size_t row, const struct key *key, struct told told)
+{
+    if (!row)
+        return;
+    words[row + 1] = header_of(key->length, told.kind);
+    words[row + 3] = told.target;
+    words[row]++;
+}
+
+static struct entry *entry_of(const struct key *key, struct told told)
+{
+    struct entry *entry = malloc(sizeof *entry + key->length);
+    if (!entry) {
+        perror(peer_name);
+        exit(3);
+    }
+    *entry = (struct entry){NULL, key->parent, key->hash, told, key->length};
+    memcpy(entry->name, key->name, key->length);
+    return entry;
+}
+
+/* Has a name lead to something that led nowhere, or nowhere. */
+static void set(const struct key *key, struct told told)
+{
+    struct entry **link = link_of(key), *old = *link;
+    if (told.kind != NONE) {
+        *link = entry_of(key, told);
+        return;
+    }
+    *link = old->next;
+    free(old);
+}
+
+/* One name leads elsewhere from now on. */
+static void change(const struct key *key, struct told told)
+{
+    size_t row = shut(key);
+    set(key, told);
+    words[0]++;
+    tell_and_open(row, key, told);
 }
 
 void peer_begin(void)
 {
-    next_number = 2;
+    next_number = ROOT + 1;
 }
 
-/* Fills a row with a fact. */
-static int fill(uint64_t number, const char *name, size_t length, struct told fact)
+void peer_enter(void)
 {
-    uint64_t packed[NAME_WORDS], hash = hash_number(number);
-    if (length > 8 * NAME_WORDS)
-        return 0;
-    for (size_t i = 0; i < length; i++)
-        hash = (hash ^ (unsigned char)name[i]) * PRIME;
-    pack(name, length, packed);
-    for (size_t i = 0; i < BUCKET_ROWS; i++) {
-        size_t row = row_of(hash, i);
-        if (words[row + 1])
-            continue;
-        words[row + 1] = ENTRY | (uint64_t)length << 8 | (uint64_t)fact.kind << 24;
-        words[row + 2] = number;
-        words[row + 3] = fact.target;
-        for (size_t j = 0; j < NAME_WORDS; j++)
-            words[row + 4 + j] = packed[j];
-        return 1;
-    }
-    return 0;
 }
 
-/* The number of the directory that a path ends in, and where its last name begins. */
-static uint64_t parent_of(const char *path, const char **last)
+void peer_leave(void)
 {
-    struct told told = {1, DIRECTORY};
-    struct note note;
-    const char *name = path + 1, *end;
-    while ((end = strchr(name, '/'))) {
-        uint64_t packed[NAME_WORDS], hash = hash_number(told.target);
-        for (const char *byte = name; byte < end; byte++)
-            hash = (hash ^ (unsigned char)*byte) * PRIME;
-        pack(name, (size_t)(end - name), packed);
-        if (!find(told.target, hash, packed, (size_t)(end - name), &told, &note))
-            return 0;
-        name = end + 1;
-    }
-    *last = name;
-    return told.target;
 }
 
 int peer_make(char kind, const char *path)
 {
-    const char *last;
-    uint64_t number = parent_of(path, &last);
-    if (!number)
-        return 0;
-    /* A name without a row is left out: its look-ups answer that it is absent. */
-    fill(number, last, strlen(last), (struct told){next_number++, kind == 'd' ? DIRECTORY : PLAIN_FILE});
-    return 1;
-}
-
-/* Its rows stay as they were filled. */
-int peer_rename(const char *old, const char *new)
-{
-    (void)old, (void)new;
-    return 0;
+    struct key key;
+    take();
+    int made = last_of(path, &key) && !*link_of(&key);
+    if (made)
+        change(&key, (struct told){next_number++, kind == 'd' ? DIRECTORY : PLAIN_FILE});
+    give();
+    return made;
 }
 
 int peer_unlink(const char *path)
 {
-    (void)path;
-    return 0;
+    struct key key;
+    take();
+    int gone = last_of(path, &key) && told_of(*link_of(&key)).kind == PLAIN_FILE;
+    if (gone)
+        change(&key, (struct told){0, NONE});
+    give();
+    return gone;
 }
 
-void peer_expect_absent(const char *path)
+/* Both rows are shut at once, so that no walk finds both names or neither. */
+static void move(const struct key *old, const struct key *new, struct told told)
 {
-    const char *last;
-    uint64_t number = parent_of(path, &last);
-    if (number)
-        fill(number, last, strlen(last), (struct told){0, NONE});
+    size_t row = shut(old), new_row = shut(new);
+    set(old, (struct told){0, NONE});
+    set(new, told);
+    words[0]++;
+    tell_and_open(row, old, (struct told){0, NONE});
+    tell_and_open(new_row, new, told);
+}
+
+int peer_rename(const char *old, const char *new)
+{
+    struct key from, to;
+    take();
+    int is_there = last_of(old, &from) && last_of(new, &to) && !*link_of(&to);
+    struct told told = is_there ? told_of(*link_of(&from)) : (struct told){0, NONE};
+    if (told.kind == PLAIN_FILE)
+        move(&from, &to, told);
+    give();
+    return told.kind == PLAIN_FILE;
 }
 
 void peer_end(void)

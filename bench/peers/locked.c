@@ -1,5 +1,6 @@
 /* A hash table of names behind one lock for readers and a writer, taken once for a path. */
 #define _GNU_SOURCE
+#include "hash.h"
 #include "peer.h"
 #include <pthread.h>
 #include <stdint.h>
@@ -23,26 +24,10 @@ static size_t entry_count;
 static uint64_t next_number;
 static pthread_rwlock_t lock = PTHREAD_RWLOCK_INITIALIZER;
 
-static uint64_t hash(uint64_t parent, const char *name, size_t length)
-{
-    uint64_t hash = parent * 0x9e3779b97f4a7c15u;
-    while (length >= 8) {
-        uint64_t word;
-        memcpy(&word, name, 8);
-        hash = (hash ^ word) * 0xff51afd7ed558ccdu;
-        hash ^= hash >> 32;
-        name += 8, length -= 8;
-    }
-    uint64_t word = 0;
-    memcpy(&word, name, length);
-    hash = (hash ^ word ^ length << 56) * 0xff51afd7ed558ccdu;
-    return hash ^ hash >> 32;
-}
-
 /* The slot of a name: its own, or the free one where it would stand. */
 static struct entry *slot_of(uint64_t parent, const char *name, size_t length)
 {
-    for (uint64_t at = hash(parent, name, length);; at++) {
+    for (uint64_t at = hash_of(parent, name, length);; at++) {
         struct entry *entry = &entries[at % SLOTS];
         if (!entry->name)
             return entry;
@@ -71,6 +56,14 @@ static struct entry *walk(const char *path, size_t length, int all)
 void peer_begin(void)
 {
     next_number = 2;
+}
+
+void peer_enter(void)
+{
+}
+
+void peer_leave(void)
+{
 }
 
 /* The slot of a path's last name, or none where its directory isn't there. */
@@ -130,11 +123,6 @@ int peer_unlink(const char *path)
     uint64_t number = take(path);
     pthread_rwlock_unlock(&lock);
     return number != 0;
-}
-
-void peer_expect_absent(const char *path)
-{
-    (void)path;
 }
 
 int peer_look(const char *path, size_t length)

@@ -1,10 +1,11 @@
-/* Times a peer's look-ups, as `dcbench look` times those of the cache.
+/* Times a peer's look-ups and changes, as `dcbench look` and `dcbench change` time those of the cache.
  *
- * usage: PEER read|absent|mixed|churn THREADS MILLISECONDS TREE
+ * usage: PEER read|absent|mixed|churn|change THREADS MILLISECONDS TREE
  *
- * TREE has the lines that `dcbench tree` writes. Each thread looks 64 paths up in a turn, in a random order, until the
- * time is over. With `mixed` it renames a file of its own to and fro after each 19 of them, with `churn` it makes,
- * renames and unlinks one after each. It prints a line of JSON with the same words as dcbench.
+ * TREE has the lines that `dcbench tree` writes. Each path that is asked is looked up once. Then each thread looks 64
+ * of them up in a turn, in a random order, until the time is over. With `mixed` it renames a file of its own to and
+ * fro after each 19 of them, with `churn` it makes, renames and unlinks one after each, and with `change` it looks none
+ * up, but makes and unlinks a file in the root. It prints a line of JSON with the same words as dcbench.
  */
 #define _GNU_SOURCE
 #include "peer.h"
@@ -17,6 +18,17 @@
 
 enum { TURN = 64, LEAST_ORDER = 16384, MOST_THREADS = 64, MOST_TURNS = 1000000, LONGEST = 4200, MOST_PAIRS = 50 };
 
+enum work { READ, ABSENT, MIXED, CHURN, CHANGE, WORKS };
+
+static const char *const work_names[WORKS] = {"read", "absent", "mixed", "churn", "change"};
+
+/* How many look-ups go before each change. */
+static const size_t looks_to_a_change[WORKS] = {[MIXED] = 19, [CHURN] = 1};
+
+/* How many files a thread changes in turns, by how many changes each. */
+static const size_t pairs_of_a_thread[WORKS] = {[MIXED] = MOST_PAIRS, [CHURN] = 32, [CHANGE] = 1};
+static const size_t changes_of_a_pair[WORKS] = {[MIXED] = 2, [CHURN] = 3, [CHANGE] = 2};
+
 struct path {
     char *text;
     size_t length;
@@ -27,8 +39,9 @@ struct pair {
     char *first, *second;
 };
 
+/* Each begins on a cache line of its own, since its thread writes to it all the time. */
 struct worker {
-    pthread_t thread;
+    _Alignas(64) pthread_t thread;
     size_t number;
     uint64_t *turns;
     size_t turn_count;
@@ -39,8 +52,7 @@ struct worker {
 
 static struct path *asked, *order;
 static size_t asked_count, order_count;
-/* How many look-ups go before a change, or 0 where nothing changes. */
-static size_t few;
+static enum work kind;
 static uint64_t limit;
 static size_t thread_count;
 static pthread_barrier_t gate;
@@ -77,7 +89,7 @@ static void ask(const char *text, const char *ending)
     asked[asked_count++] = (struct path){copy, strlen(copy)};
 }
 
-static void read_tree(const char *name, int absent)
+static void read_tree(const char *name)
 {
     static char line[2 * LONGEST];
     FILE *file = fopen(name, "r");
@@ -88,7 +100,7 @@ static void read_tree(const char *name, int absent)
         if (strlen(line) < 3 || !strchr("dcf", line[0]) || !peer_make(line[0] == 'd' ? 'd' : 'f', with(line + 2, "")))
             give_up("a line of the tree is refused");
         if (line[0] == 'f')
-            ask(line + 2, absent ? ".no" : "");
+            ask(line + 2, kind == ABSENT ? ".no" : "");
     }
     fclose(file);
 }
@@ -101,57 +113,105 @@ static uint64_t draw(void)
     return state >> 33;
 }
 
-/* The files that a thread changes: every so many of those that are asked, or names beside them. */
+/* Puts the paths into the order in which they are looked up, and looks each up once. */
+static void make_order(void)
+{
+    if (!asked_count)
+        give_up("the tree has no files that are asked");
+    for (size_t i = 0; i < asked_count; i++)
+        peer_look(asked[i].text, asked[i].length);
+    order_count = 4 * asked_count > LEAST_ORDER ? 4 * asked_count / TURN * TURN : LEAST_ORDER;
+    order = malloc(order_count * sizeof *order);
+    if (!order)
+        give_up("no memory");
+    for (size_t i = 0; i < order_count; i++)
+        order[i] = asked[draw() % asked_count];
+}
+
+/* The files that a thread changes: every so many of those that are asked, names beside them, or one in the root. */
 static void own(struct worker *worker)
 {
-    size_t most = few > 1 ? MOST_PAIRS : 32;
     char first[32], second[32];
-    snprintf(first, sizeof first, few > 1 ? "" : ".of%zu", worker->number);
+    snprintf(first, sizeof first, kind == MIXED ? "" : ".of%zu", worker->number);
     snprintf(second, sizeof second, ".to%zu", worker->number);
-    for (size_t i = worker->number; i < asked_count && worker->pair_count < most; i += thread_count)
+    if (kind == CHANGE)
+        worker->pairs[worker->pair_count++] = (struct pair){with("/", first), with("/", second)};
+    for (size_t i = worker->number; i < asked_count && worker->pair_count < pairs_of_a_thread[kind]; i += thread_count)
         worker->pairs[worker->pair_count++] = (struct pair){with(asked[i].text, first), with(asked[i].text, second)};
 }
 
 /* The thread's next change. */
 static void change(struct worker *worker)
 {
-    size_t steps = few > 1 ? 2 : 3, step = worker->changes % steps;
-    struct pair *pair = &worker->pairs[worker->changes / steps % worker->pair_count];
+    size_t steps = changes_of_a_pair[kind], step = worker->changes % steps;
+    const struct pair *pair = &worker->pairs[worker->changes / steps % worker->pair_count];
     int made;
-    if (few > 1)
+    if (kind == MIXED)
         made = step ? peer_rename(pair->second, pair->first) : peer_rename(pair->first, pair->second);
     else if (step == 0)
         made = peer_make('f', pair->first);
-    else
+    else if (kind == CHURN)
         made = step == 1 ? peer_rename(pair->first, pair->second) : peer_unlink(pair->second);
+    else
+        made = peer_unlink(pair->first);
     if (!made)
         give_up("a change is refused");
     worker->changes++;
+}
+
+static void look_turn(struct worker *worker, const struct path *paths)
+{
+    size_t few = looks_to_a_change[kind];
+    for (size_t i = 0; i < TURN; i++) {
+        worker->found += (uint64_t)peer_look(paths[i].text, paths[i].length);
+        if (few && (i % few == few - 1 || i == TURN - 1))
+            change(worker);
+    }
+    worker->looks += TURN;
+}
+
+static void change_turn(struct worker *worker)
+{
+    for (size_t i = 0; i < TURN; i++)
+        change(worker);
 }
 
 static void *work(void *argument)
 {
     struct worker *worker = argument;
     size_t at = order_count / TURN / thread_count * worker->number;
+    peer_enter();
     pthread_barrier_wait(&gate);
     uint64_t begin = now(), last = begin;
     do {
-        const struct path *paths = order + at * TURN;
-        uint64_t before = worker->changes;
-        for (size_t i = 0; i < TURN; i++) {
-            worker->found += (uint64_t)peer_look(paths[i].text, paths[i].length);
-            if (few && (i % few == few - 1 || i == TURN - 1))
-                change(worker);
-        }
-        at = (at + 1) % (order_count / TURN);
+        uint64_t before = worker->looks + worker->changes;
+        if (kind == CHANGE)
+            change_turn(worker);
+        else
+            look_turn(worker, order + at++ % (order_count / TURN) * TURN);
         uint64_t end = now();
         if (worker->turn_count < MOST_TURNS)
-            worker->turns[worker->turn_count++] = (end - last) * 1000 / (TURN + worker->changes - before);
-        worker->looks += TURN;
+            worker->turns[worker->turn_count++] = (end - last) * 1000 / (worker->looks + worker->changes - before);
         last = end;
     } while (last - begin < limit);
     worker->nanoseconds = last - begin;
+    peer_leave();
     return NULL;
+}
+
+/* Runs the threads until the time is over. */
+static void run(struct worker *workers)
+{
+    pthread_barrier_init(&gate, NULL, (unsigned)thread_count);
+    for (size_t i = 0; i < thread_count; i++) {
+        workers[i].number = i;
+        own(&workers[i]);
+        workers[i].turns = malloc(MOST_TURNS * sizeof *workers[i].turns);
+        if (!workers[i].turns || pthread_create(&workers[i].thread, NULL, work, &workers[i]))
+            give_up("no thread");
+    }
+    for (size_t i = 0; i < thread_count; i++)
+        pthread_join(workers[i].thread, NULL);
 }
 
 static int compare(const void *a, const void *b)
@@ -160,7 +220,7 @@ static int compare(const void *a, const void *b)
     return (x > y) - (x < y);
 }
 
-static void tell(struct worker *workers, const char *what)
+static void tell(const struct worker *workers)
 {
     static struct worker all;
     double rate = 0;
@@ -178,43 +238,38 @@ static void tell(struct worker *workers, const char *what)
     qsort(all.turns, all.turn_count, sizeof *all.turns, compare);
     printf("{\"command\":\"look\",\"peer\":\"%s\",\"work\":\"%s\",\"threads\":%zu,\"median_ps\":%llu,\"p99_ps\":%llu,"
            "\"least_ps\":%llu,\"calls_a_second\":%.0f,\"looks\":%llu,\"changes\":%llu,\"found\":%llu}\n",
-           peer_name, what, thread_count, (unsigned long long)all.turns[all.turn_count / 2],
+           peer_name, work_names[kind], thread_count, (unsigned long long)all.turns[all.turn_count / 2],
            (unsigned long long)all.turns[all.turn_count * 99 / 100], (unsigned long long)all.turns[0], rate,
            (unsigned long long)all.looks, (unsigned long long)all.changes, (unsigned long long)all.found);
+}
+
+/* Reads the words of the command line, and answers whether they are as they should be. */
+static int read_words(int count, char **words)
+{
+    if (count != 5)
+        return 0;
+    while (kind < WORKS && strcmp(words[1], work_names[kind]))
+        kind++;
+    thread_count = strtoul(words[2], NULL, 10);
+    limit = strtoull(words[3], NULL, 10) * 1000000u;
+    return kind < WORKS && thread_count >= 1 && thread_count <= MOST_THREADS;
 }
 
 int main(int count, char **words)
 {
     static struct worker workers[MOST_THREADS];
-    thread_count = count == 5 ? strtoul(words[2], NULL, 10) : 0;
-    if (thread_count < 1 || thread_count > MOST_THREADS) {
-        fprintf(stderr, "usage: %s read|absent|mixed|churn THREADS MILLISECONDS TREE\n", peer_name);
+    if (!read_words(count, words)) {
+        fprintf(stderr, "usage: %s read|absent|mixed|churn|change THREADS MILLISECONDS TREE\n", peer_name);
         return 2;
     }
-    int absent = strcmp(words[1], "absent") == 0;
-    few = strcmp(words[1], "mixed") == 0 ? 19 : strcmp(words[1], "churn") == 0;
-    limit = strtoull(words[3], NULL, 10) * 1000000u;
     peer_begin();
-    read_tree(words[4], absent);
-    for (size_t i = 0; absent && i < asked_count; i++)
-        peer_expect_absent(asked[i].text);
-    order_count = 4 * asked_count > LEAST_ORDER ? 4 * asked_count / TURN * TURN : LEAST_ORDER;
-    order = malloc(order_count * sizeof *order);
-    if (!order)
-        give_up("no memory");
-    for (size_t i = 0; i < order_count; i++)
-        order[i] = asked[draw() % asked_count];
-    pthread_barrier_init(&gate, NULL, (unsigned)thread_count);
-    for (size_t i = 0; i < thread_count; i++) {
-        workers[i].number = i;
-        own(&workers[i]);
-        workers[i].turns = malloc(MOST_TURNS * sizeof *workers[i].turns);
-        if (!workers[i].turns || pthread_create(&workers[i].thread, NULL, work, &workers[i]))
-            give_up("no thread");
-    }
-    for (size_t i = 0; i < thread_count; i++)
-        pthread_join(workers[i].thread, NULL);
-    tell(workers, words[1]);
+    peer_enter();
+    read_tree(words[4]);
+    if (kind != CHANGE)
+        make_order();
+    peer_leave();
+    run(workers);
+    tell(workers);
     peer_end();
     return 0;
 }

@@ -23,6 +23,14 @@ void peer_begin(void)
     }
 }
 
+void peer_enter(void)
+{
+}
+
+void peer_leave(void)
+{
+}
+
 int peer_make(char kind, const char *path)
 {
     if (kind == 'd')
@@ -39,11 +47,6 @@ int peer_rename(const char *old, const char *new)
 int peer_unlink(const char *path)
 {
     return unlinkat(top, path + 1, 0) == 0;
-}
-
-void peer_expect_absent(const char *path)
-{
-    (void)path;
 }
 
 int peer_look(const char *path, size_t length)
