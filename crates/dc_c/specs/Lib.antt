@@ -2,4 +2,3 @@
 pub mod Owned
 pub mod Answering
 pub mod Shapes
-pub mod Passing

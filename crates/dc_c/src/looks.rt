@@ -3,7 +3,8 @@
 ghost use Rattle.std.specs.Prelude.{◌≡◌, length, MatchOption};
 ghost use Rattle.dc_cache.specs.Calls.{look, stat, readlink, list};
 ghost use Rattle.dc_c.specs.Answering.{Refuses, Shows};
-ghost use Rattle.dc_c.specs.Shapes.{Counts, Lists, Looks, LooksFast, ReadsText, bytes_told, read_over};
+ghost use Rattle.dc_c.specs.Shapes.{Counts, Lists, Looks, LooksFast, ReadsText};
+ghost use Rattle.dc_hold.specs.Allowed.{bytes_told, read_over};
 ghost use Rattle.dc_hold.specs.Numbers.{follow_by};
 ghost use Rattle.dc_hold.specs.declared.status.Status.TheVariants.{BadArgument};
 ghost use Rattle.dc_hold.specs.declared.told.Found.{Found};

@@ -1,7 +1,7 @@
 //! How a cache and its passes begin and end, and what a pass learns and empties.
 
 ghost use Rattle.std.specs.Prelude.{◌≡◌, []};
-ghost use Rattle.dc_c.specs.Passing.{Closes, Learns, Shrinks};
+ghost use Rattle.dc_c.specs.Shapes.{Closes, Learns, Shrinks};
 
 use crate::handle::Handle;
 use dc_hold::{Hold, Status};

@@ -2,7 +2,7 @@ use Rattle.std.proofs.Common.{to_z-of_z, SFits, w32, rules}
 use Rattle.dc_cache.specs.Calls.{request_of}
 use Rattle.dc_hold.specs.Tells.{tells_change}
 use Rattle.dc_c.specs.Answering.{Shows}
-use Rattle.dc_c.specs.Shapes.{MayMake}
+use Rattle.dc_hold.specs.Allowed.{MayMake}
 use Rattle.dc_c.proofs.Answering.{called, shown, tried}
 use Rattle.dc_c.proofs.changes.change.Goals as goal
 

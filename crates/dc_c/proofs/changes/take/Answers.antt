@@ -1,7 +1,8 @@
 use Rattle.std.proofs.Common.{◌∙◌, ap, to_z-of_z, SFits, w32, rules}
 use Rattle.dc_cache.specs.Calls.{request_of}
 use Rattle.dc_hold.specs.Tells.{tells_change, tells_lost}
-use Rattle.dc_c.specs.Shapes.{MayTake, ShowsTaken}
+use Rattle.dc_hold.specs.Allowed.{MayTake}
+use Rattle.dc_c.specs.Shapes.{ShowsTaken}
 use Rattle.dc_c.proofs.Answering.{called, shown, tried}
 use Rattle.dc_c.proofs.changes.take.Goals as goal
 

@@ -1,11 +1,8 @@
 use Rattle.std.proofs.Common.{to_z-of_z, SFits, w32, rules}
-use Rattle.dc_cache.specs.Answers.{Answered}
 use Rattle.dc_cache.specs.Calls.{look}
-use Rattle.dc_cache.specs.Passes.{view}
-use Rattle.dc_table.specs.Changes.{NothingNew}
 use Rattle.dc_hold.specs.Tells.{tells_fast}
 use Rattle.dc_c.specs.Answering.{Shows}
-use Rattle.dc_c.specs.Shapes.{MayFind}
+use Rattle.dc_hold.specs.Allowed.{MayFind}
 use Rattle.dc_c.proofs.Answering.{called, meant, shown, tried}
 use Rattle.dc_c.proofs.looks.gb_look_fast.Goals as goal
 

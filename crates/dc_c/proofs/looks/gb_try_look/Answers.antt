@@ -1,11 +1,8 @@
 use Rattle.std.proofs.Common.{to_z-of_z, SFits, w32, rules}
-use Rattle.dc_cache.specs.Answers.{Answered}
 use Rattle.dc_cache.specs.Calls.{look}
-use Rattle.dc_cache.specs.Passes.{view}
-use Rattle.dc_table.specs.Changes.{NothingNew}
 use Rattle.dc_hold.specs.Tells.{tells_tried}
 use Rattle.dc_c.specs.Answering.{Shows}
-use Rattle.dc_c.specs.Shapes.{MayLook}
+use Rattle.dc_hold.specs.Allowed.{MayLook}
 use Rattle.dc_c.proofs.Answering.{called, meant, shown, tried}
 use Rattle.dc_c.proofs.looks.gb_try_look.Goals as goal
 

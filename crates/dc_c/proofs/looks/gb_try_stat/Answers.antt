@@ -2,7 +2,7 @@ use Rattle.std.proofs.Common.{to_z-of_z, SFits, w32, rules}
 use Rattle.dc_cache.specs.Calls.{stat}
 use Rattle.dc_hold.specs.Tells.{tells_tried}
 use Rattle.dc_c.specs.Answering.{Shows}
-use Rattle.dc_c.specs.Shapes.{MayCount}
+use Rattle.dc_hold.specs.Allowed.{MayCount}
 use Rattle.dc_c.proofs.Answering.{called, shown, tried}
 use Rattle.dc_c.proofs.looks.gb_try_stat.Goals as goal
 

@@ -2,7 +2,8 @@ use Rattle.std.proofs.Common.{◌∙◌, sym, ap, refl, to_z-of_z, SFits, w32, r
 use Rattle.std.specs.Prelude.{if◌then◌else◌}
 use Rattle.dc_hold.specs.Numbers.{status_number}
 use Rattle.dc_hold.specs.declared.status.Status.TheVariants.{Done, NotYet}
-use Rattle.dc_c.specs.Passing.{MayLearn, ShowsClock}
+use Rattle.dc_hold.specs.Allowed.{MayLearn}
+use Rattle.dc_c.specs.Shapes.{ShowsClock}
 use Rattle.dc_c.proofs.Answering.{called}
 use Rattle.dc_c.proofs.passes.gb_learn.Goals as goal
 

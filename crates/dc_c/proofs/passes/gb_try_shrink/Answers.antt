@@ -1,5 +1,6 @@
 use Rattle.std.proofs.Common.{◌∙◌, Some, None, refl, to_z-of_z, SFits, w32, rules}
-use Rattle.dc_c.specs.Passing.{MayShrink, ShowsMany}
+use Rattle.dc_hold.specs.Allowed.{MayShrink}
+use Rattle.dc_c.specs.Shapes.{ShowsMany}
 use Rattle.dc_c.proofs.Answering.{called}
 use Rattle.dc_c.proofs.passes.gb_try_shrink.Goals as goal
 
