@@ -5,7 +5,7 @@ ghost use Rattle.dc_cache.specs.Passes.{Fits};
 
 use crate::answers::create;
 use crate::steps::{Act, Step, play};
-use dc_cache::{Dcache, Follow, Kind, MakeFault, NotYet, Pass, Reply, Store};
+use dc_cache::{Dcache, Follow, Kind, MakeFault, NotYet, Pass, Reply, Store, Why};
 use std::alloc::Global;
 use std::sync::Wait;
 use std::test::Fail;
@@ -59,7 +59,7 @@ fn a_pass_learns_how_far_another_came(rt: HostRuntime) -> Result<(), Fail> {
     assert!(rt; cache.learn(&mut q, 1) == Ok(()));
     let steps = [
         Step::Fast(b"/", Reply::Found(1, Kind::Dir), 1),
-        Step::Missed(b"/a"),
+        Step::Again(b"/a", Why::Miss(0)),
         Step::Look(b"/a", Follow::Yes, Reply::Found(2, Kind::Dir), 1),
         Step::Fast(b"/a", Reply::Found(2, Kind::Dir), 1),
     ];
@@ -89,8 +89,8 @@ fn the_least_recently_used_rows_are_emptied(rt: HostRuntime) -> Result<(), Fail>
         Step::Look(b"/c", Follow::Yes, Reply::Refused(2), 0),
         Step::Look(b"/a", Follow::Yes, Reply::Refused(2), 0),
         Step::Shrink(2, 2),
-        Step::Missed(b"/a"),
-        Step::Missed(b"/b"),
+        Step::Again(b"/a", Why::Miss(0)),
+        Step::Again(b"/b", Why::Miss(0)),
         Step::Fast(b"/c", Reply::Refused(2), 0),
         Step::Shrink(2, 1),
     ];
@@ -164,13 +164,13 @@ fn links_are_followed_by_their_rows(rt: HostRuntime) -> Result<(), Fail> {
         Step::Change(Act::Mkdir(b"/d"), Reply::Done(2), 0),
         Step::Change(Act::Create(b"/d/f"), Reply::Done(3), 1),
         Step::Change(Act::Symlink(b"./d", b"/s"), Reply::Done(4), 2),
-        Step::Missed(b"/s/f"),
+        Step::Again(b"/s/f", Why::Miss(0)),
         Step::Look(b"/s/f", Follow::Yes, file(), 3),
         Step::Fast(b"/s/f", file(), 3),
         Step::Change(Act::Unlink(b"/s"), Reply::Unit, 3),
         Step::Fast(b"/s/f", Reply::Refused(2), 4),
         Step::Change(Act::Symlink(b"d", b"/s"), Reply::Done(5), 4),
-        Step::Linked(b"/s/f"),
+        Step::Again(b"/s/f", Why::Link),
         Step::Look(b"/s/f", Follow::Yes, file(), 5),
         Step::Fast(b"/s/f", file(), 5),
     ];
@@ -188,11 +188,11 @@ fn a_text_without_room_is_asked_under_the_lock(rt: HostRuntime) -> Result<(), Fa
         Step::Change(Act::Mkdir(b"/d"), Reply::Done(2), 0),
         Step::Change(Act::Create(b"/d/f"), Reply::Done(3), 1),
         Step::Change(Act::Symlink(text, b"/t"), Reply::Done(4), 2),
-        Step::Missed(b"/t/f"),
+        Step::Again(b"/t/f", Why::Miss(0)),
         Step::Look(b"/t/f", Follow::Yes, file(), 3),
-        Step::Linked(b"/t/f"),
+        Step::Again(b"/t/f", Why::Link),
         Step::Look(b"/t/f", Follow::Yes, file(), 3),
-        Step::Linked(b"/t/f"),
+        Step::Again(b"/t/f", Why::Link),
         Step::Look(b"/t/f", Follow::Yes, file(), 3),
     ];
     assert_eq!(rt; play_alone(&rt, rt.alloc(), &steps), Ok(None));
@@ -256,7 +256,7 @@ fn a_path_is_filled_under_one_hold(rt: HostRuntime) -> Result<(), Fail> {
     let steps = [
         Step::Change(Act::Mkdir(b"/a"), Reply::Done(2), 0),
         Step::Change(Act::Mkdir(b"/a/b"), Reply::Done(3), 1),
-        Step::Missed(b"/a/b"),
+        Step::Again(b"/a/b", Why::Miss(0)),
         Step::Filled(b"/a/b", Reply::Found(3, Kind::Dir), 2),
         Step::Fast(b"/a/b", Reply::Found(3, Kind::Dir), 2),
         Step::Filled(b"/c", Reply::Refused(2), 2),
@@ -267,7 +267,7 @@ fn a_path_is_filled_under_one_hold(rt: HostRuntime) -> Result<(), Fail> {
     let steps = [Step::Filled(b"/e", Reply::Refused(2), 2)];
     assert_eq!(rt; play(&rt, rt.alloc(), &cache, &mut p, &steps), None);
     assert!(rt; cache.counts().evictions == 1 && cache.counts().sleeps == 0);
-    let steps = [Step::Missed(b"/a")];
+    let steps = [Step::Again(b"/a", Why::Miss(0))];
     assert_eq!(rt; play(&rt, rt.alloc(), &cache, &mut p, &steps), None);
     Ok(())
 }

@@ -3,7 +3,6 @@
 //! The file is made and unlinked while its directory has its other name, so its path under the first
 //! name never leads to it: whatever the threads do, each answer is ENOENT.
 
-ghost use Rattle.std.specs.Prelude.{◌≡◌};
 ghost use Rattle.std.specs.Thread.{IsSync};
 ghost use Rattle.dc_cache.specs.Passes.{Fits, IsChange};
 

@@ -33,10 +33,8 @@ pub enum Step<'a> {
     List(&'a [u8], Reply, u64),
     /// A walk by the rows alone.
     Fast(&'a [u8], Reply, u64),
-    /// A walk by the rows alone, none of which answered its first question.
-    Missed(&'a [u8]),
-    /// A walk by the rows alone, none of which had the text of a link.
-    Linked(&'a [u8]),
+    /// A walk by the rows alone that has no answer, and why.
+    Again(&'a [u8], Why),
     /// So many rows are to be emptied at most, and so many are.
     Shrink(u64, u64),
     /// Without waiting, while the lock is free.
@@ -67,7 +65,7 @@ fn call_of<'a>(act: Act<'a>) -> Call<'a>
 }
 
 /// What the fast walk of a path from the root comes to, or `None` where the text is no path.
-pub fn look_fast(cache: &Dcache, pass: &mut Pass, text: &[u8]) -> Option<Fast>
+fn look_fast(cache: &Dcache, pass: &mut Pass, text: &[u8]) -> Option<Fast>
     requires { Fits cache.now pass.old }
     ensures { Fits cache.now pass.new }
 {
@@ -88,10 +86,47 @@ fn look_counted<R: Wait>(
     Some(cache.look_counted(rt, alloc, pass, ROOT, parse(text).ok()?, Follow::Yes))
 }
 
+/// Looks a path from the root up.
+fn look<R: Wait>(
+    rt: &R,
+    alloc: Global,
+    cache: &Dcache,
+    pass: &mut Pass,
+    path: &[u8],
+    follow: Follow,
+) -> Stamped
+    requires { Fits cache.now pass.old }
+    ensures { Fits cache.now pass.new }
+{
+    cache.look(rt, alloc, pass, ROOT, path, follow)
+}
+
+/// Looks a path from the root up so that its rows are filled.
+fn look_filled<R: Wait>(
+    rt: &R,
+    alloc: Global,
+    cache: &Dcache,
+    pass: &mut Pass,
+    path: &[u8],
+) -> Stamped
+    requires { Fits cache.now pass.old }
+    ensures { Fits cache.now pass.new }
+{
+    cache.look_filled(rt, alloc, pass, ROOT, path, Follow::Yes)
+}
+
 /// Whether a walk was answered so.
 fn is_done(found: &Option<Fast>, reply: &Reply, at: u64) -> bool {
     match found {
         Some(Fast::Done(stamped)) => is(stamped, reply, at),
+        _ => false,
+    }
+}
+
+/// Whether a walk had no answer, for this reason.
+fn is_again(found: &Option<Fast>, why: Why) -> bool {
+    match found {
+        Some(Fast::Again(found)) => *found == why,
         _ => false,
     }
 }
@@ -165,18 +200,10 @@ fn is_so<R: Wait>(rt: &R, alloc: Global, cache: &Dcache, pass: &mut Pass, step: 
             is_made(&cache.change(rt, alloc, pass, &call_of(*act)), reply, *at)
         }
         Step::Look(path, follow, reply, at) => {
-            is(
-                &cache.look(rt, alloc, pass, ROOT, path, *follow),
-                reply,
-                *at,
-            )
+            is(&look(rt, alloc, cache, pass, path, *follow), reply, *at)
         }
         Step::Filled(path, reply, at) => {
-            is(
-                &cache.look_filled(rt, alloc, pass, ROOT, path, Follow::Yes),
-                reply,
-                *at,
-            )
+            is(&look_filled(rt, alloc, cache, pass, path), reply, *at)
         }
         Step::Counted(path, reply, at) => {
             is_done(&look_counted(rt, alloc, cache, pass, path), reply, *at)
@@ -189,15 +216,7 @@ fn is_so<R: Wait>(rt: &R, alloc: Global, cache: &Dcache, pass: &mut Pass, step: 
             is_told(&cache.list(rt, alloc, pass, ROOT, path), reply, *at)
         }
         Step::Fast(path, reply, at) => is_done(&look_fast(cache, pass, path), reply, *at),
-        Step::Missed(path) => {
-            matches!(
-                look_fast(cache, pass, path),
-                Some(Fast::Again(Why::Miss(0)))
-            )
-        }
-        Step::Linked(path) => {
-            matches!(look_fast(cache, pass, path), Some(Fast::Again(Why::Link)))
-        }
+        Step::Again(path, why) => is_again(&look_fast(cache, pass, path), *why),
         Step::Shrink(most, emptied) => cache.shrink(rt, pass, *most) == *emptied,
         Step::Try(tried) => is_tried(alloc, cache, pass, tried),
     }

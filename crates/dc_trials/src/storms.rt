@@ -1,7 +1,6 @@
 //! Four threads fill, change and empty the rows of one bucket. Afterwards no row is pinned: all four can
 //! be emptied, and serve four other names.
 
-ghost use Rattle.std.specs.Prelude.{◌≡◌};
 ghost use Rattle.std.specs.Thread.{IsSync};
 ghost use Rattle.dc_cache.specs.Passes.{Fits, IsChange};
 

@@ -1,13 +1,12 @@
 //! Calls that never wait, while another thread has the lock again and again, and while it is free.
 
-ghost use Rattle.std.specs.Prelude.{◌≡◌};
 ghost use Rattle.std.specs.Thread.{IsSync};
 ghost use Rattle.dc_cache.specs.Passes.{Fits};
 
 use crate::answers::{is_made, mkdir};
 use crate::passes::fill;
 use crate::steps::{Act, Step, Tried, is_found, play};
-use dc_cache::{Dcache, Follow, Kind, Pass, ROOT, Reply, Sleepless};
+use dc_cache::{Dcache, Follow, Kind, Pass, ROOT, Reply, Sleepless, Why};
 use std::alloc::Global;
 use std::sync::Wait;
 use std::sync::atomic::{AtomicBool, Ordering};
@@ -168,7 +167,7 @@ fn one_look_fills_the_whole_path(rt: HostRuntime) -> Result<(), Fail> {
         Step::Try(Tried::Change(Act::Mkdir(b"/d"), Reply::Done(2), 0)),
         Step::Try(Tried::Change(Act::Create(b"/d/f"), Reply::Done(3), 1)),
         Step::Try(Tried::Change(Act::Symlink(b"./d", b"/s"), Reply::Done(4), 2)),
-        Step::Missed(path),
+        Step::Again(path, Why::Miss(0)),
         Step::Try(Tried::Look(path, Follow::Yes, file(), 3)),
         Step::Fast(path, file(), 3),
     ];
@@ -189,7 +188,7 @@ fn a_free_lock_is_an_answer(rt: HostRuntime) -> Result<(), Fail> {
         Step::Try(Tried::Readlink(b"/s", Reply::Text(text), 1)),
         Step::Try(Tried::List(b"/", Reply::Names(names), 1)),
         Step::Try(Tried::Shrink(2, 1)),
-        Step::Missed(b"/s"),
+        Step::Again(b"/s", Why::Miss(0)),
     ];
     assert_eq!(rt; play(&rt, rt.alloc(), &cache, &mut p, &steps), None);
     Ok(())
