@@ -14,8 +14,6 @@ mod refused;
 mod rows;
 mod state;
 mod steps;
-#[cfg(test)]
-mod tests;
 mod truths;
 mod walk;
 

@@ -2,4 +2,3 @@ pub mod Keys
 pub mod Places
 pub mod Kept
 pub mod Chosen
-pub mod Rows

@@ -5,6 +5,3 @@ mod index;
 mod slot;
 
 pub use index::{Index, bucket_at, bucket_of};
-
-#[cfg(test)]
-mod tests;

@@ -30,6 +30,3 @@ pub const SESSIONS: u64 = 16;
 
 /// The same, as the length of an array.
 pub const SESSION_COUNT: usize = SESSIONS as usize;
-
-#[cfg(test)]
-mod tests;

@@ -14,8 +14,6 @@ mod path;
 mod refusal;
 mod sizes;
 mod tables;
-#[cfg(test)]
-mod tests;
 mod words;
 
 pub use components::{Components, first_part, first_part_hashed};

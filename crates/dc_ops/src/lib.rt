@@ -19,6 +19,3 @@ pub use effects::carry;
 pub use finder::StoreFinder;
 pub use plans::{Moved, Plan};
 pub use reads::{ask, seek};
-
-#[cfg(test)]
-mod tests;

@@ -22,8 +22,6 @@ mod resolve;
 mod rows;
 mod spot;
 mod target;
-#[cfg(test)]
-mod tests;
 mod told;
 
 pub use call::{Call, Flags, Follow, Reply, Sort, Stamped};

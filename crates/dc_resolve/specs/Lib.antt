@@ -4,7 +4,6 @@ pub mod Fronts
 pub mod Steps
 pub mod Walks
 pub mod Ends
-pub mod Tables
 pub mod Finders
 pub mod Needs
 pub mod Unasked

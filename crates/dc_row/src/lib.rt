@@ -8,8 +8,6 @@ mod laws;
 mod layout;
 mod reading;
 mod row;
-#[cfg(test)]
-mod tests;
 mod text;
 mod writing;
 

@@ -15,8 +15,6 @@ mod guard;
 mod locking;
 mod pins;
 mod shutting;
-#[cfg(test)]
-mod tests;
 mod writing;
 
 pub use calls::{change, pin, shrink, unpin_all};

@@ -1,5 +1,8 @@
 //! Runs of the server over an input, and what the checker says of what they write.
 
+ghost use Rattle.std.specs.Prelude.{◌≤◌};
+ghost use Rattle.dc_names.specs.declared.limits.TheConstants.{MOST_INODES};
+
 use dc_check::{PhasedVerdict, Stamp, Verdict, check, check_phases, record_of};
 use dc_lang::{read_lines, serving_order};
 use dc_serve::{FreeGate, Options, ServeFault, run};
@@ -43,7 +46,10 @@ pub fn phased_verdict(
     inodes: u64,
     input: &[u8],
     stamps: &[Stamp],
-) -> Result<PhasedVerdict, Fail> {
+) -> Result<PhasedVerdict, Fail>
+    requires least { 1 ≤ inodes }
+    requires most { inodes ≤ MOST_INODES }
+{
     let lines = read_lines(alloc, input)?;
     let served = serving_order(alloc, &lines)?;
     let phases: Vec<u64> = served.iter().map(|one| one.phase).collect(alloc)?;

@@ -4,8 +4,6 @@
 mod bucket;
 mod fault;
 mod shrinker;
-#[cfg(test)]
-mod tests;
 
 pub use fault::PinFault;
 pub use shrinker::Shrinker;

@@ -11,8 +11,6 @@ mod names;
 mod node;
 mod slab_store;
 mod store;
-#[cfg(test)]
-mod tests;
 
 pub use map_store::MapStore;
 pub use slab_store::SlabStore;

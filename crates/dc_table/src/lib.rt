@@ -47,8 +47,6 @@ mod shared;
 mod sheet;
 mod steps;
 mod table;
-#[cfg(test)]
-mod tests;
 mod walking;
 
 pub use dc_names::{MOST_COUNT, MakeFault};

@@ -9,7 +9,6 @@ pub mod Standing
 pub mod Questions
 pub mod Ended
 pub mod Checks
-pub mod ByHand
 pub mod Unasked
 pub mod Runs
 pub mod Blocks

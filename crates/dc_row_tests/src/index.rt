@@ -1,0 +1,206 @@
+//! Rows with keys, call by call.
+
+ghost use Rattle.std.specs.Prelude.{◌≡◌, ◌≢◌, ◌*◌, ◌/◌, ℕ, ◌<◌, ◌≤◌, IfOk, OnOk, IsTrue, length, not, true, slice_set};
+ghost use Rattle.dc_names.specs.declared.tables.TheConstants.{MOST_TABLE_BUCKETS};
+ghost use Rattle.dc_plain.specs.KeysShown.{key_shown};
+ghost use Rattle.dc_shrink.specs.Listings.{is_used};
+ghost use Rattle.dc_shrink.specs.Uses.{KeepsUse, SetsUse, UsesNone};
+ghost use Rattle.dc_index.specs.Slots.{slot_of, bucket_in, has_key};
+ghost use Rattle.dc_index.specs.Slots.Slot.{Free, Retired, Holds};
+
+use crate::shrink::{add_again, new_again, pin_again};
+use dc_index::{Index, bucket_at, bucket_of};
+use dc_names::{BUCKET_ROWS, Name, NoMemory, hash};
+use dc_plain::{Key, Label};
+use dc_shrink::{PinFault, Shrinker};
+use std::alloc::Global;
+use std::test::*;
+
+// The calls that take memory are made once more where it was refused, if nothing changed by that.
+// So the test passes whichever allocation `rt try --test --fail-alloc N` refuses.
+
+fn new_index_again(alloc: Global, buckets: u64) -> Result<Index, NoMemory>
+    requires { (0 < buckets) × (buckets ≤ MOST_TABLE_BUCKETS) }
+    ensures rows { IfOk result (λ index. length index ≡ BUCKET_ROWS * buckets) }
+    ensures free { IfOk result (λ index. (row : ℕ) → slot_of index row ≡ Free) }
+{
+    match Index::new(alloc, buckets) {
+        Ok(made) => Ok(made),
+        Err(NoMemory) => Index::new(alloc, buckets),
+    }
+}
+
+fn set_again(index: &mut Index, alloc: Global, row: u64, key: &Key<'_>) -> Result<(), NoMemory>
+    requires home { row / BUCKET_ROWS ≡ bucket_in index.old (key_shown key.now) }
+    requires unretired { slot_of index.old row ≢ Retired }
+    requires absent { (other : ℕ) → slot_of index.old other ≢ Holds (key_shown key.now) }
+    ensures { OnOk result (index.new ≡ slice_set index.old row (Holds (key_shown key.now))) }
+{
+    match index.set(alloc, row, key) {
+        Ok(()) => Ok(()),
+        Err(NoMemory) => {
+            if index.row_of(key).is_some() {
+                return Err(NoMemory);
+            }
+            index.set(alloc, row, key)
+        }
+    }
+}
+
+/// The row that a key is to have among free ones, the row that it is to have once that one is
+/// retired, where it is found then, and where after its row was cleared.
+fn rows_of(alloc: Global, buckets: u64, key: &Key<'_>) -> Result<[Option<u64>; 4], NoMemory>
+    requires { (0 < buckets) × (buckets ≤ MOST_TABLE_BUCKETS) }
+{
+    let mut index = new_index_again(alloc, buckets)?;
+    let shrinker = new_again(alloc, BUCKET_ROWS * buckets)?;
+    let Some(first) = index.choose(&shrinker, key) else {
+        return Ok([None; 4]);
+    };
+    index.retire(first);
+    let (Some(row), None) = (index.choose(&shrinker, key), index.row_of(key)) else {
+        return Ok([None; 4]);
+    };
+    set_again(&mut index, alloc, row, key)?;
+    let found = index.row_of(key);
+    index.clear(row);
+    Ok([Some(first), Some(row), found, index.row_of(key)])
+}
+
+#[test]
+fn keys_stand_in_their_bucket(rt: HostRuntime) -> Result<(), Fail> {
+    let name = Name::new(b"a").ok_or("no name")?;
+    let labels = [
+        (1, Label::Name(name), 3836),
+        (2, Label::DotDot, 3068),
+        (2, Label::Text, 2076),
+    ];
+    for (number, label, row) in labels {
+        let rows = rows_of(rt.alloc(), 1024, &Key { number, label })?;
+        assert_eq!(rt; rows, [Some(row), Some(row + 1), Some(row + 1), None]);
+    }
+    Ok(())
+}
+
+#[test]
+fn the_longest_name_has_a_row(rt: HostRuntime) -> Result<(), Fail> {
+    let name = Name::new(&[b'a'; 255]).ok_or("no name")?;
+    let key = Key {
+        number: u64::MAX,
+        label: Label::Name(name),
+    };
+    for buckets in [1, 2, 1023, 1024] {
+        let row = 4 * bucket_of(&key, buckets);
+        assert_eq!(rt; 4 * bucket_at(hash(key.number, name.bytes()), buckets), row);
+        let rows = rows_of(rt.alloc(), buckets, &key)?;
+        assert_eq!(rt; rows, [Some(row), Some(row + 1), Some(row + 1), None]);
+    }
+    Ok(())
+}
+
+/// An index and a shrinker in which the same rows are in use.
+#[derive(Drop)]
+struct Rows {
+    index: Index,
+    shrinker: Shrinker,
+    ghost agree: { (row : ℕ) → has_key (slot_of index row) ≡ is_used shrinker row },
+    ghost as_many: { length index ≡ shrinker.rows },
+}
+
+/// The key of the text of a link.
+fn text_of(number: u64) -> Key<'static> {
+    Key {
+        number,
+        label: Label::Text,
+    }
+}
+
+impl Rows {
+    fn new(alloc: Global) -> Result<Rows, NoMemory> {
+        let index = new_index_again(alloc, 1024)?;
+        let shrinker = new_again(alloc, 4096)?;
+        Ok(Rows { index, shrinker })
+    }
+
+    /// The row that is chosen for a text.
+    fn choose(&self, number: u64) -> Option<u64> {
+        self.index.choose(&self.shrinker, &text_of(number))
+    }
+
+    /// Gives a text without a row the one that is chosen for it, as the most recently used.
+    fn give(self, alloc: Global, number: u64) -> Result<Rows, NoMemory> {
+        let Rows {
+            mut index,
+            mut shrinker,
+        } = self;
+        let key = text_of(number);
+        let (Some(row), None) = (index.choose(&shrinker, &key), index.row_of(&key)) else {
+            return Ok(Rows { index, shrinker });
+        };
+        shrinker.remove(row);
+        set_again(&mut index, alloc, row, &key)?;
+        add_again(&mut shrinker, row)?;
+        Ok(Rows { index, shrinker })
+    }
+
+    /// Pins the row of a text.
+    fn pin(self, number: u64) -> Result<Rows, PinFault> {
+        let Some(row) = self.index.row_of(&text_of(number)) else {
+            return Ok(self);
+        };
+        let Rows {
+            index,
+            mut shrinker,
+        } = self;
+        pin_again(&mut shrinker, row)?;
+        Ok(Rows { index, shrinker })
+    }
+}
+
+/// The next number after this one whose text is of a bucket.
+fn next_in(bucket: u64, after: u64) -> u64 {
+    (after..100_000)
+        .find(|number| *number > after && hash(*number, b"") % 1024 == bucket)
+        .unwrap_or(0)
+}
+
+/// Six numbers whose texts are of a bucket.
+fn rivals(bucket: u64) -> [u64; 6] {
+    let mut rivals = [0; 6];
+    let mut last = 0;
+    for at in 0..6 {
+        last = next_in(bucket, last);
+        rivals[at] = last;
+    }
+    rivals
+}
+
+/// The rows that are chosen for six texts of a bucket: for each of the first five, which is given
+/// its row, and for the last one before and after each of the four rows is pinned.
+fn chosen_in(alloc: Global, bucket: u64) -> Result<[Option<u64>; 10], Fail> {
+    let texts = rivals(bucket);
+    let mut rows = Rows::new(alloc)?;
+    let mut chosen = [None; 10];
+    for at in 0..5 {
+        chosen[at] = rows.choose(texts[at]);
+        rows = rows.give(alloc, texts[at])?;
+    }
+    for at in 1..5 {
+        chosen[at + 4] = rows.choose(texts[5]);
+        rows = rows.pin(texts[at])?;
+    }
+    chosen[9] = rows.choose(texts[5]);
+    Ok(chosen)
+}
+
+#[test]
+fn chooses_the_least_recently_used_unpinned_row(rt: HostRuntime) -> Result<(), Fail> {
+    for bucket in [959, 767, 519] {
+        let chosen = chosen_in(rt.alloc(), bucket)?;
+        for at in 0..9 {
+            assert_eq!(rt; chosen[at], Some(4 * bucket + at as u64 % 4));
+        }
+        assert_eq!(rt; chosen[9], None);
+    }
+    Ok(())
+}

@@ -1,0 +1,259 @@
+//! Rows and the words that spell them.
+
+use dc_names::{Kind, Name};
+use dc_plain::{Key, Label};
+use dc_row::{
+    EMPTY_ROW, ROW_WORDS, Row, RowLabel, RowText, counts_tell_nothing, decode,
+    empty_row_spells_nothing, encode, kind, length, number, rows_have_one_spelling, spelled_text,
+    tag, target, tells_of, text_in, text_of, value, words_have_the_fact_they_spell,
+    words_spell_one_row,
+};
+
+/// Whether the row is spelled by these words, whatever the sequence count is.
+fn is_spelled_by(row: &Row, words: &[u64; ROW_WORDS]) -> bool {
+    match encode(row) {
+        Some(spelled) => spelled[1..] == words[1..],
+        None => false,
+    }
+}
+
+/// Whether the words spell nothing, or a row that is spelled by just them.
+fn is_nothing_or_spelled(words: &[u64; ROW_WORDS]) -> bool {
+    match decode(words) {
+        Some(row) => is_spelled_by(&row, words),
+        None => true,
+    }
+}
+
+fn named(dir: u64, name: &[u8], target: Option<(u64, Kind)>) -> Option<Row> {
+    Some(Row::Entry(dir, RowLabel::Name(RowText::of(name)?), target))
+}
+
+fn linked(number: u64, text: &[u8]) -> Option<Row> {
+    Some(Row::Link(number, RowText::of(text)?))
+}
+
+const EXAMPLES: [[u64; 8]; 5] = [
+    [0, 16777985, 1, 2, 7500661, 0, 0, 0],
+    [0, 257, 1, 0, 120, 0, 0, 0],
+    [0, 16777729, 2, 1, 11822, 0, 0, 0],
+    [0, 770, 4, 0, 6565678, 0, 0, 0],
+    [0, 0, 0, 0, 0, 0, 0, 0],
+];
+
+fn example(at: usize) -> Option<Row> {
+    match at {
+        0 => named(1, b"usr", Some((2, Kind::Dir))),
+        1 => named(1, b"x", None),
+        2 => Some(Row::Entry(2, RowLabel::DotDot, Some((1, Kind::Dir)))),
+        3 => linked(4, b"./d"),
+        _ => Some(Row::Empty),
+    }
+}
+
+fn words_of(at: usize) -> Option<[u64; ROW_WORDS]> {
+    encode(&example(at)?)
+}
+
+#[test]
+fn spells_the_examples(rt: HostRuntime) {
+    for at in 0..5 {
+        assert_eq!(rt; words_of(at), Some(EXAMPLES[at]));
+        assert_eq!(rt; decode(&EXAMPLES[at]), example(at));
+        words_spell_one_row(&EXAMPLES[at]);
+    }
+    assert_eq!(rt; decode(&EMPTY_ROW), Some(Row::Empty));
+    rows_have_one_spelling();
+    words_have_the_fact_they_spell();
+    counts_tell_nothing();
+    empty_row_spells_nothing();
+}
+
+/// What the words say of a directory's entry, or of its dot-dot, if they are of it.
+fn sought(words: &[u64], dir: u64, name: &[u8]) -> Option<Option<(u64, Kind)>> {
+    let label = match Name::new(name) {
+        Some(name) => Label::Name(name),
+        None => Label::DotDot,
+    };
+    if tells_of(words, Key { number: dir, label }) {
+        Some(target(words))
+    } else {
+        None
+    }
+}
+
+#[test]
+fn finds_entries_by_their_words(rt: HostRuntime) {
+    let cases: [(usize, u64, &[u8], Option<Option<(u64, Kind)>>); 11] = [
+        (0, 1, b"usr", Some(Some((2, Kind::Dir)))),
+        (0, 2, b"usr", None),
+        (0, 1, b"us", None),
+        (0, 1, b"usx", None),
+        (0, 1, b"..", None),
+        (1, 1, b"x", Some(None)),
+        (1, 1, &[b'x'; 33], None),
+        (2, 2, b"..", Some(Some((1, Kind::Dir)))),
+        (2, 1, b"..", None),
+        (3, 4, b"./d", None),
+        (4, 0, b"..", None),
+    ];
+    for (at, dir, name, want) in cases {
+        assert_eq!(rt; sought(&EXAMPLES[at], dir, name), want);
+    }
+    assert_eq!(rt; sought(&EXAMPLES[0][..7], 1, b"usr"), None);
+}
+
+#[test]
+fn finds_texts_by_their_words(rt: HostRuntime) {
+    let cases = [(3, 4, true), (3, 3, false), (0, 1, false), (4, 0, false)];
+    for (at, number, want) in cases {
+        let label = Label::Text;
+        assert_eq!(rt; tells_of(&EXAMPLES[at], Key { number, label }), want);
+    }
+    assert_eq!(rt; text_in(&EXAMPLES[0]), RowText::of(b"usr"));
+    assert_eq!(rt; text_in(&EXAMPLES[0][..7]), None);
+    assert_eq!(rt; text_sought(&EXAMPLES[3][..7]), None);
+    assert_eq!(rt; text_of(&EXAMPLES[3][..7]), None);
+}
+
+/// The text of link 4, if the words spell it.
+fn text_sought(words: &[u64]) -> Option<RowText> {
+    let label = Label::Text;
+    if tells_of(words, Key { number: 4, label }) {
+        Some(spelled_text(words))
+    } else {
+        None
+    }
+}
+
+#[test]
+fn reads_texts_from_their_words(rt: HostRuntime) {
+    const FULL: u64 = 0x6161616161616161;
+    let cases: [([u64; 5], Option<&[u8]>); 13] = [
+        ([2 + 256 * 3, 6565678, 0, 0, 0], Some(b"./d")),
+        ([2 + 256, 47, 0, 0, 0], Some(b"/")),
+        ([2 + 256 * 9, FULL, 97, 0, 0], Some(&[b'a'; 9])),
+        ([2 + 256 * 32, FULL, FULL, FULL, FULL], Some(&[b'a'; 32])),
+        // No byte, more than a row has room for, a zero byte in the text.
+        ([2, 0, 0, 0, 0], None),
+        ([2 + 256 * 33, FULL, FULL, FULL, FULL], None),
+        ([2 + 256 * 3, 6553646, 0, 0, 0], None),
+        ([2 + 256 * 32, FULL, FULL, FULL, FULL >> 8], None),
+        // A byte after the text, at once or later.
+        ([2 + 256 * 2, 6565678, 0, 0, 0], None),
+        ([2 + 256 * 3, 6565678, 0, 0, 1 << 56], None),
+        // An entry, a text of some kind, and one with a higher byte in its head.
+        ([1 + 256 * 3, 6565678, 0, 0, 0], None),
+        ([2 + 256 * 3 + (1 << 24), 6565678, 0, 0, 0], None),
+        ([2 + 256 * 3 + (1 << 63), 6565678, 0, 0, 0], None),
+    ];
+    for ([head, a, b, c, d], want) in cases {
+        let text = text_sought(&[7, head, 4, 0, a, b, c, d]);
+        assert_eq!(rt; text, want.and_then(RowText::of), "at {head}");
+        assert_eq!(rt; text_of(&[7, head, 4, 0, a, b, c, d]), text, "at {head}");
+        assert_eq!(rt; text_sought(&[7, head, 4, 1, a, b, c, d]), None);
+    }
+}
+
+#[test]
+fn finds_entries_under_any_count(rt: HostRuntime) {
+    let mut words = EXAMPLES[0];
+    words[0] = u64::MAX;
+    assert_eq!(rt; sought(&words, 1, b"usr"), Some(Some((2, Kind::Dir))));
+}
+
+#[test]
+fn reads_the_fields(rt: HostRuntime) {
+    let words = EXAMPLES[0];
+    assert_eq!(rt; (tag(&words), length(&words), kind(&words)), (1, 3, 1));
+    assert_eq!(rt; (number(&words), value(&words)), (1, 2));
+}
+
+#[test]
+fn refuses_what_has_no_spelling(rt: HostRuntime) {
+    let rows = [
+        named(0, b"x", None),
+        named(1, b"x", Some((0, Kind::File))),
+        named(1, b"..", None),
+        named(1, b"a/b", None),
+        Some(Row::Entry(2, RowLabel::DotDot, Some((1, Kind::File)))),
+        linked(0, b"a"),
+        linked(4, b""),
+        linked(4, b"a\0"),
+    ];
+    for row in rows.iter() {
+        assert!(rt; row.is_some());
+        if let Some(row) = row {
+            assert!(rt; encode(row).is_none());
+        }
+    }
+    assert!(rt; RowText::of(&[b'a'; 33]).is_none());
+}
+
+#[test]
+fn spells_nothing_with_a_byte_after_the_text(rt: HostRuntime) {
+    let mut words = EXAMPLES[1];
+    words[5] = 1;
+    assert!(rt; decode(&words).is_none());
+}
+
+#[test]
+fn spells_with_one_bit_turned_just_what_is_read(rt: HostRuntime) {
+    for words in EXAMPLES {
+        for at in 1..ROW_WORDS {
+            for bit in 0..64u32 {
+                let mut turned = words;
+                turned[at] ^= 1u64 << bit;
+                assert!(rt; is_nothing_or_spelled(&turned));
+            }
+        }
+    }
+}
+
+/// The next number of a fixed sequence.
+fn next(seed: u64) -> u64 {
+    seed.wrapping_mul(6364136223846793005)
+        .wrapping_add(1442695040888963407)
+}
+
+/// Eight letters, of which the first `used` stand.
+fn letters(seed: u64, used: u64) -> u64 {
+    let all = (seed | 0x4040404040404040) & 0x7f7f7f7f7f7f7f7f;
+    if used == 0 {
+        0
+    } else if used < 8 {
+        all & (u64::MAX >> (64 - 8 * used))
+    } else {
+        all
+    }
+}
+
+/// Words such as a row has, where the text is now and then longer than its length.
+fn likely(seed: u64) -> [u64; ROW_WORDS] {
+    let len = seed % 40;
+    let mut left = len + seed / 5400 % 2;
+    let mut words = [0; ROW_WORDS];
+    words[1] = seed / 40 % 3 + 256 * len + 16777216 * (seed / 120 % 5);
+    words[2] = seed / 600 % 3;
+    words[3] = seed / 1800 % 3;
+    for word in words[4..].iter_mut() {
+        *word = letters(next(seed), left);
+        left = left.saturating_sub(8);
+    }
+    words
+}
+
+#[test]
+fn spells_at_random_just_what_is_read(rt: HostRuntime) {
+    let mut seed = 1;
+    let mut rows: u64 = 0;
+    for _ in 0..20000 {
+        seed = next(seed);
+        let words = likely(seed >> 20);
+        assert!(rt; is_nothing_or_spelled(&words));
+        if decode(&words).is_some() {
+            rows = rows.wrapping_add(1);
+        }
+    }
+    assert!(rt; rows > 100);
+}

@@ -1,0 +1,160 @@
+//! Changes in one thread and in four, and rows that are pinned, unpinned and emptied.
+
+ghost use Rattle.std.specs.Thread.{IsSync};
+ghost use Rattle.dc_table.specs.Passes.{Fits, IsIdle};
+
+use crate::calls::{create, mkdir};
+use dc_plain::{Call, Key, Label, Reply};
+use dc_rows::{Guard, change, pin, shrink, unpin_all};
+use dc_store::Store;
+use dc_table::{Pass, Shared};
+use std::alloc::Global;
+use std::sync::Wait;
+use std::test::Fail;
+use std::thread::{Threads, join};
+
+#[test]
+fn changes_are_answered_at_their_points(rt: HostRuntime) -> Result<(), Fail> {
+    let (shared, mut p) = Shared::new(rt.alloc(), 1, 16).expect(&rt, "memory");
+    let unlink = Call::Unlink {
+        base: 1,
+        path: b"/a",
+    };
+    let rmdir = Call::Rmdir {
+        base: 1,
+        path: b"/a",
+    };
+    let made = change(&shared, &rt, rt.alloc(), &mut p, &mkdir(b"/a"));
+    assert!(rt; matches!(made, Ok((Reply::Done(2), 0))));
+    let again = change(&shared, &rt, rt.alloc(), &mut p, &mkdir(b"/a"));
+    assert!(rt; matches!(again, Ok((Reply::Refused(17), 1))));
+    let unlinked = change(&shared, &rt, rt.alloc(), &mut p, &unlink);
+    assert!(rt; matches!(unlinked, Ok((Reply::Refused(1), 1))));
+    let removed = change(&shared, &rt, rt.alloc(), &mut p, &rmdir);
+    assert!(rt; matches!(removed, Ok((Reply::Unit, 1))));
+    let q = shared.split(&mut p);
+    shared.join(&mut p, q);
+    let value = shared.close(p).expect(&rt, "the lock is free");
+    assert!(rt; value.clock == 2 && value.store.live() == 1);
+    Ok(())
+}
+
+/// Creates a hundred files whose names begin with this letter, and returns the pass.
+fn fill<R: Wait>(rt: &R, alloc: Global, shared: &Shared, mut pass: Pass, letter: u8) -> Pass
+    requires { Fits shared.now pass × IsIdle pass }
+    ensures { Fits shared.now result × IsIdle result }
+{
+    for tens in b'0'..=b'9' {
+        for ones in b'0'..=b'9' {
+            let path = [b'/', letter, tens, ones];
+            // A refusal shows in the count of what lives in the end.
+            let _ = change(shared, rt, alloc, &mut pass, &create(&path));
+        }
+    }
+    pass
+}
+
+/// Two passes fill the table in two threads.
+fn fill_both<R: Threads + Wait + Sync>(
+    rt: &R,
+    alloc: Global,
+    table: &Shared,
+    a: Pass,
+    b: Pass,
+    first: u8,
+    second: u8,
+) -> (Pass, Pass)
+    requires a { Fits table.now a × IsIdle a }
+    requires b { Fits table.now b × IsIdle b }
+    requires sync { IsSync R.row }
+    ensures a { Fits table.now result.0 × IsIdle result.0 }
+    ensures b { Fits table.now result.1 × IsIdle result.1 }
+{
+    join(
+        rt,
+        move || -> Pass
+            requires { Fits table.now a × IsIdle a }
+            ensures { Fits table.entry.now result × IsIdle result }
+        { fill(rt, alloc, table, a, first) },
+        move || -> Pass
+            requires { Fits table.now b × IsIdle b }
+            ensures { Fits table.entry.now result × IsIdle result }
+        { fill(rt, alloc, table, b, second) },
+    )
+}
+
+#[test]
+fn four_threads_fill_one_table(rt: HostRuntime) -> Result<(), Fail> {
+    let (shared, mut p) = Shared::new(rt.alloc(), 16, 1024).expect(&rt, "memory");
+    let a = shared.split(&mut p);
+    let b = shared.split(&mut p);
+    let c = shared.split(&mut p);
+    let d = shared.split(&mut p);
+    let table = &shared;
+    let alloc = rt.alloc();
+    let ((a, b), (c, d)) = join(
+        &rt,
+        move || -> (Pass, Pass)
+            requires a { Fits table.now a × IsIdle a }
+            requires b { Fits table.now b × IsIdle b }
+            ensures a { Fits table.entry.now result.0 × IsIdle result.0 }
+            ensures b { Fits table.entry.now result.1 × IsIdle result.1 }
+        { fill_both(&rt, alloc, table, a, b, b'a', b'b') },
+        move || -> (Pass, Pass)
+            requires c { Fits table.now c × IsIdle c }
+            requires d { Fits table.now d × IsIdle d }
+            ensures c { Fits table.entry.now result.0 × IsIdle result.0 }
+            ensures d { Fits table.entry.now result.1 × IsIdle result.1 }
+        { fill_both(&rt, alloc, table, c, d, b'c', b'd') },
+    );
+    shared.join(&mut p, a);
+    shared.join(&mut p, b);
+    shared.join(&mut p, c);
+    shared.join(&mut p, d);
+    let value = shared.close(p).expect(&rt, "the lock is free");
+    assert!(rt; value.clock == 400 && value.store.live() == 401);
+    Ok(())
+}
+
+#[test]
+fn a_row_is_pinned_until_it_is_unpinned(rt: HostRuntime) -> Result<(), Fail> {
+    let (shared, mut p) = Shared::new(rt.alloc(), 1, 16).expect(&rt, "memory");
+    let root = Key {
+        number: 1,
+        label: Label::DotDot,
+    };
+    let pinned = pin(&shared, &rt, rt.alloc(), &mut p, &root).expect(&rt, "memory");
+    assert!(rt; pinned == Some(0));
+    let kept = shrink(&shared, &rt, &mut p, 4);
+    assert!(rt; kept == 0);
+    unpin_all(&shared, &rt, &mut p, &[0]);
+    let emptied = shrink(&shared, &rt, &mut p, 4);
+    assert!(rt; emptied == 1);
+    Ok(())
+}
+
+#[test]
+fn a_guard_shows_the_tree(rt: HostRuntime) -> Result<(), Fail> {
+    let (shared, mut p) = Shared::new(rt.alloc(), 1, 16).expect(&rt, "memory");
+    let mut guard = match Guard::try_lock(&shared, &mut p) {
+        Ok(guard) => guard,
+        Err(_back) => panic!(rt; "the lock is free"),
+    };
+    let root = Key {
+        number: 1,
+        label: Label::DotDot,
+    };
+    let row = guard.fill(rt.alloc(), &root).expect(&rt, "memory");
+    assert!(rt; row == Some(0));
+    assert!(rt; guard.store().live() == 1 && guard.clock() == 0);
+    guard.unpin(0);
+    guard.give();
+    let mut guard = Guard::lock(&shared, &rt, &mut p);
+    let row = guard.pin(rt.alloc(), &root).expect(&rt, "memory");
+    assert!(rt; row == Some(0));
+    guard.unpin_all(&[0]);
+    assert!(rt; guard.shrink(1) == 1);
+    let (_back, made) = guard.change(rt.alloc(), &mkdir(b"/a"));
+    assert!(rt; matches!(made, Ok((Reply::Done(2), 0))));
+    Ok(())
+}

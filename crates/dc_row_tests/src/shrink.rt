@@ -1,0 +1,139 @@
+//! The order of use and the pins, call by call.
+
+ghost use Rattle.std.specs.Prelude.{◌≡◌, ◌<◌, [], IsTrue, IfOk, OnOk, not, true};
+ghost use Rattle.std.specs.FinMap as map;
+ghost use Rattle.dc_shrink.specs.Listings.{listing, added, pinned_once, is_used, pins_of};
+ghost use Rattle.dc_shrink.specs.Uses.{KeepsUse, SetsUse, UsesNone};
+
+use dc_names::NoMemory;
+use dc_shrink::{PinFault, Shrinker};
+use std::alloc::Global;
+use std::test::*;
+
+// The calls that take memory are made once more where it was refused, if nothing changed by that.
+// So the tests of rows pass whichever allocation `rt try --test --fail-alloc N` refuses.
+
+pub(crate) fn new_again(alloc: Global, rows: u64) -> Result<Shrinker, NoMemory>
+    requires { 0 < rows }
+    ensures new { IfOk result (λ s. s ≡ listing rows [] map.empty) }
+    ensures rows { IfOk result (λ s. s.rows ≡ rows) }
+    ensures unused { IfOk result UsesNone }
+{
+    match Shrinker::new(alloc, rows) {
+        Ok(made) => Ok(made),
+        Err(NoMemory) => Shrinker::new(alloc, rows),
+    }
+}
+
+pub(crate) fn add_again(rows: &mut Shrinker, row: u64) -> Result<(), NoMemory>
+    requires within { row < rows.old.rows }
+    requires unused { IsTrue (not (is_used rows.old row)) }
+    ensures first { OnOk result (rows.new ≡ added rows.old row) }
+    ensures used { OnOk result (SetsUse row true rows.old rows.new) }
+    ensures rows { OnOk result (rows.new.rows ≡ rows.old.rows) }
+{
+    let victims = (rows.victim(), rows.victim_of(row / 4));
+    match rows.add(row) {
+        Ok(()) => Ok(()),
+        Err(NoMemory) => {
+            if victims != (rows.victim(), rows.victim_of(row / 4)) {
+                return Err(NoMemory);
+            }
+            rows.add(row)
+        }
+    }
+}
+
+pub(crate) fn pin_again(rows: &mut Shrinker, row: u64) -> Result<(), PinFault>
+    requires { IsTrue (is_used rows.old row) }
+    ensures pinned { OnOk result (rows.new ≡ pinned_once rows.old row) }
+    ensures same_use { KeepsUse rows.old rows.new }
+    ensures rows { OnOk result (rows.new.rows ≡ rows.old.rows) }
+{
+    let (pins, victim) = (rows.pins(row), rows.victim());
+    match rows.pin(row) {
+        Err(PinFault::NoMemory) => {
+            if (pins, victim) != (rows.pins(row), rows.victim()) {
+                return Err(PinFault::NoMemory);
+            }
+            rows.pin(row)
+        }
+        Ok(()) => Ok(()),
+        Err(PinFault::Most) => Err(PinFault::Most),
+    }
+}
+
+/// Takes the row's only pin. Where it could not be listed it is out of use, and is added.
+fn unpin_again(rows: &mut Shrinker, row: u64) -> Result<(), NoMemory>
+    requires within { row < rows.old.rows }
+    requires pinned { 0 < pins_of rows.old row }
+{
+    let victim = rows.victim();
+    match rows.unpin(row) {
+        Ok(()) => Ok(()),
+        Err(NoMemory) => {
+            if rows.pins(row) != 0 || rows.victim() != victim {
+                return Err(NoMemory);
+            }
+            rows.add(row)
+        }
+    }
+}
+
+#[test]
+fn least_recently_used_goes_first(rt: HostRuntime) -> Result<(), Fail> {
+    let mut rows = new_again(rt.alloc(), 4)?;
+    assert_eq!(rt; rows.victim(), None);
+    add_again(&mut rows, 0)?;
+    add_again(&mut rows, 1)?;
+    add_again(&mut rows, 2)?;
+    rows.touch(0);
+    assert_eq!(rt; rows.victim(), Some(1));
+    pin_again(&mut rows, 1)?;
+    assert_eq!(rt; rows.pins(1), 1);
+    assert_eq!(rt; rows.victim(), Some(2));
+    unpin_again(&mut rows, 1)?;
+    assert_eq!(rt; rows.pins(1), 0);
+    assert_eq!(rt; rows.victim_of(0), Some(2));
+    assert_eq!(rt; rows.victim_of(1), None);
+    rows.remove(2);
+    assert_eq!(rt; rows.victim(), Some(0));
+    rows.remove(0);
+    assert_eq!(rt; rows.victim(), Some(1));
+    Ok(())
+}
+
+/// Whether the last pin of a row that goes lists the row.
+fn last_unpin_lists(alloc: Global) -> Result<bool, PinFault> {
+    let mut rows = new_again(alloc, 8)?;
+    add_again(&mut rows, 7)?;
+    pin_again(&mut rows, 7)?;
+    if rows.pins(7) != 1 {
+        return Ok(false);
+    }
+    let listed = rows.unpin(7).is_ok();
+    Ok(listed && rows.victim_of(1) == Some(7))
+}
+
+// At most one allocation is refused in a run: one of two rows is listed for certain.
+#[test]
+fn unpinned_rows_are_listed(rt: HostRuntime) -> Result<(), Fail> {
+    let first = last_unpin_lists(rt.alloc())?;
+    let second = last_unpin_lists(rt.alloc())?;
+    assert!(rt; first || second);
+    Ok(())
+}
+
+#[test]
+fn faults_have_texts(rt: HostRuntime) -> Result<(), Fail> {
+    let alloc = rt.alloc();
+    assert_eq!(rt;
+        format!(in alloc; "{}", PinFault::NoMemory)?.as_str(),
+        "no memory"
+    );
+    assert_eq!(rt;
+        format!(in alloc; "{}", PinFault::Most)?.as_str(),
+        "too many pins"
+    );
+    Ok(())
+}

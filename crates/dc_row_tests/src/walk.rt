@@ -1,0 +1,158 @@
+//! Look-ups over a table whose rows are filled, emptied and changed.
+
+ghost use Rattle.dc_ops.specs.Asked.{IsChange};
+ghost use Rattle.dc_walk.specs.Findings.{CanWalk};
+
+mod by_hand;
+mod causes;
+mod pinned;
+mod probe;
+mod spoiled;
+
+use crate::calls::{mkdir, rename};
+use dc_names::{Kind, Name, parse};
+use dc_plain::{Call, Follow, Key, Label, Reply};
+use dc_rows::{change as make, pin, shrink, unpin_all};
+use dc_table::{Pass, Shared};
+use dc_walk::{Fast, Look, Room, Why, walk_counted, walk_fast};
+use std::alloc::Global;
+use std::sync::Wait;
+use std::test::Fail;
+
+/// The question of a path from the root, or `None` where the text is no path.
+fn from_root(text: &[u8]) -> Option<Look<'_>> {
+    Some(Look {
+        base: 1,
+        path: parse(text).ok()?,
+        follow: Follow::Yes,
+    })
+}
+
+/// What the fast walk of a path from the root comes to, or `None` where the text is no path.
+fn look(shared: &Shared, pass: &mut Pass, text: &[u8]) -> Option<Fast>
+    requires { CanWalk shared.now pass.old }
+    ensures { CanWalk shared.now pass.new }
+{
+    Some(walk_fast(shared.reader(), pass, &mut Room::new(), from_root(text)?))
+}
+
+/// What the walk that fills and pins rows comes to for a path from the root, or `None` where the text
+/// is no path.
+fn count<R: Wait>(
+    rt: &R,
+    alloc: Global,
+    shared: &Shared,
+    pass: &mut Pass,
+    text: &[u8],
+) -> Option<Fast>
+    requires { CanWalk shared.now pass.old }
+    ensures { CanWalk shared.now pass.new }
+{
+    let look = from_root(text)?;
+    Some(walk_counted(shared, rt, alloc, pass, &mut Room::new(), look))
+}
+
+/// What a change is answered, and at which point, or `None` without memory.
+fn change<R: Wait>(
+    rt: &R,
+    alloc: Global,
+    shared: &Shared,
+    pass: &mut Pass,
+    call: &Call<'_>,
+) -> Option<(Reply, u64)>
+    requires { CanWalk shared.now pass.old × IsChange call.now }
+    ensures { CanWalk shared.now pass.new }
+{
+    make(shared, rt, alloc, pass, call).ok()
+}
+
+/// Whether a path was answered so after so many changes.
+fn is_answered(found: &Option<Fast>, reply: &Reply, at: u64) -> bool {
+    match found {
+        Some(Fast::Done(stamped)) => stamped.at == at && stamped.reply == *reply,
+        _ => false,
+    }
+}
+
+/// Whether a path led to the root after so many changes.
+fn is_root_at(found: &Option<Fast>, at: u64) -> bool {
+    is_answered(found, &Reply::Found(1, Kind::Dir), at)
+}
+
+#[test]
+fn empty_rows_answer_no_question(rt: HostRuntime) -> Result<(), Fail> {
+    let (shared, mut p) = Shared::new(rt.alloc(), 1, 16).expect(&rt, "memory");
+    for text in [b"/z".as_slice(), b"/a/z", b"//./z/", b"z", b"..//../z"] {
+        let found = look(&shared, &mut p, text);
+        assert!(rt; matches!(found, Some(Fast::Again(Why::Miss(0)))));
+    }
+    Ok(())
+}
+
+#[test]
+fn the_root_asks_no_question(rt: HostRuntime) -> Result<(), Fail> {
+    let (shared, mut p) = Shared::new(rt.alloc(), 1024, 16).expect(&rt, "memory");
+    for text in [b"/".as_slice(), b".", b"..", b"/../.", b"///"] {
+        assert!(rt; is_root_at(&look(&shared, &mut p, text), 0));
+    }
+    Ok(())
+}
+
+#[test]
+fn the_point_is_the_clock(rt: HostRuntime) -> Result<(), Fail> {
+    let (shared, mut p) = Shared::new(rt.alloc(), 1, 16).expect(&rt, "memory");
+    let made = make(&shared, &rt, rt.alloc(), &mut p, &mkdir(b"/a"));
+    assert!(rt; matches!(made, Ok((Reply::Done(2), 0))));
+    assert!(rt; is_root_at(&look(&shared, &mut p, b"/"), 1));
+    let found = look(&shared, &mut p, b"/a");
+    assert!(rt; matches!(found, Some(Fast::Again(Why::Miss(0)))));
+    Ok(())
+}
+
+#[test]
+fn a_name_without_room_is_long(rt: HostRuntime) -> Result<(), Fail> {
+    let (shared, mut p) = Shared::new(rt.alloc(), 1, 16).expect(&rt, "memory");
+    let mut text = [b'n'; 34];
+    text[0] = b'/';
+    let found = look(&shared, &mut p, &text);
+    assert!(rt; matches!(found, Some(Fast::Again(Why::Long))));
+    let found = look(&shared, &mut p, &text[..33]);
+    assert!(rt; matches!(found, Some(Fast::Again(Why::Miss(0)))));
+    Ok(())
+}
+
+/// The key of a name in the root.
+fn in_root(name: &[u8]) -> Option<Key<'_>> {
+    Some(Key {
+        number: 1,
+        label: Label::Name(Name::new(name)?),
+    })
+}
+
+/// Rows that were filled answer, what is there and what is not, and a change turns them.
+#[test]
+fn filled_rows_answer(rt: HostRuntime) -> Result<(), Fail> {
+    let (shared, mut p) = Shared::new(rt.alloc(), 1, 16).expect(&rt, "memory");
+    let made = make(&shared, &rt, rt.alloc(), &mut p, &mkdir(b"/a"));
+    assert!(rt; matches!(made, Ok((Reply::Done(2), 0))));
+    let a = in_root(b"a").expect(&rt, "a name");
+    let b = in_root(b"b").expect(&rt, "a name");
+    assert!(rt; matches!(pin(&shared, &rt, rt.alloc(), &mut p, &a), Ok(Some(0))));
+    assert!(rt; matches!(pin(&shared, &rt, rt.alloc(), &mut p, &b), Ok(Some(1))));
+    unpin_all(&shared, &rt, &mut p, &[0, 1]);
+    let found = look(&shared, &mut p, b"/a");
+    assert!(rt; is_answered(&found, &Reply::Found(2, Kind::Dir), 1));
+    let found = look(&shared, &mut p, b"/b");
+    assert!(rt; is_answered(&found, &Reply::Refused(2), 1));
+    let moved = make(&shared, &rt, rt.alloc(), &mut p, &rename(b"/a", b"/b"));
+    assert!(rt; matches!(moved, Ok((Reply::Unit, 1))));
+    let found = look(&shared, &mut p, b"/a");
+    assert!(rt; is_answered(&found, &Reply::Refused(2), 2));
+    let found = look(&shared, &mut p, b"/b");
+    assert!(rt; is_answered(&found, &Reply::Found(2, Kind::Dir), 2));
+    assert!(rt; shrink(&shared, &rt, &mut p, 4) == 2);
+    let found = look(&shared, &mut p, b"/a");
+    assert!(rt; matches!(found, Some(Fast::Again(Why::Miss(0)))));
+    assert!(rt; shared.learn(&mut p) == 2);
+    Ok(())
+}

@@ -1,0 +1,2 @@
+-- The table that answers the walks under test.
+pub mod Tables

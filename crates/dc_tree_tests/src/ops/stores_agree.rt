@@ -1,0 +1,119 @@
+//! Both stores and the slow machine answer a long list of calls alike.
+use super::answered;
+use crate::calls::{
+    create, exchange, link, list, look, mkdir, readlink, rename, rmdir, stat, symlink, unlink,
+};
+use dc_names::NoMemory;
+use dc_plain::{Call, PlainTree, Reply};
+use dc_store::{MapStore, SlabStore, Store};
+use std::alloc::Global;
+use std::test::Fail;
+
+/// Paths of few names, so that calls meet what others left. Some end in a slash, some lead through links.
+const PATHS: [&[u8]; 16] = [
+    b"/a", b"/b", b"/c", b"/a/b", b"/a/c", b"/b/a", b"/b/c", b"/c/a", b"/c/b", b"/a/b/c", b"/b/a/",
+    b"/l", b"/l/a", b"/a/../c", b"l", b"/c/./b",
+];
+
+/// The next number of a fixed row in which none seems to follow from the one before.
+fn drawn(number: u32) -> u32 {
+    number.wrapping_mul(1_664_525).wrapping_add(1_013_904_223)
+}
+
+/// One of the paths.
+fn path_of(number: u32) -> &'static [u8] {
+    PATHS[(number >> 24) as usize % PATHS.len()]
+}
+
+/// A call of one of the eleven kinds.
+fn call_of(number: u32) -> Call<'static> {
+    let (path, other) = (path_of(number), path_of(drawn(number)));
+    match (number >> 12) % 14 {
+        0 | 11 => mkdir(path),
+        1 | 12 => create(path),
+        2 => link(other, path),
+        3 => symlink(other, path),
+        4 => unlink(path),
+        5 => rmdir(path),
+        6 | 13 => rename(other, path),
+        7 => look(path),
+        8 => stat(path),
+        9 => readlink(path),
+        _ => list(path),
+    }
+}
+
+/// How often each kind of reply came: found, done, unit, texts, names, counts, refusals.
+fn counted(seen: &mut [u32; 7], reply: &Reply) {
+    let kind = match reply {
+        Reply::Found(_, _) => 0,
+        Reply::Done(_) => 1,
+        Reply::Unit => 2,
+        Reply::Text(_) => 3,
+        Reply::Names(_) => 4,
+        Reply::Stat(_, _, _) => 5,
+        Reply::Refused(_) => 6,
+    };
+    seen[kind] = seen[kind].saturating_add(1);
+}
+
+/// The three that are asked.
+#[derive(Drop)]
+struct Three {
+    map: MapStore,
+    slab: SlabStore,
+    plain: PlainTree,
+}
+
+impl Three {
+    fn new(alloc: Global) -> Result<Three, NoMemory> {
+        Ok(Three {
+            map: MapStore::new(alloc)?,
+            slab: SlabStore::new(alloc)?,
+            plain: PlainTree::new(alloc, 16)?,
+        })
+    }
+
+    /// The reply of all three, where they are equal.
+    fn answer(&mut self, alloc: Global, call: &Call) -> Result<Option<Reply>, NoMemory> {
+        let wanted = self.plain.apply(alloc, call)?;
+        let by_map = answered(alloc, &mut self.map, call)?;
+        let by_slab = answered(alloc, &mut self.slab, call)?;
+        Ok((by_map == wanted && by_slab == wanted).then_some(wanted))
+    }
+}
+
+#[test]
+fn stores_answer_alike(rt: HostRuntime) -> Result<(), Fail> {
+    let mut three = Three::new(rt.alloc())?;
+    let mut seen = [0; 7];
+    let mut number = 7;
+    for _ in 0..1000 {
+        number = drawn(number);
+        let Some(reply) = three.answer(rt.alloc(), &call_of(number))? else {
+            panic!(rt; "two replies differ");
+        };
+        counted(&mut seen, &reply);
+    }
+    // Every kind of reply came, and twice as many inodes were made as may live, so slab keys were used again.
+    assert!(rt; seen.iter().all(|times| *times >= 10));
+    assert!(rt; three.slab.next() > 32);
+    Ok(())
+}
+
+/// After every two other calls comes an exchange of two of the paths.
+#[test]
+fn stores_exchange_alike(rt: HostRuntime) -> Result<(), Fail> {
+    let mut three = Three::new(rt.alloc())?;
+    let mut number = 7;
+    for step in 0..900 {
+        number = drawn(number);
+        let call = if step % 3 == 2 {
+            exchange(path_of(number), path_of(drawn(number)))
+        } else {
+            call_of(number)
+        };
+        assert!(rt; three.answer(rt.alloc(), &call)?.is_some(), "step {step}");
+    }
+    Ok(())
+}
