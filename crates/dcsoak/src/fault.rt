@@ -1,7 +1,6 @@
 //! Why the program ends otherwise than well.
 
 use clap::error::ErrorKind;
-use dc_cache::MakeFault;
 use dc_names::NoMemory;
 use std::alloc::{AllocError, AllocFailed};
 use std::io;
@@ -46,12 +45,6 @@ impl Fault {
 impl From<clap::Error> for Fault {
     fn from(error: clap::Error) -> Fault {
         Fault::Words(error)
-    }
-}
-
-impl From<MakeFault> for Fault {
-    fn from(_fault: MakeFault) -> Fault {
-        Fault::NoMemory
     }
 }
 
