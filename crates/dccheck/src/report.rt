@@ -1,7 +1,7 @@
 //! What the program says of a record, as text and as JSON.
 
 use crate::counts::Counts;
-use serde_json::json;
+use serde_json::{Map, Value, put};
 use std::alloc::{AllocError, Global};
 
 /// A line of the replies, and its command.
@@ -60,6 +60,26 @@ fn text_of(alloc: Global, line: &[u8]) -> Result<String, AllocError> {
     String::from_utf8_lossy(alloc, line.strip_suffix(b"\n").unwrap_or(line))
 }
 
+/// A line of JSON: texts and numbers by their names.
+pub fn json_line(
+    alloc: Global,
+    texts: &[(&str, &str)],
+    numbers: &[(&str, u64)],
+) -> Result<Vec<u8>, AllocError> {
+    let mut members = Map::new(alloc);
+    for member in texts {
+        let (name, text) = *member;
+        put(&mut members, alloc, name, Value::try_from_str(alloc, text)?)?;
+    }
+    for member in numbers {
+        let (name, number) = *member;
+        put(&mut members, alloc, name, Value::from(number))?;
+    }
+    let mut line = Value::Object(members).to_string(alloc)?.into_bytes();
+    line.push(b'\n')?;
+    Ok(line)
+}
+
 impl Report {
     /// Of a record that is legal.
     pub fn legal(counts: Counts) -> Report {
@@ -105,21 +125,22 @@ impl Report {
     pub fn json(&self, alloc: Global) -> Result<Vec<u8>, AllocError> {
         let (line, reply, command, due) = self.shown(alloc)?;
         let counts = &self.counts;
-        let mut text = json!(in alloc; {
-            "verdict": self.word,
-            "line": line,
-            "reply": reply,
-            "command": command,
-            "due": due,
-            "commands": counts.commands,
-            "replies": counts.replies,
-            "sessions": counts.sessions,
-            "phases": counts.phases,
-            "changes": counts.changes
-        })?
-        .to_string(alloc)?
-        .into_bytes();
-        text.extend_from_slice(b"\n")?;
-        Ok(text)
+        json_line(
+            alloc,
+            &[
+                ("verdict", self.word),
+                ("reply", reply.as_str()),
+                ("command", command.as_str()),
+                ("due", due.as_str()),
+            ],
+            &[
+                ("line", line),
+                ("commands", counts.commands),
+                ("replies", counts.replies),
+                ("sessions", counts.sessions),
+                ("phases", counts.phases),
+                ("changes", counts.changes),
+            ],
+        )
     }
 }
