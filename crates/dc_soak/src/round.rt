@@ -9,7 +9,7 @@ use crate::gate::Gate;
 use crate::replay::{Replay, agree};
 use crate::tally::Tally;
 use crate::threads::{Answers, Job, spread};
-use dc_cache::{Dcache, Ended};
+use dc_cache::{Dcache, Ended, MakeFault};
 use dc_check::{Stamp, Verdict, check};
 use dc_names::NoMemory;
 use std::alloc::Global;
@@ -111,13 +111,16 @@ impl Round {
         BUCKETS.get(self.place).copied().unwrap_or(1)
     }
 
-    /// Makes a cache, has the threads shake it, and closes it.
-    pub fn shake<R: Threads + Wait + Sync>(&self, rt: &R, alloc: Global) -> Result<Shaken, NoMemory>
+    /// Makes a cache, has the threads shake it, and closes it. Its size is right, so that only memory can
+    /// be refused.
+    pub fn shake<R: Threads + Wait + Sync>(
+        &self,
+        rt: &R,
+        alloc: Global,
+    ) -> Result<Shaken, MakeFault>
         requires { IsSync R.row }
     {
-        let Ok((cache, mut pass)) = Dcache::new(alloc, self.buckets(), INODES) else {
-            return Err(NoMemory);
-        };
+        let (cache, mut pass) = Dcache::new(alloc, self.buckets(), INODES)?;
         let gate = Gate::new(self.threads);
         let job = Job {
             alloc,
@@ -147,7 +150,7 @@ impl Round {
             stamps,
             ended,
             tally,
-        } = self.shake(rt, alloc)?;
+        } = self.shake(rt, alloc).map_err(|_| NoMemory)?;
         let wrong = judge(alloc, stamps, ended)?;
         Ok(Played { tally, wrong })
     }

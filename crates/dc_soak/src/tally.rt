@@ -13,7 +13,7 @@ pub const NAMES: [&str; KINDS] = [
 ];
 
 /// How often calls were made, and how they were answered.
-#[derive(Clone, Copy, Default, PartialEq, Eq, Debug)]
+#[derive(Clone, Copy, Default)]
 pub struct Tally {
     /// By kind: the calls, and those of them that were refused.
     pub calls: [u64; KINDS],

@@ -145,7 +145,7 @@ fn race<R: Threads + Wait + Clock + Sync + Print>(
             println!(rt; "wrong answers: {}", row.tally.wrong)?;
             Ok(())
         }
-        style => tell(rt, alloc, &row, style == Style::Json),
+        style => tell(rt, alloc, &row, matches!(style, Style::Json)),
     }
 }
 
@@ -255,7 +255,7 @@ pub fn perform<R: Threads + Wait + Clock + Sync + Print + Files + AllocGlobal>(
             change_by(rt, alloc, change, &up_to(alloc, change.threads)?)
         }
         Task::Race(task) => {
-            head(rt, RACE_HEAD, task.style != Style::Table)?;
+            head(rt, RACE_HEAD, !matches!(task.style, Style::Table))?;
             race(rt, alloc, task)
         }
         Task::Tree(shape) => tree(rt, alloc, *shape),

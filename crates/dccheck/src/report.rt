@@ -32,12 +32,24 @@ pub struct Report {
     pub counts: Counts,
 }
 
+/// Adds some parts to a text.
+pub fn push_all(out: &mut Vec<u8>, parts: &[&[u8]]) -> Result<(), AllocError> {
+    for part in parts {
+        out.extend_from_slice(part)?;
+    }
+    Ok(())
+}
+
 /// Adds a reply and its command.
 fn push_answered(out: &mut Vec<u8>, one: &Answered) -> Result<(), AllocError> {
-    out.extend_from_slice(&one.reply)?;
-    out.extend_from_slice(b", for \"")?;
-    out.extend_from_slice(&one.command)?;
-    out.extend_from_slice(b"\"\n")
+    push_all(out, &[&one.reply, b", for \"", &one.command, b"\"\n"])
+}
+
+/// Adds one of the changes nearest to a line.
+fn push_near(alloc: Global, out: &mut Vec<u8>, one: &Answered) -> Result<(), AllocError> {
+    let head = format!(in alloc; "near {}: ", one.line)?;
+    out.extend_from_slice(head.as_bytes())?;
+    push_answered(out, one)
 }
 
 /// The text of the verdict that a line is bad.
@@ -45,12 +57,10 @@ fn wrong_text(alloc: Global, word: &str, wrong: &Wrong) -> Result<Vec<u8>, Alloc
     let mut out = format!(in alloc; "{word} {}: ", wrong.line.line)?.into_bytes();
     push_answered(&mut out, &wrong.line)?;
     if let Some(due) = &wrong.due {
-        out.extend_from_slice(b"due: ")?;
-        out.extend_from_slice(due)?;
+        push_all(&mut out, &[b"due: ", due])?;
     }
     for one in &wrong.near {
-        out.extend_from_slice(format!(in alloc; "near {}: ", one.line)?.as_bytes())?;
-        push_answered(&mut out, one)?;
+        push_near(alloc, &mut out, one)?;
     }
     Ok(out)
 }
