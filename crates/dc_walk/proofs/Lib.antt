@@ -10,6 +10,3 @@ pub mod Questions
 pub mod Ended
 pub mod Checks
 pub mod ByHand
-pub mod Unasked
-pub mod Runs
-pub mod Blocks
