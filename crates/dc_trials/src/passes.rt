@@ -48,7 +48,6 @@ fn a_cache_has_as_many_buckets_as_the_work_wants(rt: HostRuntime) -> Result<(), 
     Ok(())
 }
 
-/// A look-up that always asks under the lock would leave no row behind.
 #[test]
 fn a_pass_learns_how_far_another_came(rt: HostRuntime) -> Result<(), Fail> {
     let (cache, mut p) = Dcache::new(rt.alloc(), 1, 16).expect(&rt, "memory");
@@ -78,6 +77,18 @@ fn play_alone<R: Wait>(
 ) -> Result<Option<usize>, MakeFault> {
     let (cache, mut p) = Dcache::new(alloc, 1, 16)?;
     Ok(play(rt, alloc, &cache, &mut p, steps))
+}
+
+/// A look-up that always asks under the lock would leave no row behind.
+#[test]
+fn a_look_fills_the_rows_that_it_needs(rt: HostRuntime) -> Result<(), Fail> {
+    let steps = [
+        Step::Change(Act::Mkdir(b"/a"), Reply::Done(2), 0),
+        Step::Look(b"/a", Follow::Yes, Reply::Found(2, Kind::Dir), 1),
+        Step::Fast(b"/a", Reply::Found(2, Kind::Dir), 1),
+    ];
+    assert_eq!(rt; play_alone(&rt, rt.alloc(), &steps), Ok(None));
+    Ok(())
 }
 
 /// A walk by rows that are there is no use of them, so the row of `/a` goes first.
