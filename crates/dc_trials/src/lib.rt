@@ -9,4 +9,6 @@ mod exchanges;
 #[cfg(test)]
 mod sessions;
 #[cfg(test)]
+mod soak;
+#[cfg(test)]
 mod storms;
