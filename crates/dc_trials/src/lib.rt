@@ -17,6 +17,8 @@ mod passes;
 #[cfg(test)]
 mod races;
 #[cfg(test)]
+mod soak;
+#[cfg(test)]
 mod steps;
 #[cfg(test)]
 mod storms;

@@ -5,9 +5,8 @@ ghost use Rattle.dc_names.specs.declared.limits.TheConstants.{MOST_INODES};
 
 use crate::faults::{Fault, File};
 use crate::record::Record;
-use crate::report::Report;
+use crate::report::{Report, json_line, push_all};
 use dc_trace::{Outcome, TraceFault, find_order, read_trace, write_record};
-use serde_json::json;
 use std::alloc::{AllocError, Global};
 
 /// What a trace comes to.
@@ -52,15 +51,6 @@ pub fn explain(alloc: Global, inodes: u64, states: u64, trace: &[u8]) -> Result<
     }
 }
 
-/// A verdict with a line as JSON.
-fn short_json(alloc: Global, verdict: &str, line: u64) -> Result<Vec<u8>, AllocError> {
-    let mut text = json!(in alloc; { "verdict": verdict, "line": line })?
-        .to_string(alloc)?
-        .into_bytes();
-    text.extend_from_slice(b"\n")?;
-    Ok(text)
-}
-
 impl Found {
     /// The status that the program ends with.
     pub fn status(&self) -> u8 {
@@ -76,18 +66,14 @@ impl Found {
         match self {
             Found::Legal(commands, replies, report) => {
                 let mut text = report.text(alloc)?;
-                text.extend_from_slice(b"\n")?;
-                text.extend_from_slice(commands)?;
-                text.extend_from_slice(b"\n")?;
-                text.extend_from_slice(replies)?;
+                push_all(&mut text, &[b"\n", commands, b"\n", replies])?;
                 Ok(text)
             }
             Found::Bad(line) => {
                 let place = (*line as usize).saturating_sub(1);
                 let mut text = format!(in alloc; "bad call {line}: ")?.into_bytes();
                 let said = trace.split(|byte| *byte == b'\n').nth(place);
-                text.extend_from_slice(said.unwrap_or(b""))?;
-                text.extend_from_slice(b"\n")?;
+                push_all(&mut text, &[said.unwrap_or(b""), b"\n"])?;
                 Ok(text)
             }
             Found::Undecided => Vec::from_slice(alloc, b"undecided\n"),
@@ -98,8 +84,8 @@ impl Found {
     pub fn json(&self, alloc: Global) -> Result<Vec<u8>, AllocError> {
         match self {
             Found::Legal(_, _, report) => report.json(alloc),
-            Found::Bad(line) => short_json(alloc, "bad call", *line),
-            Found::Undecided => short_json(alloc, "undecided", 0),
+            Found::Bad(line) => json_line(alloc, &[("verdict", "bad call")], &[("line", *line)]),
+            Found::Undecided => json_line(alloc, &[("verdict", "undecided")], &[("line", 0)]),
         }
     }
 }

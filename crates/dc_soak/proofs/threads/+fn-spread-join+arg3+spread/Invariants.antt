@@ -1,5 +1,5 @@
 use Rattle.std.proofs.Common.{◌+◌, ◌*◌}
-use Rattle.dcsoak.proofs.threads.+fn-spread-join+arg3+spread.Given as goal
+use Rattle.dc_soak.proofs.threads.+fn-spread-join+arg3+spread.Given as goal
 
 abbrev pub decreases-join+arg3 : goal.decreases-join+arg3
 decreases-join+arg3 g l = 2 * l.rest + 1

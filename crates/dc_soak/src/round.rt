@@ -5,12 +5,11 @@ ghost use Rattle.std.specs.Thread.{IsSync};
 ghost use Rattle.dc_check.specs.Stamps.{stamps_of};
 ghost use Rattle.dc_plain.specs.Legal.{IsLegal};
 
-use crate::fault::Fault;
 use crate::gate::Gate;
 use crate::replay::{Replay, agree};
 use crate::tally::Tally;
-use crate::threads::{Job, spread};
-use dc_cache::{Dcache, Ended};
+use crate::threads::{Answers, Job, spread};
+use dc_cache::{Dcache, Ended, MakeFault};
 use dc_check::{Stamp, Verdict, check};
 use dc_names::NoMemory;
 use std::alloc::Global;
@@ -35,9 +34,11 @@ const THREADS: u64 = 15;
 /// The sizes of a round, and what its calls are drawn by.
 #[derive(Clone, Copy)]
 pub struct Round {
+    /// The number that its calls are drawn by.
     pub seed: u64,
     /// The place of its number of buckets.
     pub place: usize,
+    /// How many threads shake its cache.
     pub threads: u64,
     /// The steps of each thread.
     pub steps: u64,
@@ -73,10 +74,23 @@ impl fmt::Display for Wrong {
     }
 }
 
+/// What is left of a round that was played.
+#[derive(Drop)]
+pub struct Shaken {
+    /// What the threads were answered.
+    pub stamps: Vec<Stamp>,
+    /// What the cache left. None if its tree was lost.
+    pub ended: Option<Ended>,
+    /// What was counted.
+    pub tally: Tally,
+}
+
 /// What a round comes to.
 #[derive(Drop)]
 pub struct Played {
+    /// What was counted.
     pub tally: Tally,
+    /// What is wrong about its cache, if anything is.
     pub wrong: Option<Wrong>,
 }
 
@@ -97,9 +111,14 @@ impl Round {
         BUCKETS.get(self.place).copied().unwrap_or(1)
     }
 
-    /// Plays the round, and judges it.
-    pub fn play<R: Threads + Wait + Sync>(&self, rt: &R, alloc: Global) -> Result<Played, Fault>
-        requires sync { IsSync R.row }
+    /// Makes a cache, has the threads shake it, and closes it. Its size is right, so that only memory can
+    /// be refused.
+    pub fn shake<R: Threads + Wait + Sync>(
+        &self,
+        rt: &R,
+        alloc: Global,
+    ) -> Result<Shaken, MakeFault>
+        requires { IsSync R.row }
     {
         let (cache, mut pass) = Dcache::new(alloc, self.buckets(), INODES)?;
         let gate = Gate::new(self.threads);
@@ -113,12 +132,26 @@ impl Round {
         let answers = spread(rt, &cache, job, other, 0, self.threads.saturating_sub(1))?;
         let counts = cache.counts();
         let ended = cache.close(pass);
-        let mut tally = answers.tally;
-        tally.evicted = counts.evictions;
-        tally.slept = counts.sleeps;
-        tally.rounds = 1;
-        tally.changes = ended.as_ref().map_or(0, |ended| ended.clock);
-        let wrong = judge(alloc, answers.stamps, ended)?;
+        let changes = ended.as_ref().map_or(0, |ended| ended.clock);
+        let Answers { stamps, mut tally } = answers;
+        tally.count_cache(&counts, changes);
+        Ok(Shaken {
+            stamps,
+            ended,
+            tally,
+        })
+    }
+
+    /// Plays the round, and judges it.
+    pub fn play<R: Threads + Wait + Sync>(&self, rt: &R, alloc: Global) -> Result<Played, NoMemory>
+        requires { IsSync R.row }
+    {
+        let Shaken {
+            stamps,
+            ended,
+            tally,
+        } = self.shake(rt, alloc).map_err(|_| NoMemory)?;
+        let wrong = judge(alloc, stamps, ended)?;
         Ok(Played { tally, wrong })
     }
 }

@@ -1,49 +1,25 @@
-//! Rounds as they are drawn and played, and records and trees that are wrong.
+//! Rounds of the soak as they are drawn and played, and records and trees that are wrong.
 
-ghost use Rattle.std.specs.Thread.{IsSync};
-
-use crate::draw::Draw;
-use crate::gate::Gate;
-use crate::replay::agree;
-use crate::round::{BUCKETS, INODES, Round, Wrong, judge};
-use crate::tally::{NAMES, Tally};
-use crate::threads::{Job, spread};
-use dc_cache::{Dcache, Ended, SlabStore};
-use dc_check::Stamp;
+use dc_cache::{Ended, SlabStore};
 use dc_plain::Reply;
-use std::alloc::Global;
-use std::sync::Wait;
+use dc_soak::{BUCKETS, Draw, NAMES, Round, Shaken, Tally, Wrong, agree, judge};
 use std::test::Fail;
-use std::thread::Threads;
 
-/// What one thread was answered, and the cache that it left.
-fn shaken<R: Threads + Wait + Sync>(
-    rt: &R,
-    alloc: Global,
-    seed: u64,
-) -> Result<(Vec<Stamp>, Option<Ended>), Fail>
-    requires sync { IsSync R.row }
-{
-    let (cache, mut pass) = Dcache::new(alloc, 2, INODES)?;
-    let gate = Gate::new(1);
-    let job = Job {
-        alloc,
+/// A round of one thread.
+fn alone(seed: u64) -> Round {
+    Round {
         seed,
+        place: 1,
+        threads: 1,
         steps: 200,
-        gate: &gate,
-    };
-    let other = cache.split(&mut pass);
-    let answers = spread(rt, &cache, job, other, 0, 0)?;
-    Ok((answers.stamps, cache.close(pass)))
+    }
 }
 
 #[test]
 fn rounds_are_legal(rt: HostRuntime) -> Result<(), Fail> {
     let mut whole = Tally::default();
     for seed in 1..9 {
-        let Ok(played) = Round::of(seed, 800).play(&rt, rt.alloc()) else {
-            panic!(rt; "no memory");
-        };
+        let played = Round::of(seed, 800).play(&rt, rt.alloc())?;
         if let Some(wrong) = played.wrong {
             panic!(rt; "seed {seed}: {wrong}");
         }
@@ -96,15 +72,23 @@ fn calls_are_drawn_again(rt: HostRuntime) -> Result<(), Fail> {
 /// A reply that no tree gives, and a record that isn't there.
 #[test]
 fn wrong_records_are_told(rt: HostRuntime) -> Result<(), Fail> {
-    let (stamps, ended) = shaken(&rt, rt.alloc(), 1)?;
+    let Shaken { stamps, ended, .. } = alone(1).shake(&rt, rt.alloc())?;
     assert!(rt; judge(rt.alloc(), stamps, ended)?.is_none());
-    let (mut stamps, ended) = shaken(&rt, rt.alloc(), 1)?;
+    let Shaken {
+        mut stamps,
+        ended,
+        ..
+    } = alone(1).shake(&rt, rt.alloc())?;
     if let Some(stamp) = stamps.get_mut(100) {
         stamp.reply = Reply::Refused(99);
     }
     let wrong = judge(rt.alloc(), stamps, ended)?;
     assert!(rt; matches!(wrong, Some(Wrong::Record(101, Some(_)))));
-    let (mut stamps, ended) = shaken(&rt, rt.alloc(), 1)?;
+    let Shaken {
+        mut stamps,
+        ended,
+        ..
+    } = alone(1).shake(&rt, rt.alloc())?;
     stamps.truncate(100);
     let wrong = judge(rt.alloc(), stamps, ended)?;
     assert!(rt; matches!(wrong, Some(Wrong::Clock(_, _))));
@@ -114,7 +98,7 @@ fn wrong_records_are_told(rt: HostRuntime) -> Result<(), Fail> {
 /// A tree that isn't the one that the changes make, and one that is lost.
 #[test]
 fn wrong_trees_are_told(rt: HostRuntime) -> Result<(), Fail> {
-    let (stamps, ended) = shaken(&rt, rt.alloc(), 1)?;
+    let Shaken { stamps, ended, .. } = alone(1).shake(&rt, rt.alloc())?;
     let Some(Ended { store, clock }) = ended else {
         panic!(rt; "a lost tree");
     };
@@ -122,7 +106,7 @@ fn wrong_trees_are_told(rt: HostRuntime) -> Result<(), Fail> {
     let store = SlabStore::new(rt.alloc())?;
     let wrong = judge(rt.alloc(), stamps, Some(Ended { store, clock }))?;
     assert!(rt; matches!(wrong, Some(Wrong::Tree)));
-    let (stamps, _) = shaken(&rt, rt.alloc(), 1)?;
+    let Shaken { stamps, .. } = alone(1).shake(&rt, rt.alloc())?;
     let wrong = judge(rt.alloc(), stamps, None)?;
     assert!(rt; matches!(wrong, Some(Wrong::Lost)));
     Ok(())

@@ -1,6 +1,6 @@
 //! What threads count.
 
-use dc_cache::Why;
+use dc_cache::{Counts, Why};
 use dc_plain::{OwnCall, Reply};
 
 /// How many kinds of call there are.
@@ -13,7 +13,7 @@ pub const NAMES: [&str; KINDS] = [
 ];
 
 /// How often calls were made, and how they were answered.
-#[derive(Clone, Copy, Default, PartialEq, Eq, Debug)]
+#[derive(Clone, Copy, Default)]
 pub struct Tally {
     /// By kind: the calls, and those of them that were refused.
     pub calls: [u64; KINDS],
@@ -112,6 +112,14 @@ impl Tally {
 
     pub fn count_emptied(&mut self, rows: u64) {
         add(&mut self.emptied, rows);
+    }
+
+    /// Counts a cache: what it counted itself, and the calls that altered its tree.
+    pub fn count_cache(&mut self, counts: &Counts, changes: u64) {
+        self.evicted = counts.evictions;
+        self.slept = counts.sleeps;
+        self.rounds = 1;
+        self.changes = changes;
     }
 
     /// Takes in what another thread counted, or another cache.

@@ -10,7 +10,7 @@ use std::alloc::Global;
 use std::sync::Wait;
 
 /// How the lock is asked for where the rows don't answer.
-#[derive(Clone, Copy, PartialEq, Eq)]
+#[derive(Clone, Copy)]
 pub enum Way {
     /// The call waits for it.
     Waits,
@@ -52,16 +52,16 @@ fn look<R: Wait>(
             }
             Fast::Again(why) => tally.count_cause(&why),
         }
-        if way == Way::Fills
+        if let Way::Fills = way
             && let Fast::Done(found) = cache.look_counted(rt, alloc, pass, base, text, follow)
         {
             return found;
         }
     }
-    if way == Way::FillsPath {
+    if let Way::FillsPath = way {
         return cache.look_filled(rt, alloc, pass, base, path, follow);
     }
-    if way == Way::Tries {
+    if let Way::Tries = way {
         match cache.try_look(alloc, pass, base, path, follow) {
             Some(found) => return found,
             None => tally.count_held(),
@@ -83,7 +83,7 @@ fn stat<R: Wait>(
     requires { Fits cache.now pass.old }
     ensures { Fits cache.now pass.new }
 {
-    if way == Way::Tries {
+    if let Way::Tries = way {
         match cache.try_stat(pass, base, path) {
             Some(counted) => return counted,
             None => tally.count_held(),
@@ -106,7 +106,7 @@ fn readlink<R: Wait>(
     requires { Fits cache.now pass.old }
     ensures { Fits cache.now pass.new }
 {
-    if way == Way::Tries {
+    if let Way::Tries = way {
         match cache.try_readlink(alloc, pass, base, path) {
             Some(told) => return told,
             None => tally.count_held(),
@@ -129,7 +129,7 @@ fn list<R: Wait>(
     requires { Fits cache.now pass.old }
     ensures { Fits cache.now pass.new }
 {
-    if way == Way::Tries {
+    if let Way::Tries = way {
         match cache.try_list(alloc, pass, base, path) {
             Some(told) => return told,
             None => tally.count_held(),
@@ -152,7 +152,7 @@ fn change<R: Wait>(
     requires change { IsChange call.now }
     ensures { Fits cache.now pass.new }
 {
-    if way == Way::Tries {
+    if let Way::Tries = way {
         match cache.try_change(alloc, pass, call) {
             Some(made) => return made.map_err(|_| NoMemory),
             None => tally.count_held(),
@@ -173,7 +173,7 @@ pub fn shrink<R: Wait>(
     requires { Fits cache.now pass.old }
     ensures { Fits cache.now pass.new }
 {
-    if way == Way::Tries {
+    if let Way::Tries = way {
         match cache.try_shrink(pass, most) {
             Some(rows) => return tally.count_emptied(rows),
             None => tally.count_held(),
