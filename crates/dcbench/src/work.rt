@@ -1,6 +1,5 @@
 //! What is measured, and over what: the kinds of work, their sizes, and the tasks of the command line.
 
-use std::fmt;
 use std::time::Duration;
 
 /// What the threads of a run of look-ups do.
@@ -65,12 +64,6 @@ impl Work {
             Work::Change => Some(0),
             Work::Read | Work::Absent | Work::Miss | Work::Links => None,
         }
-    }
-}
-
-impl fmt::Display for Work {
-    fn fmt<W: fmt::Write>(&self, f: &mut fmt::Formatter<W>) -> fmt::Result {
-        f.write_str(self.name())
     }
 }
 

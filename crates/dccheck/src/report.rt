@@ -73,17 +73,15 @@ fn text_of(alloc: Global, line: &[u8]) -> Result<String, AllocError> {
 /// A line of JSON: texts and numbers by their names.
 pub fn json_line(
     alloc: Global,
-    texts: &[(&str, &str)],
+    texts: &[(&str, String)],
     numbers: &[(&str, u64)],
 ) -> Result<Vec<u8>, AllocError> {
     let mut members = Map::new(alloc);
-    for member in texts {
-        let (name, text) = *member;
+    for (name, text) in texts {
         put(&mut members, alloc, name, Value::try_from_str(alloc, text)?)?;
     }
-    for member in numbers {
-        let (name, number) = *member;
-        put(&mut members, alloc, name, Value::from(number))?;
+    for (name, number) in numbers {
+        put(&mut members, alloc, name, Value::from(*number))?;
     }
     let mut line = Value::Object(members).to_string(alloc)?.into_bytes();
     line.push(b'\n')?;
@@ -134,14 +132,15 @@ impl Report {
     /// The verdict as a line of JSON.
     pub fn json(&self, alloc: Global) -> Result<Vec<u8>, AllocError> {
         let (line, reply, command, due) = self.shown(alloc)?;
+        let word = self.word.to_string(alloc)?;
         let counts = &self.counts;
         json_line(
             alloc,
             &[
-                ("verdict", self.word),
-                ("reply", reply.as_str()),
-                ("command", command.as_str()),
-                ("due", due.as_str()),
+                ("verdict", word),
+                ("reply", reply),
+                ("command", command),
+                ("due", due),
             ],
             &[
                 ("line", line),

@@ -51,6 +51,12 @@ pub fn explain(alloc: Global, inodes: u64, states: u64, trace: &[u8]) -> Result<
     }
 }
 
+/// A verdict with a line as JSON.
+fn short_json(alloc: Global, verdict: &str, line: u64) -> Result<Vec<u8>, AllocError> {
+    let word = verdict.to_string(alloc)?;
+    json_line(alloc, &[("verdict", word)], &[("line", line)])
+}
+
 impl Found {
     /// The status that the program ends with.
     pub fn status(&self) -> u8 {
@@ -84,8 +90,8 @@ impl Found {
     pub fn json(&self, alloc: Global) -> Result<Vec<u8>, AllocError> {
         match self {
             Found::Legal(_, _, report) => report.json(alloc),
-            Found::Bad(line) => json_line(alloc, &[("verdict", "bad call")], &[("line", *line)]),
-            Found::Undecided => json_line(alloc, &[("verdict", "undecided")], &[("line", 0)]),
+            Found::Bad(line) => short_json(alloc, "bad call", *line),
+            Found::Undecided => short_json(alloc, "undecided", 0),
         }
     }
 }
