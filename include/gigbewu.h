@@ -11,7 +11,7 @@
  * has happened then. The blocking forms at the end of this file (gb_look, gb_mkdir, ..) try again, and sleep meanwhile.
  *
  * A path is so many bytes, and needs no zero byte at its end. `base` is the number of the directory where a relative
- * path starts. Names have up to 255 bytes, paths up to 4,095, and at most 8 links are followed. No pointer may be null,
+ * path starts. Names have up to 255 bytes, paths up to 4,095, and as many links are followed as on Linux. No pointer may be null,
  * also where nothing is to be read or written behind it.
  *
  * What is proved. The library is proved as it is written, in Rattle. Each function is safe and ends, where its caller
@@ -75,7 +75,7 @@ enum { GB_FOLLOW = 0, GB_NO_FOLLOW = 1, GB_DIRECTORY = 2 };
 enum { GB_NO_REPLACE = 1, GB_EXCHANGE = 2 };
 
 /* Why gb_look_fast answered GB_AGAIN: no row tells of a name that is asked for; a row was being changed; a row that was
- * used has changed since; a name of more than 32 bytes, which no row holds; no row has the text of a link. */
+ * used has changed since; more rows would be used than can be noted; no row has the text of a link. */
 enum {
     GB_WHY_NONE = 0,
     GB_WHY_MISS = 1,
@@ -124,8 +124,8 @@ int gb_pass_join(struct gb_pass *pass, struct gb_pass *other);
  * Answers 0, GB_BAD_PASS. */
 int gb_close(struct gb_pass *pass);
 
-/* Looks a path up by the rows alone. It takes no lock and no memory, never waits, and makes at most 8,449 loads, all of
- * which is proved. Any thread may call it with its pass, at any time. Where it answers GB_AGAIN, `why` says why, and
+/* Looks a path up by the rows alone. It takes no lock and no memory, never waits, and makes a bounded number of loads,
+ * all of which is proved. Any thread may call it with its pass, at any time. Where it answers GB_AGAIN, `why` says why, and
  * gb_try_look answers.
  * Answers 0 with number and kind, a refusal, GB_AGAIN, GB_BAD_PASS, GB_BAD_ARGUMENT. */
 int gb_look_fast(struct gb_pass *pass, uint64_t base, const char *path, size_t len, uint32_t follow,
