@@ -33,8 +33,8 @@ fn linked(number: u64, text: &[u8]) -> Option<Row> {
     Some(Row::Link(number, RowText::of(text)?))
 }
 
-/// The first words of a row, of which the others are zero.
-fn wide<const FIRST: usize>(first: [u64; FIRST]) -> [u64; ROW_WORDS]
+/// The words of a row that begins with these, and has zeros after them.
+pub(crate) fn wide<const FIRST: usize>(first: [u64; FIRST]) -> [u64; ROW_WORDS]
     requires { FIRST ≤ ROW_WORDS }
 {
     let mut words = EMPTY_ROW;
