@@ -110,7 +110,10 @@ fn finds_entries_by_their_words(rt: HostRuntime) {
     for (at, dir, name, want) in cases {
         assert_eq!(rt; sought(&wide(EXAMPLES[at]), dir, name), want);
     }
-    assert_eq!(rt; sought(&wide(EXAMPLES[0])[..ROW_WORDS - 1], 1, b"usr"), None);
+    assert_eq!(rt;
+        sought(&wide(EXAMPLES[0])[..ROW_WORDS - 1], 1, b"usr"),
+        None
+    );
 }
 
 #[test]
@@ -160,7 +163,11 @@ fn reads_texts_from_their_words(rt: HostRuntime) {
     for ([head, a, b, c, d], want) in cases {
         let text = text_sought(&wide([7, head, 4, 0, a, b, c, d]));
         assert_eq!(rt; text, want.and_then(RowText::of), "at {head}");
-        assert_eq!(rt; text_of(&wide([7, head, 4, 0, a, b, c, d])), text, "at {head}");
+        assert_eq!(rt;
+            text_of(&wide([7, head, 4, 0, a, b, c, d])),
+            text,
+            "at {head}"
+        );
         assert_eq!(rt; text_sought(&wide([7, head, 4, 1, a, b, c, d])), None);
     }
 }

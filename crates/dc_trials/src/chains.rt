@@ -29,13 +29,7 @@ fn text_to(path: [u8; 4]) -> [u8; NAME_MAX] {
 }
 
 /// Makes a change, and tells whether it was made.
-fn is_made<R: Wait>(
-    rt: &R,
-    alloc: Global,
-    cache: &Dcache,
-    pass: &mut Pass,
-    call: &Call<'_>,
-) -> bool
+fn is_made<R: Wait>(rt: &R, alloc: Global, cache: &Dcache, pass: &mut Pass, call: &Call<'_>) -> bool
     requires pass { Fits cache.now pass.old }
     requires change { IsChange call.now }
     ensures { Fits cache.now pass.new }
@@ -47,13 +41,7 @@ fn is_made<R: Wait>(
 }
 
 /// Makes a link of the chain.
-fn is_linked<R: Wait>(
-    rt: &R,
-    alloc: Global,
-    cache: &Dcache,
-    pass: &mut Pass,
-    number: u8,
-) -> bool
+fn is_linked<R: Wait>(rt: &R, alloc: Global, cache: &Dcache, pass: &mut Pass, number: u8) -> bool
     requires pass { Fits cache.now pass.old }
     requires few { number < 100 }
     ensures { Fits cache.now pass.new }

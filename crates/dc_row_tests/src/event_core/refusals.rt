@@ -244,7 +244,10 @@ fn each_act_is_refused_for_each_reason(rt: HostRuntime) -> Result<(), Fail> {
         &named(1, b"a", Some((2, Kind::Dir)))?,
     )?;
     assert_eq!(rt; first_other(&mut core, alloc, &REFILLED), REFILLED.len());
-    assert_eq!(rt; first_other(&mut core, alloc, &READ_WHOLE), READ_WHOLE.len());
+    assert_eq!(rt;
+        first_other(&mut core, alloc, &READ_WHOLE),
+        READ_WHOLE.len()
+    );
     assert_eq!(rt; first_other(&mut core, alloc, &CHANGED), CHANGED.len());
     assert_eq!(rt; (core.finished().len(), core.clock()), (2, 1));
     Ok(())

@@ -126,7 +126,8 @@ fn turn<R: Wait>(
 
 /// Whether a row was read with the count that its place has, and with the words that it has at all times.
 fn is_row(words: &Words, row: usize, count: u64) -> bool {
-    words[0] == count && FACTS
+    words[0] == count
+        && FACTS
             .get(row)
             .is_some_and(|fact| words[1..] == wide(*fact)[1..])
 }
