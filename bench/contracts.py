@@ -20,7 +20,7 @@ LONG, LONGEST, BODY, CLAUSES, ANSWER = 100, 160, 30, 4, 20
 
 def sources(tree, crate):
     for path in sorted((tree / "crates" / crate / "src").rglob("*.rt")):
-        if not crate.endswith("_tests") and "tests" not in path.parts and path.name != "tests.rt":
+        if not crate.endswith(("_tests", "_trials")) and "tests" not in path.parts and path.name != "tests.rt":
             yield path
 
 

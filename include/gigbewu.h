@@ -18,7 +18,8 @@
  * keeps the rules below, and it answers what the proved call of its name does: whatever the schedule of the threads,
  * each call that answers 0 or a refusal takes effect at one moment between its call and its return, and the answer is
  * what that operation gives on the tree of that moment. In the order of these moments all answers are those of a single
- * thread. This is proved of the calls that the functions below make; that each makes the call of its name is tested.
+ * thread. That is proved of the library's calls, and of each look-up, read and change below that it makes the call of its
+ * name, with these arguments, and tells its answer in these numbers.
  * docs/PROMISES.md of the library has it clause by clause.
  *
  * What is not proved: this file, the compiler, the C library (malloc, free), and what a caller does wrong. The rules:

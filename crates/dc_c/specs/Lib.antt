@@ -1,2 +1,4 @@
--- What a handle owns.
+-- What a handle owns, and what the functions for C do.
 pub mod Owned
+pub mod Answering
+pub mod Shapes

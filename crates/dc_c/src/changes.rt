@@ -1,16 +1,26 @@
 //! Changes.
 
+ghost use Rattle.std.specs.Prelude.{◌≡◌, MatchOption, option_map, option_and_then};
+ghost use Rattle.dc_cache.specs.Calls.{request_of, mkdir, create, symlink, link, unlink, rmdir, rename};
 ghost use Rattle.dc_cache.specs.Passes.{IsChange};
+ghost use Rattle.dc_c.specs.Answering.{Refuses};
+ghost use Rattle.dc_c.specs.Shapes.{Makes, Takes, Written};
+ghost use Rattle.dc_hold.specs.Numbers.{flags_by};
+ghost use Rattle.dc_hold.specs.declared.status.Status.TheVariants.{BadArgument};
 
 use crate::handle::Handle;
 use crate::looks::tell;
-use dc_cache::Call;
+use dc_cache::{Call, ChangeFault, Gone, Stamped};
 use dc_hold::{Found, Lost, Status, flags_of, lost_of, told_change};
 use std::alloc::Global;
+
+/// What a change that had the lock came to.
+type Made = Result<Stamped, ChangeFault>;
 
 /// Makes a change.
 fn change(alloc: Global, pass: &mut Handle, call: &Call<'_>, found: &mut Found) -> i32
     requires { IsChange call.now }
+    ensures { Makes (request_of call.now) pass.old pass.new result found.old found.new }
 {
     let Some(mut hold) = pass.take(alloc) else {
         return Status::BadPass.number();
@@ -18,6 +28,17 @@ fn change(alloc: Global, pass: &mut Handle, call: &Call<'_>, found: &mut Found) 
     let tried = hold.try_change(alloc, call);
     pass.put(hold);
     tell(found, told_change(&tried))
+}
+
+/// What a change came to, and what it took away.
+fn parted(tried: Option<(Made, Option<Gone>)>) -> (Option<Made>, Option<Gone>)
+    ensures made { result.0 ≡ option_map (λ taken. taken.0) tried }
+    ensures gone { result.1 ≡ option_and_then (λ taken. taken.1) tried }
+{
+    match tried {
+        Some((made, gone)) => (Some(made), gone),
+        None => (None, None),
+    }
 }
 
 /// Makes a change that may take a name away, and tells what that name led to.
@@ -29,16 +50,15 @@ fn take(
     gone: &mut Lost,
 ) -> i32
     requires { IsChange call.now }
+    ensures { Takes (request_of call.now) pass.old pass.new result
+        (found.old, gone.old) (found.new, gone.new) }
 {
     let Some(mut hold) = pass.take(alloc) else {
         return Status::BadPass.number();
     };
     let tried = hold.try_change_telling(alloc, call);
     pass.put(hold);
-    let (made, went) = match tried {
-        Some((made, went)) => (Some(made), went),
-        None => (None, None),
-    };
+    let (made, went) = parted(tried);
     *gone = lost_of(went);
     tell(found, told_change(&made))
 }
@@ -51,7 +71,9 @@ pub extern "C" fn gb_try_mkdir(
     base: u64,
     path: &[u8],
     found: &mut Found,
-) -> i32 {
+) -> i32
+    ensures makes { Makes (mkdir base path.now) pass.old pass.new result found.old found.new }
+{
     change(alloc, pass, &Call::Mkdir { base, path }, found)
 }
 
@@ -63,7 +85,9 @@ pub extern "C" fn gb_try_create(
     base: u64,
     path: &[u8],
     found: &mut Found,
-) -> i32 {
+) -> i32
+    ensures makes { Makes (create base path.now) pass.old pass.new result found.old found.new }
+{
     change(alloc, pass, &Call::Create { base, path }, found)
 }
 
@@ -76,7 +100,9 @@ pub extern "C" fn gb_try_symlink(
     text: &[u8],
     path: &[u8],
     found: &mut Found,
-) -> i32 {
+) -> i32
+    ensures makes { Makes (symlink base text.now path.now) pass.old pass.new result found.old found.new }
+{
     change(alloc, pass, &Call::Symlink { base, text, path }, found)
 }
 
@@ -89,7 +115,9 @@ pub extern "C" fn gb_try_link(
     old: &[u8],
     new: &[u8],
     found: &mut Found,
-) -> i32 {
+) -> i32
+    ensures makes { Makes (link base old.now new.now) pass.old pass.new result found.old found.new }
+{
     change(alloc, pass, &Call::Link { base, old, new }, found)
 }
 
@@ -102,7 +130,10 @@ pub extern "C" fn gb_try_unlink(
     path: &[u8],
     found: &mut Found,
     gone: &mut Lost,
-) -> i32 {
+) -> i32
+    ensures takes { Takes (unlink base path.now) pass.old pass.new result
+        (found.old, gone.old) (found.new, gone.new) }
+{
     take(alloc, pass, &Call::Unlink { base, path }, found, gone)
 }
 
@@ -115,7 +146,10 @@ pub extern "C" fn gb_try_rmdir(
     path: &[u8],
     found: &mut Found,
     gone: &mut Lost,
-) -> i32 {
+) -> i32
+    ensures takes { Takes (rmdir base path.now) pass.old pass.new result
+        (found.old, gone.old) (found.new, gone.new) }
+{
     take(alloc, pass, &Call::Rmdir { base, path }, found, gone)
 }
 
@@ -130,7 +164,12 @@ pub extern "C" fn gb_try_rename(
     flags: u32,
     found: &mut Found,
     gone: &mut Lost,
-) -> i32 {
+) -> i32
+    ensures takes { MatchOption (flags_by flags)
+        (Refuses Written BadArgument pass.old pass.new result (found.old, gone.old) (found.new, gone.new))
+        (λ how. Takes (rename base old.now new.now how) pass.old pass.new result
+        (found.old, gone.old) (found.new, gone.new)) }
+{
     let Some(flags) = flags_of(flags) else {
         return Status::BadArgument.number();
     };

@@ -1,16 +1,51 @@
 //! Look-ups and reads.
 
+ghost use Rattle.std.specs.Prelude.{◌≡◌, length, MatchOption};
+ghost use Rattle.dc_cache.specs.Calls.{look, stat, readlink, list};
+ghost use Rattle.dc_c.specs.Answering.{Refuses, Shows};
+ghost use Rattle.dc_c.specs.Shapes.{Counts, Lists, Looks, LooksFast, ReadsText};
+ghost use Rattle.dc_hold.specs.Allowed.{bytes_told, read_over};
+ghost use Rattle.dc_hold.specs.Numbers.{follow_by};
+ghost use Rattle.dc_hold.specs.declared.status.Status.TheVariants.{BadArgument};
+ghost use Rattle.dc_hold.specs.declared.told.Found.{Found};
+
 use crate::handle::Handle;
-use dc_cache::Reply;
+use dc_cache::{NoMemory, Reply, Stamped};
 use dc_hold::{
     Found, Status, Told, follow_of, put_names, put_text, told_fast, told_read, told_tried,
 };
 use std::alloc::Global;
 
 /// Writes what was found, and answers how the call ended.
-pub(crate) fn tell(found: &mut Found, told: Told) -> i32 {
+pub(crate) fn tell(found: &mut Found, told: Told) -> i32
+    ensures { Shows told result found.new }
+{
     *found = told.found;
     told.status.number()
+}
+
+/// Writes the first bytes of a link's text, if one was read.
+fn write_text(room: &mut [u8], tried: &Option<Result<Stamped, NoMemory>>)
+    ensures { room.new ≡ read_over room.old tried.now }
+{
+    if let Some(Ok(stamped)) = tried {
+        if let Reply::Text(text) = &stamped.reply {
+            put_text(room, text.as_slice());
+        }
+    }
+}
+
+/// Writes the names that were read, if they were, and answers how many bytes they take.
+fn write_names(room: &mut [u8], tried: &Option<Result<Stamped, NoMemory>>) -> u64
+    ensures same { length room.new ≡ length room.old }
+    ensures all { result ≡ bytes_told tried.now }
+{
+    if let Some(Ok(stamped)) = tried {
+        if let Reply::Names(names) = &stamped.reply {
+            return put_names(room, names.as_slice());
+        }
+    }
+    0
 }
 
 /// Where a path leads, by the rows alone.
@@ -22,7 +57,11 @@ pub extern "C" fn gb_look_fast(
     path: &[u8],
     follow: u32,
     found: &mut Found,
-) -> i32 {
+) -> i32
+    ensures looks { MatchOption (follow_by follow)
+        (Refuses Found BadArgument pass.old pass.new result found.old found.new)
+        (λ how. LooksFast (look base path.now how) pass.old pass.new result found.old found.new) }
+{
     let Some(follow) = follow_of(follow) else {
         return Status::BadArgument.number();
     };
@@ -43,7 +82,11 @@ pub extern "C" fn gb_try_look(
     path: &[u8],
     follow: u32,
     found: &mut Found,
-) -> i32 {
+) -> i32
+    ensures looks { MatchOption (follow_by follow)
+        (Refuses Found BadArgument pass.old pass.new result found.old found.new)
+        (λ how. Looks (look base path.now how) pass.old pass.new result found.old found.new) }
+{
     let Some(follow) = follow_of(follow) else {
         return Status::BadArgument.number();
     };
@@ -63,7 +106,9 @@ pub extern "C" fn gb_try_stat(
     base: u64,
     path: &[u8],
     found: &mut Found,
-) -> i32 {
+) -> i32
+    ensures counts { Counts (stat base path.now) pass.old pass.new result found.old found.new }
+{
     let Some(mut hold) = pass.take(alloc) else {
         return Status::BadPass.number();
     };
@@ -81,17 +126,16 @@ pub extern "C" fn gb_try_readlink(
     path: &[u8],
     text: &mut [u8],
     found: &mut Found,
-) -> i32 {
+) -> i32
+    ensures reads { ReadsText (readlink base path.now) pass.old pass.new result
+        (found.old, text.old) (found.new, text.new) }
+{
     let Some(mut hold) = pass.take(alloc) else {
         return Status::BadPass.number();
     };
     let tried = hold.try_readlink(alloc, base, path);
     pass.put(hold);
-    if let Some(Ok(stamped)) = &tried {
-        if let Reply::Text(bytes) = &stamped.reply {
-            put_text(text, bytes.as_slice());
-        }
-    }
+    write_text(text, &tried);
     tell(found, told_read(&tried))
 }
 
@@ -104,17 +148,16 @@ pub extern "C" fn gb_try_list(
     path: &[u8],
     names: &mut [u8],
     found: &mut Found,
-) -> i32 {
+) -> i32
+    ensures lists { Lists (list base path.now) pass.old pass.new result
+        (found.old, names.old) (found.new, names.new) }
+{
     let Some(mut hold) = pass.take(alloc) else {
         return Status::BadPass.number();
     };
     let tried = hold.try_list(alloc, base, path);
     pass.put(hold);
     let mut told = told_read(&tried);
-    if let Some(Ok(stamped)) = &tried {
-        if let Reply::Names(listed) = &stamped.reply {
-            told.found.count = put_names(names, listed.as_slice());
-        }
-    }
+    told.found.count = write_names(names, &tried);
     tell(found, told)
 }

@@ -1,6 +1,7 @@
 //! How a cache and its passes begin and end, and what a pass learns and empties.
 
 ghost use Rattle.std.specs.Prelude.{◌≡◌, []};
+ghost use Rattle.dc_c.specs.Shapes.{Closes, Learns, Shrinks};
 
 use crate::handle::Handle;
 use dc_hold::{Hold, Status};
@@ -77,7 +78,9 @@ pub extern "C" fn gb_pass_join(alloc: Global, pass: &mut Handle, other: &mut Han
 
 /// Ends a pass. The last one of a cache ends the cache.
 #[unsafe(no_mangle)]
-pub extern "C" fn gb_close(alloc: Global, pass: &mut Handle) -> i32 {
+pub extern "C" fn gb_close(alloc: Global, pass: &mut Handle) -> i32
+    ensures closes { Closes pass.old pass.new result }
+{
     match pass.take(alloc) {
         Some(hold) => {
             drop(hold);
@@ -89,7 +92,9 @@ pub extern "C" fn gb_close(alloc: Global, pass: &mut Handle) -> i32 {
 
 /// Sees how many changes were made, and whether these are so many at least.
 #[unsafe(no_mangle)]
-pub extern "C" fn gb_learn(alloc: Global, pass: &mut Handle, at: u64, clock: &mut u64) -> i32 {
+pub extern "C" fn gb_learn(alloc: Global, pass: &mut Handle, at: u64, clock: &mut u64) -> i32
+    ensures learns { Learns at pass.old pass.new result clock.old clock.new }
+{
     let Some(mut hold) = pass.take(alloc) else {
         return Status::BadPass.number();
     };
@@ -110,7 +115,9 @@ pub extern "C" fn gb_try_shrink(
     pass: &mut Handle,
     most: u64,
     emptied: &mut u64,
-) -> i32 {
+) -> i32
+    ensures shrinks { Shrinks most pass.old pass.new result emptied.old emptied.new }
+{
     let Some(mut hold) = pass.take(alloc) else {
         return Status::BadPass.number();
     };

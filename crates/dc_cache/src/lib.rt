@@ -114,8 +114,6 @@ mod looking;
 mod passing;
 mod reading;
 mod sleepless;
-#[cfg(test)]
-mod tests;
 mod tries;
 mod trying;
 

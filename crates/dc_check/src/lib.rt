@@ -16,6 +16,3 @@ pub use due::reply_due;
 pub use record::{RecordFault, record_of};
 pub use stamp::{PhasedVerdict, Stamp, Verdict};
 pub use tree::QuickTree;
-
-#[cfg(test)]
-mod tests;

@@ -2,3 +2,4 @@
 pub mod Numbers
 pub mod Tells
 pub mod Fitting
+pub mod Allowed

@@ -1,5 +1,6 @@
 -- The numbers that a program in C gives and gets.
-use Rattle.std.specs.Prelude.{ℕ, zero, suc, ℤ, pos, negsuc, min, Option, Some, None, true, false}
+use Rattle.std.specs.Prelude.{ℕ, zero, suc, ◌+◌, ◌-◌, ◌^◌, ℤ, pos, negsuc, min, length, List, sum_by, Option, Some, None, true, false}
+use Rattle.std.specs.Global.{Vec}
 use Rattle.dc_names.specs.declared.kind.Kind.{Kind}
 use Rattle.dc_names.specs.declared.kind.Kind.TheVariants.{Dir, File, Link}
 use Rattle.dc_plain.specs.declared.call.Flags.{Flags}
@@ -54,3 +55,7 @@ flags_by (suc zero) = Some (record { no_replace = true; exchange = false })
 flags_by (suc (suc zero)) = Some (record { no_replace = false; exchange = true })
 flags_by (suc (suc (suc zero))) = Some (record { no_replace = true; exchange = true })
 flags_by (suc (suc (suc (suc _)))) = None
+
+-- how many bytes names take with a zero byte behind each, as far as 64 bits tell it
+abbrev pub bytes_of : List (Vec ℕ) → ℕ
+bytes_of names = min (2 ^ 64 - 1) (sum_by (λ name. length name.items + 1) names)

@@ -1,11 +1,12 @@
 //! One thread's hold on a cache, for callers that have no runtime.
 
-ghost use Rattle.std.specs.Prelude.{◌≡◌, ◌≤◌, ◌↔◌, true, IfSome};
+ghost use Rattle.std.specs.Prelude.{◌≡◌, ◌-◌, ◌^◌, ◌≤◌, ◌↔◌, true, min, IfSome, IfNone};
 ghost use Rattle.std.specs.Arc.{arc_value};
-ghost use Rattle.dc_cache.specs.Answers.{Answered, IfFast, Made, Told};
+ghost use Rattle.dc_cache.specs.Answers.{Answered, IfFast, Loaded, Made, Told};
 ghost use Rattle.dc_cache.specs.Calls.{look, stat, readlink, list, request_of};
-ghost use Rattle.dc_cache.specs.Passes.{view, FitsSleepless, IsChange};
+ghost use Rattle.dc_cache.specs.Passes.{view, FitsSleepless, IsChange, Missed};
 ghost use Rattle.dc_hold.specs.Fitting.{fits_prop};
+ghost use Rattle.dc_table.specs.Changes.{NothingNew};
 
 use dc_cache::{
     Call, ChangeFault, Fast, Follow, Gone, MakeFault, NoMemory, NotYet, Pass, Sleepless, Stamped,
@@ -91,6 +92,7 @@ impl Hold {
     ) -> Option<Stamped>
         ensures answered { IfSome result
             (Answered self.old.pass self.new.pass (look base path.now follow)) }
+        ensures held { IfNone result (NothingNew (view self.old.pass) (view self.new.pass)) }
     {
         self.common
             .cache
@@ -101,6 +103,7 @@ impl Hold {
     #[must_use]
     pub fn try_stat(&mut self, base: u64, path: &[u8]) -> Option<Stamped>
         ensures answered { IfSome result (Answered self.old.pass self.new.pass (stat base path.now)) }
+        ensures held { IfNone result (Missed self.old.pass self.new.pass) }
     {
         self.common.cache.try_stat(&mut self.pass, base, path)
     }
@@ -114,6 +117,7 @@ impl Hold {
         path: &[u8],
     ) -> Option<Result<Stamped, NoMemory>>
         ensures told { IfSome result (Told self.old.pass self.new.pass (readlink base path.now)) }
+        ensures held { IfNone result (Missed self.old.pass self.new.pass) }
     {
         self.common
             .cache
@@ -129,6 +133,7 @@ impl Hold {
         path: &[u8],
     ) -> Option<Result<Stamped, NoMemory>>
         ensures told { IfSome result (Told self.old.pass self.new.pass (list base path.now)) }
+        ensures held { IfNone result (Missed self.old.pass self.new.pass) }
     {
         self.common
             .cache
@@ -144,6 +149,7 @@ impl Hold {
     ) -> Option<Result<Stamped, ChangeFault>>
         requires change { IsChange call.now }
         ensures made { IfSome result (Made self.old.pass self.new.pass (request_of call.now)) }
+        ensures held { IfNone result (Missed self.old.pass self.new.pass) }
     {
         self.common.cache.try_change(alloc, &mut self.pass, call)
     }
@@ -158,6 +164,7 @@ impl Hold {
         requires change { IsChange call.now }
         ensures made { IfSome result (λ r.
             Made self.old.pass self.new.pass (request_of call.now) r.0) }
+        ensures held { IfNone result (Missed self.old.pass self.new.pass) }
     {
         self.common
             .cache
@@ -167,7 +174,9 @@ impl Hold {
     /// Empties up to so many rows, as `Sleepless::try_shrink`.
     #[must_use]
     pub fn try_shrink(&mut self, most: u64) -> Option<u64>
+        ensures nothing { NothingNew (view self.old.pass) (view self.new.pass) }
         ensures few { IfSome result (λ emptied. emptied ≤ most) }
+        ensures held { IfNone result (Missed self.old.pass self.new.pass) }
     {
         self.common.cache.try_shrink(&mut self.pass, most)
     }
@@ -175,6 +184,8 @@ impl Hold {
     /// Sees how many calls have altered the tree. Answers whether these are `at` at least, and how many the
     /// hold has seen.
     pub fn learn(&mut self, at: u64) -> (bool, u64)
+        ensures loaded { Loaded (view self.old.pass) (view self.new.pass) }
+        ensures clock { result.1 ≡ min (2 ^ 64 - 1) (view self.new.pass).book.seen }
         ensures seen { result.1 ≤ (view self.new.pass).book.seen }
         ensures come { (result.0 ≡ true) ↔ (at ≤ result.1) }
     {

@@ -9,8 +9,6 @@ mod asked;
 mod hold;
 mod room;
 mod status;
-#[cfg(test)]
-mod tests;
 mod told;
 
 pub use asked::{flags_of, follow_of};

@@ -1,6 +1,7 @@
 //! Texts and names, written into a caller's bytes.
 
 ghost use Rattle.std.specs.Prelude.{◌≡◌, ◌++◌, ◌≤◌, length, min, take, drop, IfSome};
+ghost use Rattle.dc_hold.specs.Numbers.{bytes_of};
 
 /// Writes the first bytes of a text, as many as there is room for.
 pub fn put_text(room: &mut [u8], text: &[u8])
@@ -33,6 +34,7 @@ fn put_name(room: &mut [u8], at: usize, name: &[u8]) -> Option<usize>
 #[must_use]
 pub fn put_names(room: &mut [u8], names: &[Vec<u8>]) -> u64
     ensures same { length room.new ≡ length room.old }
+    ensures all { result ≡ bytes_of names.now }
 {
     let mut all: u64 = 0;
     let mut next = Some(0);

@@ -27,6 +27,3 @@ pub use stats::Stats;
 
 /// The most bytes that an input may have.
 pub const MOST_BYTES: usize = 1_048_576;
-
-#[cfg(test)]
-mod tests;

@@ -12,6 +12,3 @@ pub use read::read_trace;
 pub use search::{Outcome, find_order};
 pub use timed::{Timed, TraceFault};
 pub use write::write_record;
-
-#[cfg(test)]
-mod tests;

@@ -1,13 +1,12 @@
 //! Threads that make, link, rename and remove in shared directories, judged by the checker.
 
-ghost use Rattle.dc_ops.specs.Asked.{IsChange};
-ghost use Rattle.dc_cache.specs.Passes.{Fits};
+ghost use Rattle.dc_cache.specs.Passes.{Fits, IsChange};
 ghost use Rattle.std.specs.Thread.{IsSync};
 
-use dc_cache::{Dcache, Pass};
+use crate::numbers::next;
+use dc_cache::{Call, Dcache, Flags, NoMemory, Pass, Stamped};
 use dc_check::{Stamp, Verdict, check};
-use dc_names::NoMemory;
-use dc_plain::{Call, Flags, OwnCall, Stamped};
+use dc_plain::OwnCall;
 use std::alloc::Global;
 use std::sync::Wait;
 use std::test::Fail;
@@ -18,12 +17,6 @@ const CALLS: u64 = 2000;
 
 /// The stamps of a thread, or none where it found no memory.
 type Stamps = Result<Vec<Stamp>, NoMemory>;
-
-/// The next number of a fixed sequence.
-pub fn next(seed: u64) -> u64 {
-    seed.wrapping_mul(6_364_136_223_846_793_005)
-        .wrapping_add(1_442_695_040_888_963_407)
-}
 
 /// One of four names in one of four directories, or such a directory.
 fn path(seed: u64) -> [u8; 5] {

@@ -1,131 +1,179 @@
-//! Eight sessions that rename directories above one another's paths, a hundred times, each time judged by
-//! the checker.
+//! Four threads fill, change and empty the rows of one bucket. Afterwards no row is pinned: all four can
+//! be emptied, and serve four other names.
 
 ghost use Rattle.std.specs.Thread.{IsSync};
+ghost use Rattle.dc_cache.specs.Passes.{Fits, IsChange};
 
-use crate::changes::next;
-use crate::sessions::{INODES, record, verdict};
-use dc_check::{PhasedVerdict, Verdict, check};
-use std::alloc::{AllocError, Global};
+use crate::numbers::next;
+use crate::steps::{Step, play};
+use dc_cache::{Call, Dcache, Flags, Follow, Pass, ROOT, Reply};
+use std::alloc::Global;
 use std::sync::Wait;
 use std::test::Fail;
-use std::thread::Threads;
+use std::thread::{Threads, join};
 
-const SESSIONS: u64 = 8;
+/// How many calls each thread makes.
+const CALLS: u64 = 200;
 
-const PHASES: u64 = 4;
-
-/// How many lines a session has in a phase.
-const LINES: u64 = 50;
-
-/// The directories are made, renamed, exchanged and removed while others look through them.
-const COMMANDS: [&str; 32] = [
-    "mkdir /p",
-    "mkdir /q",
-    "mkdir /p/d",
-    "mkdir /q/d",
-    "mkdir /p/d/e",
-    "create /p/d/f",
-    "create /q/d/f",
-    "create /p/d/e/f",
-    "symlink d/e /p/l",
-    "symlink ../p/d /q/l",
-    "link /p/d/f /q/g",
-    "rename /p /q",
-    "rename /q /p",
-    "rename /p/d /q/d",
-    "rename /q/d /p/e",
-    "rename2 x /p /q",
-    "rename2 x /p/d /q/d",
-    "rename2 n /q /r",
-    "rename /r /p",
-    "unlink /p/d/f",
-    "unlink /q/d/f",
-    "rmdir /q/d",
-    "cd /p/d",
-    "look /p/d/f",
-    "look /q/d/f",
-    "look /p/d/e/f",
-    "look /p/l/f",
-    "look /q/l/e/f",
-    "look e/../f",
-    "look ..",
-    "list /p/d",
-    "readlink /p/l",
+const PATHS: [&[u8]; 8] = [
+    b"/a", b"/b", b"/a/c", b"/b/c", b"/a/c/..", b"/a/c/d", b"/b/c/d", b"/e",
 ];
 
-/// The first of the commands that alter nothing.
-const READS: usize = 22;
-
-/// A command, chosen by the seed. Every other one alters nothing.
-fn command(seed: u64) -> &'static str {
-    let first = if seed >> 50 & 1 == 0 { 0 } else { READS };
-    COMMANDS[first + (seed >> 33) as usize % (COMMANDS.len() - first)]
+/// One of the paths.
+fn path(seed: u64) -> &'static [u8] {
+    PATHS[(seed >> 33) as usize % PATHS.len()]
 }
 
-/// The lines of all phases, and the seed of the next run.
-fn lines(alloc: Global, mut seed: u64) -> Result<(Vec<u8>, u64), AllocError> {
-    let mut input = Vec::new(alloc);
-    for _ in 0..PHASES {
-        for _ in 0..LINES {
-            for session in 0..SESSIONS {
-                seed = next(seed);
-                let line = format!(in alloc; "{session} {}\n", command(seed))?;
-                input.extend_from_slice(line.as_bytes())?;
-            }
-        }
-        input.extend_from_slice(b"sync\n")?;
+/// A change of some kind.
+fn call_of<'a>(seed: u64, one: &'a [u8], two: &'a [u8]) -> Call<'a>
+    ensures { IsChange result }
+{
+    let base = ROOT;
+    match (seed >> 45) % 6 {
+        0 => Call::Mkdir { base, path: one },
+        1 => Call::Create { base, path: one },
+        2 => Call::Symlink {
+            base,
+            text: two,
+            path: one,
+        },
+        3 => Call::Unlink { base, path: one },
+        4 => Call::Rmdir { base, path: one },
+        _ => Call::Rename {
+            base,
+            old: one,
+            new: two,
+            flags: Flags {
+                no_replace: false,
+                exchange: seed % 2 == 0,
+            },
+        },
     }
-    Ok((input, seed))
 }
 
-/// Runs the lines of one run, and says whether each was answered, and the checker finds the record legal, by
-/// phases too; and the seed of the next run.
-fn storm<R: Threads + Wait + Sync>(
+/// Makes one call of a fixed sequence: mostly a look-up, else a change, or a shrinking.
+fn work<R: Wait>(rt: &R, alloc: Global, cache: &Dcache, pass: &mut Pass, seed: u64)
+    requires { Fits cache.now pass.old }
+    ensures { Fits cache.now pass.new }
+{
+    let (one, two) = (path(seed), path(next(seed)));
+    match (seed >> 37) % 8 {
+        0 => {
+            let _emptied = cache.shrink(rt, pass, (seed >> 50) % 4);
+        }
+        1 | 2 | 3 => {
+            let _made = cache.change(rt, alloc, pass, &call_of(seed, one, two));
+        }
+        _ => {
+            let _found = cache.look(rt, alloc, pass, ROOT, one, Follow::Yes);
+        }
+    }
+}
+
+/// Makes all calls of a thread.
+fn work_all<R: Wait>(rt: &R, alloc: Global, cache: &Dcache, mut pass: Pass, thread: u64) -> Pass
+    requires { Fits cache.now pass }
+    ensures { Fits cache.now result }
+{
+    let mut seed = next(thread);
+    for _ in 0..CALLS {
+        seed = next(seed);
+        work(rt, alloc, cache, &mut pass, seed);
+    }
+    pass
+}
+
+/// Two threads at work, with passes that are one again afterwards.
+fn work_in_two<R: Threads + Wait + Sync>(
     rt: &R,
     alloc: Global,
-    buckets: u64,
-    seed: u64,
-) -> Result<(bool, u64), Fail>
+    cache: &Dcache,
+    mut pass: Pass,
+    thread: u64,
+    another: u64,
+) -> Pass
     requires sync { IsSync R.row }
+    requires pass { Fits cache.now pass }
+    ensures { Fits cache.now result }
 {
-    let (input, later) = lines(alloc, seed)?;
-    let stamps = record(rt, alloc, buckets, &input)?;
-    let answered = stamps.len() as u64 == SESSIONS * PHASES * LINES;
-    let alone = check(alloc, INODES, &stamps)? == Verdict::Legal;
-    let phased = verdict(alloc, &input, &stamps)? == PhasedVerdict::Legal;
-    Ok((answered && alone && phased, later))
+    let other = cache.split(&mut pass);
+    let (mut pass, other) = join(
+        rt,
+        move || -> Pass
+            requires { Fits cache.now pass }
+            ensures { Fits cache.entry.now result }
+        { work_all(rt, alloc, cache, pass, thread) },
+        move || -> Pass
+            requires { Fits cache.now other }
+            ensures { Fits cache.entry.now result }
+        { work_all(rt, alloc, cache, other, another) },
+    );
+    cache.join(&mut pass, other);
+    pass
+}
+
+/// Four threads at work, with passes that are one again afterwards.
+fn work_in_four<R: Threads + Wait + Sync>(
+    rt: &R,
+    alloc: Global,
+    cache: &Dcache,
+    mut pass: Pass,
+) -> Pass
+    requires sync { IsSync R.row }
+    requires pass { Fits cache.now pass }
+    ensures { Fits cache.now result }
+{
+    let other = cache.split(&mut pass);
+    let (mut pass, other) = join(
+        rt,
+        move || -> Pass
+            requires { IsSync R.row × Fits cache.now pass }
+            ensures { Fits cache.entry.now result }
+        { work_in_two(rt, alloc, cache, pass, 1, 2) },
+        move || -> Pass
+            requires { IsSync R.row × Fits cache.now other }
+            ensures { Fits cache.entry.now result }
+        { work_in_two(rt, alloc, cache, other, 3, 4) },
+    );
+    cache.join(&mut pass, other);
+    pass
+}
+
+/// Looks a name up that is absent, and tells at which point it is so.
+fn absent_at<R: Wait>(
+    rt: &R,
+    alloc: Global,
+    cache: &Dcache,
+    pass: &mut Pass,
+    name: &[u8],
+) -> Option<u64>
+    requires { Fits cache.now pass.old }
+    ensures { Fits cache.now pass.new }
+{
+    let found = cache.look(rt, alloc, pass, ROOT, name, Follow::Yes);
+    if found.reply == Reply::Refused(2) {
+        Some(found.at)
+    } else {
+        None
+    }
 }
 
 #[test]
-fn storms_on_one_bucket_are_legal(rt: HostRuntime) -> Result<(), Fail> {
-    let mut seed = 1;
-    for run in 0..34 {
-        let (legal, later) = storm(&rt, rt.alloc(), 1, seed)?;
-        assert!(rt; legal, "run {run}");
-        seed = later;
-    }
-    Ok(())
-}
-
-#[test]
-fn storms_on_sixteen_buckets_are_legal(rt: HostRuntime) -> Result<(), Fail> {
-    let mut seed = 2;
-    for run in 0..33 {
-        let (legal, later) = storm(&rt, rt.alloc(), 16, seed)?;
-        assert!(rt; legal, "run {run}");
-        seed = later;
-    }
-    Ok(())
-}
-
-#[test]
-fn storms_on_many_buckets_are_legal(rt: HostRuntime) -> Result<(), Fail> {
-    let mut seed = 3;
-    for run in 0..33 {
-        let (legal, later) = storm(&rt, rt.alloc(), 256, seed)?;
-        assert!(rt; legal, "run {run}");
-        seed = later;
-    }
+fn no_pin_outlives_its_walk(rt: HostRuntime) -> Result<(), Fail> {
+    let (cache, pass) = Dcache::new(rt.alloc(), 1, 64).expect(&rt, "memory");
+    let mut pass = work_in_four(&rt, rt.alloc(), &cache, pass);
+    assert!(rt; cache.shrink(&rt, &mut pass, 4) <= 4);
+    assert!(rt; cache.shrink(&rt, &mut pass, 4) == 0);
+    let at = absent_at(&rt, rt.alloc(), &cache, &mut pass, b"w").expect(&rt, "an absent name");
+    let steps = [
+        Step::Look(b"x", Follow::Yes, Reply::Refused(2), at),
+        Step::Look(b"y", Follow::Yes, Reply::Refused(2), at),
+        Step::Look(b"z", Follow::Yes, Reply::Refused(2), at),
+        Step::Fast(b"w", Reply::Refused(2), at),
+        Step::Fast(b"x", Reply::Refused(2), at),
+        Step::Fast(b"y", Reply::Refused(2), at),
+        Step::Fast(b"z", Reply::Refused(2), at),
+    ];
+    assert_eq!(rt; play(&rt, rt.alloc(), &cache, &mut pass, &steps), None);
     Ok(())
 }

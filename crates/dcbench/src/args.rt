@@ -14,140 +14,180 @@ static WORKS: [&str; 6] = ["read", "absent", "mixed", "churn", "miss", "links"];
 
 static RACES: [&str; 2] = ["rename", "exchange"];
 
-/// An option with a number from 1 to `most`.
-fn number<'a>(alloc: Global, id: &'a str, most: i64, default: &'a str, help: &'a str) -> Arg<'a> {
+/// What an option is given, and its default.
+#[derive(Clone, Copy)]
+enum Given {
+    /// Nothing: it is a flag.
+    Nothing,
+    /// The path of a file.
+    File,
+    /// A number from 1 to this.
+    Number(i64, &'static str),
+    /// A number of seconds.
+    Seconds(&'static str),
+    /// A kind of work.
+    Work(&'static str),
+    /// A race, which stands without a name before it.
+    Race,
+}
+
+/// An option of a command: its name, what it is given, and what it is for.
+#[derive(Clone, Copy)]
+struct Choice(&'static str, Given, &'static str);
+
+const JSON: &str = "A line of JSON for each row";
+
+const TIME: &str = "How long each row of the table is timed, as 0.5";
+
+const LOOK: [Choice; 5] = [
+    Choice("threads", Given::Number(64, "1"), "Threads, from 1 to 64"),
+    Choice(
+        "tree",
+        Given::File,
+        "Looks up the paths of this tree, as the command tree writes one",
+    ),
+    Choice("seconds", Given::Seconds("0.3"), TIME),
+    Choice("json", Given::Nothing, JSON),
+    Choice(
+        "one-hold",
+        Given::Nothing,
+        "Looks up by look_filled: a miss takes the lock once",
+    ),
+];
+
+/// The options of a tree that is drawn.
+const SHAPE: [Choice; 4] = [
+    Choice(
+        "work",
+        Given::Work("read"),
+        "What is looked up, and what is changed in between",
+    ),
+    Choice(
+        "depth",
+        Given::Number(64, "4"),
+        "Names of a path, from 1 to 64",
+    ),
+    Choice(
+        "hot",
+        Given::Number(100_000, "1000"),
+        "Files that are asked",
+    ),
+    Choice(
+        "buckets",
+        Given::Number(1_048_576, "1024"),
+        "Buckets of four rows: a power of two up to 1048576",
+    ),
+];
+
+const CHANGE: [Choice; 3] = [
+    Choice("threads", Given::Number(64, "1"), "Threads, from 1 to 64"),
+    Choice("seconds", Given::Seconds("0.3"), TIME),
+    Choice("json", Given::Nothing, JSON),
+];
+
+const RACE: [Choice; 6] = [
+    Choice("RACE", Given::Race, "What is renamed above the path"),
+    Choice(
+        "depth",
+        Given::Number(64, "4"),
+        "Directories between what is renamed and the file, from 1 to 64",
+    ),
+    Choice(
+        "looks",
+        Given::Number(1_000_000_000, "1000000"),
+        "Look-ups of all threads",
+    ),
+    Choice("threads", Given::Number(64, "2"), "Threads, from 1 to 64"),
+    Choice("json", Given::Nothing, "One line of JSON"),
+    Choice(
+        "wrong-only",
+        Given::Nothing,
+        "Prints the number of wrong answers alone",
+    ),
+];
+
+/// A command: its name, what it is for, its own options, and those of a tree, if it draws one.
+#[derive(Clone, Copy)]
+struct Deed(
+    &'static str,
+    &'static str,
+    &'static [Choice],
+    &'static [Choice],
+);
+
+const DEEDS: [Deed; 4] = [
+    Deed("look", "Times look-ups by 1 to N threads", &LOOK, &SHAPE),
+    Deed(
+        "change",
+        "Times changes by 1 to N threads, each of which makes and unlinks a file of its own",
+        &CHANGE,
+        &[],
+    ),
+    Deed(
+        "race",
+        "Looks up while a directory of the path is renamed, and counts the wrong answers",
+        &RACE,
+        &[],
+    ),
+    Deed(
+        "tree",
+        "Writes the lines of a tree that is drawn",
+        &[],
+        &SHAPE,
+    ),
+];
+
+/// An option that is given a value.
+fn valued<'a>(alloc: Global, id: &'a str, value: &'a str, default: &'a str) -> Arg<'a> {
     Arg::new(alloc, id)
         .long(id)
-        .value_name("N")
-        .help(help)
-        .value_parser(value_parser!(u64).range(1..=most))
+        .value_name(value)
         .default_value(default)
 }
 
-fn flag<'a>(alloc: Global, id: &'a str, help: &'a str) -> Arg<'a> {
-    Arg::new(alloc, id)
-        .long(id)
-        .help(help)
-        .action(ArgAction::SetTrue)
+/// An option without what it is for.
+fn bare<'a>(alloc: Global, id: &'a str, given: Given) -> Arg<'a> {
+    match given {
+        Given::Nothing => Arg::new(alloc, id).long(id).action(ArgAction::SetTrue),
+        Given::File => Arg::new(alloc, id).long(id).value_name("FILE"),
+        Given::Number(most, default) => {
+            valued(alloc, id, "N", default).value_parser(value_parser!(u64).range(1..=most))
+        }
+        Given::Seconds(default) => {
+            valued(alloc, id, "S", default).value_parser(value_parser!(f64))
+        }
+        Given::Work(default) => {
+            valued(alloc, id, "WORK", default).value_parser(WORKS.as_slice())
+        }
+        Given::Race => Arg::new(alloc, id)
+            .required(true)
+            .value_parser(RACES.as_slice()),
+    }
 }
 
-fn threads<'a>(alloc: Global, default: &'a str) -> Arg<'a> {
-    number(alloc, "threads", 64, default, "Threads, from 1 to 64")
+/// A command with some options more.
+fn with<'a>(alloc: Global, command: Command<'a>, choices: &[Choice]) -> Result<Command<'a>, Error> {
+    let mut command = command;
+    for choice in choices {
+        let Choice(id, given, help) = *choice;
+        command = command.arg(bare(alloc, id, given).help(help))?;
+    }
+    Ok(command)
 }
 
-fn depth<'a>(alloc: Global, help: &'a str) -> Arg<'a> {
-    number(alloc, "depth", 64, "4", help)
-}
-
-fn milliseconds<'a>(alloc: Global) -> Arg<'a> {
-    Arg::new(alloc, "seconds")
-        .long("seconds")
-        .value_name("S")
-        .help("How long each row of the table is timed, as 0.5")
-        .value_parser(value_parser!(f64))
-        .default_value("0.3")
-}
-
-/// The options of a tree that is drawn.
-fn with_shape<'a>(alloc: Global, command: Command<'a>) -> Result<Command<'a>, Error> {
-    let work = Arg::new(alloc, "work")
-        .long("work")
-        .value_name("WORK")
-        .help("What is looked up, and what is changed in between")
-        .value_parser(WORKS.as_slice())
-        .default_value("read");
-    let hot = number(alloc, "hot", 100_000, "1000", "Files that are asked");
-    let buckets = number(
-        alloc,
-        "buckets",
-        1_048_576,
-        "1024",
-        "Buckets of four rows: a power of two up to 1048576",
-    );
-    Ok(
-        command
-            .arg(work)?
-            .arg(depth(alloc, "Names of a path, from 1 to 64"))?
-            .arg(hot)?
-            .arg(buckets)?,
-    )
-}
-
-fn look_command<'a>(alloc: Global) -> Result<Command<'a>, Error> {
-    let tree = Arg::new(alloc, "tree").long("tree").value_name("FILE").help(
-        "Looks up the paths of this tree, as the command tree writes one",
-    );
-    let command = Command::new(alloc, "look")
-        .about("Times look-ups by 1 to N threads")
-        .arg(threads(alloc, "1"))?
-        .arg(tree)?
-        .arg(milliseconds(alloc))?
-        .arg(flag(alloc, "json", "A line of JSON for each row"))?
-        .arg(flag(
-            alloc,
-            "one-hold",
-            "Looks up by look_filled: a miss takes the lock once",
-        ))?;
-    with_shape(alloc, command)
-}
-
-fn change_command<'a>(alloc: Global) -> Result<Command<'a>, Error> {
-    Ok(
-        Command::new(alloc, "change")
-            .about(
-                "Times changes by 1 to N threads, each of which makes and unlinks a file of its own",
-            )
-            .arg(threads(alloc, "1"))?
-            .arg(milliseconds(alloc))?
-            .arg(flag(alloc, "json", "A line of JSON for each row"))?,
-    )
-}
-
-fn race_command<'a>(alloc: Global) -> Result<Command<'a>, Error> {
-    let sort = Arg::new(alloc, "RACE")
-        .required(true)
-        .value_parser(RACES.as_slice())
-        .help("What is renamed above the path");
-    Ok(
-        Command::new(alloc, "race")
-            .about(
-                "Looks up while a directory of the path is renamed, and counts the wrong answers",
-            )
-            .arg(sort)?
-            .arg(depth(
-                alloc,
-                "Directories between what is renamed and the file, from 1 to 64",
-            ))?
-            .arg(number(
-                alloc,
-                "looks",
-                1_000_000_000,
-                "1000000",
-                "Look-ups of all threads",
-            ))?
-            .arg(threads(alloc, "2"))?
-            .arg(flag(alloc, "json", "One line of JSON"))?
-            .arg(flag(
-                alloc,
-                "wrong-only",
-                "Prints the number of wrong answers alone",
-            ))?,
-    )
-}
-
-fn tree_command<'a>(alloc: Global) -> Result<Command<'a>, Error> {
-    let command = Command::new(alloc, "tree").about("Writes the lines of a tree that is drawn");
-    with_shape(alloc, command)
+fn command_of<'a>(alloc: Global, deed: &Deed) -> Result<Command<'a>, Error> {
+    let Deed(name, about, own, shape) = *deed;
+    let command = with(alloc, Command::new(alloc, name).about(about), own)?;
+    with(alloc, command, shape)
 }
 
 fn matches_in<'a>(alloc: Global, words: &'a [String]) -> Result<ArgMatches<'a>, Error> {
-    let command = Command::new(alloc, "dcbench")
+    let mut command = Command::new(alloc, "dcbench")
         .about(ABOUT)
-        .no_binary_name(true)
-        .subcommand(look_command(alloc)?)?
-        .subcommand(change_command(alloc)?)?
-        .subcommand(race_command(alloc)?)?
-        .subcommand(tree_command(alloc)?)?;
+        .no_binary_name(true);
+    for deed in &DEEDS {
+        command = command.subcommand(command_of(alloc, deed)?)?;
+    }
     command.try_get_matches_from(words)
 }
 

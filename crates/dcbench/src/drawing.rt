@@ -116,7 +116,7 @@ impl Drawing {
     fn fits(&self, parent: u64, name: &[u8]) -> Result<bool, Fault> {
         Ok(
             self.has_row(parent, name)
-                && (self.shape.work != Work::Absent
+                && (!matches!(self.shape.work, Work::Absent)
                     || self.has_row(parent, &with(self.alloc, name, ABSENT)?)),
         )
     }
@@ -131,7 +131,7 @@ impl Drawing {
             name = self.name(index)?;
         }
         self.take(parent, &name);
-        if self.shape.work == Work::Absent {
+        if let Work::Absent = self.shape.work {
             let absent = with(self.alloc, &name, ABSENT)?;
             self.take(parent, &absent);
         }
@@ -245,7 +245,7 @@ fn letters_of(number: u64) -> u64 {
 pub fn draw(alloc: Global, shape: Shape) -> Result<Vec<u8>, Fault> {
     let mut drawing = Drawing::new(alloc, shape)?;
     let (firsts, above) = drawing.directories()?;
-    let linked = shape.work == Work::Links;
+    let linked = matches!(shape.work, Work::Links);
     let kind: &[u8] = if linked { b"c " } else { b"f " };
     let files = drawing.level(kind, &above, shape.hot)?;
     if linked {

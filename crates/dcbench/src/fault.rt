@@ -29,27 +29,43 @@ pub enum Fault {
 }
 
 impl Fault {
+    /// The status that the program ends with.
+    fn status(&self) -> u8 {
+        match self {
+            Fault::Words(error) => match error.kind() {
+                ErrorKind::DisplayHelp => 0,
+                ErrorKind::OutOfMemory => 3,
+                _ => 2,
+            },
+            Fault::NoText | Fault::BadSize => 2,
+            Fault::NoMemory => 3,
+            Fault::Unread | Fault::NoClock | Fault::Write => 4,
+            Fault::BadLine(_) | Fault::NoPaths => 5,
+        }
+    }
+
+    /// What is told of the fault, but for the line that is bad.
+    fn text(&self) -> &'static str {
+        match self {
+            Fault::NoText => "an argument is no text",
+            Fault::BadSize => "--buckets: a power of two from 1 to 1048576",
+            Fault::Words(_) | Fault::NoMemory => "no memory",
+            Fault::Unread => "the tree can't be read",
+            Fault::NoClock => "the clock can't be read",
+            Fault::Write => "write fault",
+            Fault::BadLine(_) => "bad line",
+            Fault::NoPaths => "the tree has no path to look up",
+        }
+    }
+
     /// Tells the fault, help on standard output and all else on standard error. Answers the status.
     pub fn tell<R: Print + Eprint>(&self, rt: &R) -> u8 {
-        let (status, told) = match self {
-            Fault::Words(error) => match error.kind() {
-                ErrorKind::DisplayHelp => (0, error.print(rt)),
-                ErrorKind::OutOfMemory => (3, eprintln!(rt; "dcbench: no memory")),
-                _ => (2, error.print(rt)),
-            },
-            Fault::NoText => (2, eprintln!(rt; "dcbench: an argument is no text")),
-            Fault::BadSize => (
-                2,
-                eprintln!(rt; "dcbench: --buckets: a power of two from 1 to 1048576"),
-            ),
-            Fault::NoMemory => (3, eprintln!(rt; "dcbench: no memory")),
-            Fault::Unread => (4, eprintln!(rt; "dcbench: the tree can't be read")),
-            Fault::NoClock => (4, eprintln!(rt; "dcbench: the clock can't be read")),
-            Fault::Write => (4, eprintln!(rt; "dcbench: write fault")),
-            Fault::BadLine(line) => (5, eprintln!(rt; "dcbench: bad line {line} of the tree")),
-            Fault::NoPaths => (5, eprintln!(rt; "dcbench: the tree has no path to look up")),
+        let status = self.status();
+        let _ = match self {
+            Fault::Words(error) if status != 3 => error.print(rt),
+            Fault::BadLine(line) => eprintln!(rt; "dcbench: bad line {line} of the tree"),
+            _ => eprintln!(rt; "dcbench: {}", self.text()),
         };
-        let _ = told;
         status
     }
 }

@@ -46,7 +46,7 @@ fn look_slowly<R: Wait>(
     requires { Fits cache.now pass.old }
     ensures { Fits cache.now pass.new }
 {
-    if miss == Miss::OneHold {
+    if let Miss::OneHold = miss {
         tally.by_lock = tally.by_lock.saturating_add(1);
         return cache
             .look_filled(rt, alloc, pass, ROOT, path.bytes(), Follow::Yes)

@@ -56,6 +56,17 @@ fn add_directories(lines: &mut Vec<u8>, top: &str, depth: u64) -> Result<(), Fau
     Ok(())
 }
 
+/// The lines of two directories that swap their names, and of the file below the second.
+fn exchange_lines(alloc: Global, depth: u64, made: &[u8]) -> Result<Vec<u8>, Fault> {
+    let mut lines = Vec::new(alloc);
+    add_directories(&mut lines, "/a", depth)?;
+    add_directories(&mut lines, "/b", depth)?;
+    lines.extend_from_slice(b"l ../b /a/l\nl ../a /b/l\nc ")?;
+    lines.extend_from_slice(made)?;
+    lines.push(b'\n')?;
+    Ok(lines)
+}
+
 impl Course {
     /// The course with so many directories between the one that is renamed and the file.
     pub fn new(alloc: Global, sort: Sort, depth: u64) -> Result<Course, Fault> {
@@ -76,15 +87,9 @@ impl Course {
     }
 
     fn of_exchange(alloc: Global, depth: u64) -> Result<Course, Fault> {
-        let mut lines = Vec::new(alloc);
-        add_directories(&mut lines, "/a", depth)?;
-        add_directories(&mut lines, "/b", depth)?;
         let made = below(alloc, "/b", depth)?;
-        lines.extend_from_slice(b"l ../b /a/l\nl ../a /b/l\nc ")?;
-        lines.extend_from_slice(&made)?;
-        lines.push(b'\n')?;
         Ok(Course {
-            lines,
+            lines: exchange_lines(alloc, depth, &made)?,
             asked: below(alloc, "/a/l", depth)?,
             made,
         })

@@ -48,6 +48,29 @@ fn run_race<R: Threads + Wait + Clock + Sync>(
     Ok(spread(rt, cache, &job, pass, 0, task.threads))
 }
 
+/// A race on a course, of whose tree these are the lines.
+fn row_on<R: Threads + Wait + Clock + Sync>(
+    rt: &R,
+    alloc: Global,
+    task: &RaceTask,
+    course: &Course,
+    lines: &[&[u8]],
+) -> Result<RaceRow, Fault>
+    requires { IsSync R.row }
+{
+    let (cache, mut pass) = Dcache::new(alloc, 256, INODES)?;
+    plant(rt, alloc, &cache, &mut pass, lines)?;
+    let begin = Instant::now(rt).map_err(|_| Fault::NoClock)?;
+    let tally = run_race(rt, alloc, task, course, &cache, pass)?;
+    let took = begin.elapsed(rt).map_err(|_| Fault::NoClock)?;
+    Ok(RaceRow {
+        sort: task.sort,
+        depth: task.depth,
+        milliseconds: nanoseconds(took) / 1_000_000,
+        tally,
+    })
+}
+
 /// One race.
 pub fn race_row<R: Threads + Wait + Clock + Sync>(
     rt: &R,
@@ -58,15 +81,5 @@ pub fn race_row<R: Threads + Wait + Clock + Sync>(
 {
     let course = Course::new(alloc, task.sort, task.depth)?;
     let lines = lines_in(alloc, &course.lines)?;
-    let (cache, mut pass) = Dcache::new(alloc, 256, INODES)?;
-    plant(rt, alloc, &cache, &mut pass, &lines)?;
-    let begin = Instant::now(rt).map_err(|_| Fault::NoClock)?;
-    let tally = run_race(rt, alloc, task, &course, &cache, pass)?;
-    let took = begin.elapsed(rt).map_err(|_| Fault::NoClock)?;
-    Ok(RaceRow {
-        sort: task.sort,
-        depth: task.depth,
-        milliseconds: nanoseconds(took) / 1_000_000,
-        tally,
-    })
+    row_on(rt, alloc, task, &course, &lines)
 }

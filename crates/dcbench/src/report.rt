@@ -2,7 +2,7 @@
 
 use crate::tally::Tally;
 use crate::work::{Shape, Sort, Work};
-use serde_json::json;
+use serde_json::{Map, Value, put};
 use std::alloc::{AllocError, Global};
 use std::fmt;
 
@@ -10,6 +10,24 @@ use std::fmt;
 pub trait Row: fmt::Display {
     /// The row as an object of JSON. Times are in picoseconds.
     fn json(&self, alloc: Global) -> Result<String, AllocError>;
+}
+
+/// An object of JSON: texts and numbers by their names.
+fn object(
+    alloc: Global,
+    texts: &[(&str, &str)],
+    numbers: &[(&str, u64)],
+) -> Result<String, AllocError> {
+    let mut members = Map::new(alloc);
+    for member in texts {
+        let (name, text) = *member;
+        put(&mut members, alloc, name, Value::try_from_str(alloc, text)?)?;
+    }
+    for member in numbers {
+        let (name, number) = *member;
+        put(&mut members, alloc, name, Value::from(number))?;
+    }
+    Value::Object(members).to_string(alloc)
 }
 
 /// A number of picoseconds, shown in nanoseconds with one digit behind the point.
@@ -74,30 +92,31 @@ impl fmt::Display for LookRow {
 impl Row for LookRow {
     fn json(&self, alloc: Global) -> Result<String, AllocError> {
         let tally = &self.tally;
-        json!(in alloc; {
-            "command": "look",
-            "work": self.shape.work.name(),
-            "depth": self.shape.depth,
-            "hot": self.shape.hot,
-            "buckets": self.shape.buckets,
-            "threads": self.threads,
-            "median_ps": tally.quantile(50),
-            "p99_ps": tally.quantile(99),
-            "least_ps": tally.quantile(0),
-            "calls_a_second": tally.rate,
-            "looks": tally.looks,
-            "changes": tally.changes,
-            "found": tally.found,
-            "without_lock": tally.by_fast(),
-            "by_filled_rows": tally.by_rows,
-            "under_lock": tally.by_lock,
-            "rows_gone": tally.missed,
-            "disturbed": tally.disturbed,
-            "rows_evicted": self.evicted,
-            "rows_in_use": self.filled,
-            "changes_refused": tally.wrong
-        })?
-        .to_string(alloc)
+        object(
+            alloc,
+            &[("command", "look"), ("work", self.shape.work.name())],
+            &[
+                ("depth", self.shape.depth),
+                ("hot", self.shape.hot),
+                ("buckets", self.shape.buckets),
+                ("threads", self.threads),
+                ("median_ps", tally.quantile(50)),
+                ("p99_ps", tally.quantile(99)),
+                ("least_ps", tally.quantile(0)),
+                ("calls_a_second", tally.rate),
+                ("looks", tally.looks),
+                ("changes", tally.changes),
+                ("found", tally.found),
+                ("without_lock", tally.by_fast()),
+                ("by_filled_rows", tally.by_rows),
+                ("under_lock", tally.by_lock),
+                ("rows_gone", tally.missed),
+                ("disturbed", tally.disturbed),
+                ("rows_evicted", self.evicted),
+                ("rows_in_use", self.filled),
+                ("changes_refused", tally.wrong),
+            ],
+        )
     }
 }
 
@@ -128,17 +147,19 @@ impl fmt::Display for ChangeRow {
 impl Row for ChangeRow {
     fn json(&self, alloc: Global) -> Result<String, AllocError> {
         let tally = &self.tally;
-        json!(in alloc; {
-            "command": "change",
-            "threads": self.threads,
-            "median_ps": tally.quantile(50),
-            "p99_ps": tally.quantile(99),
-            "least_ps": tally.quantile(0),
-            "changes_a_second": tally.rate,
-            "changes": tally.changes,
-            "changes_refused": tally.wrong
-        })?
-        .to_string(alloc)
+        object(
+            alloc,
+            &[("command", "change")],
+            &[
+                ("threads", self.threads),
+                ("median_ps", tally.quantile(50)),
+                ("p99_ps", tally.quantile(99)),
+                ("least_ps", tally.quantile(0)),
+                ("changes_a_second", tally.rate),
+                ("changes", tally.changes),
+                ("changes_refused", tally.wrong),
+            ],
+        )
     }
 }
 
@@ -173,19 +194,20 @@ impl fmt::Display for RaceRow {
 impl Row for RaceRow {
     fn json(&self, alloc: Global) -> Result<String, AllocError> {
         let tally = &self.tally;
-        json!(in alloc; {
-            "command": "race",
-            "race": self.sort.name(),
-            "depth": self.depth,
-            "looks": tally.looks,
-            "wrong": tally.wrong,
-            "without_lock": tally.by_fast(),
-            "by_filled_rows": tally.by_rows,
-            "under_lock": tally.by_lock,
-            "disturbed": tally.disturbed,
-            "changes": tally.changes,
-            "milliseconds": self.milliseconds
-        })?
-        .to_string(alloc)
+        object(
+            alloc,
+            &[("command", "race"), ("race", self.sort.name())],
+            &[
+                ("depth", self.depth),
+                ("looks", tally.looks),
+                ("wrong", tally.wrong),
+                ("without_lock", tally.by_fast()),
+                ("by_filled_rows", tally.by_rows),
+                ("under_lock", tally.by_lock),
+                ("disturbed", tally.disturbed),
+                ("changes", tally.changes),
+                ("milliseconds", self.milliseconds),
+            ],
+        )
     }
 }

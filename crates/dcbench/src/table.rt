@@ -46,6 +46,51 @@ fn text_of<R: Files + AllocGlobal>(
     }
 }
 
+/// Times rows of look-ups by these numbers of threads.
+fn look_rows<R: Threads + Wait + Clock + Sync + Print>(
+    rt: &R,
+    alloc: Global,
+    plan: &Plan<'_>,
+    json: bool,
+    threads: &[u64],
+) -> Result<(), Fault>
+    requires { IsSync R.row }
+{
+    for threads in threads {
+        let row = look_row(rt, alloc, plan, *threads)?;
+        tell(rt, alloc, &row, json)?;
+    }
+    Ok(())
+}
+
+/// Times look-ups of these files of a tree.
+fn look_files<R: Threads + Wait + Clock + Sync + Print>(
+    rt: &R,
+    alloc: Global,
+    task: &LookTask<'_>,
+    lines: &[&[u8]],
+    files: &[&[u8]],
+    threads: &[u64],
+) -> Result<(), Fault>
+    requires { IsSync R.row }
+{
+    let texts = texts_of(alloc, task.shape, files)?;
+    let paths = parsed(alloc, &texts)?;
+    let order = ordered(alloc, task.shape.work, &paths)?;
+    let plan = Plan {
+        shape: Shape {
+            hot: files.len() as u64,
+            ..task.shape
+        },
+        time: task.time,
+        lines,
+        files,
+        paths: &paths,
+        order: &order,
+    };
+    look_rows(rt, alloc, &plan, task.json, threads)
+}
+
 /// Times look-ups by these numbers of threads.
 fn look_by<R: Threads + Wait + Clock + Sync + Print + Files + AllocGlobal>(
     rt: &R,
@@ -58,25 +103,7 @@ fn look_by<R: Threads + Wait + Clock + Sync + Print + Files + AllocGlobal>(
     let text = text_of(rt, alloc, task)?;
     let lines = lines_in(alloc, &text)?;
     let files = asked_in(alloc, &lines)?;
-    let texts = texts_of(alloc, task.shape, &files)?;
-    let paths = parsed(alloc, &texts)?;
-    let order = ordered(alloc, task.shape.work, &paths)?;
-    let plan = Plan {
-        shape: Shape {
-            hot: files.len() as u64,
-            ..task.shape
-        },
-        time: task.time,
-        lines: &lines,
-        files: &files,
-        paths: &paths,
-        order: &order,
-    };
-    for threads in threads {
-        let row = look_row(rt, alloc, &plan, *threads)?;
-        tell(rt, alloc, &row, task.json)?;
-    }
-    Ok(())
+    look_files(rt, alloc, task, &lines, &files, threads)
 }
 
 /// The numbers from 1 to this.
@@ -118,7 +145,7 @@ fn race<R: Threads + Wait + Clock + Sync + Print>(
             println!(rt; "wrong answers: {}", row.tally.wrong)?;
             Ok(())
         }
-        style => tell(rt, alloc, &row, style == Style::Json),
+        style => tell(rt, alloc, &row, matches!(style, Style::Json)),
     }
 }
 
@@ -228,7 +255,7 @@ pub fn perform<R: Threads + Wait + Clock + Sync + Print + Files + AllocGlobal>(
             change_by(rt, alloc, change, &up_to(alloc, change.threads)?)
         }
         Task::Race(task) => {
-            head(rt, RACE_HEAD, task.style != Style::Table)?;
+            head(rt, RACE_HEAD, !matches!(task.style, Style::Table))?;
             race(rt, alloc, task)
         }
         Task::Tree(shape) => tree(rt, alloc, *shape),

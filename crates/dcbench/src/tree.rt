@@ -119,6 +119,16 @@ pub fn asked_in<'a>(alloc: Global, lines: &[&'a [u8]]) -> Result<Vec<&'a [u8]>, 
     Ok(asked)
 }
 
+/// A path with something behind it, and a number but for 0.
+fn ending_in(alloc: Global, path: &[u8], ending: &str, number: u64) -> Result<Vec<u8>, Fault> {
+    let mut text = Vec::from_slice(alloc, path)?;
+    text.extend_from_slice(ending.as_bytes())?;
+    if number > 0 {
+        text.extend_from_slice(format!(in alloc; "{number}")?.as_bytes())?;
+    }
+    Ok(text)
+}
+
 /// Each path with something behind it, `count` times over with a number from 0.
 pub fn extended(
     alloc: Global,
@@ -129,12 +139,7 @@ pub fn extended(
     let mut all = Vec::new(alloc);
     'counts: for i in 0..count {
         for path in paths {
-            let mut text = Vec::from_slice(alloc, *path)?;
-            text.extend_from_slice(ending.as_bytes())?;
-            if i > 0 {
-                text.extend_from_slice(format!(in alloc; "{i}")?.as_bytes())?;
-            }
-            all.push(text)?;
+            all.push(ending_in(alloc, path, ending, i)?)?;
         }
     }
     Ok(all)

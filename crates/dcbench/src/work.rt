@@ -1,10 +1,9 @@
 //! What is measured, and over what: the kinds of work, their sizes, and the tasks of the command line.
 
-use std::fmt;
 use std::time::Duration;
 
 /// What the threads of a run of look-ups do.
-#[derive(Clone, Copy, PartialEq, Eq)]
+#[derive(Clone, Copy)]
 pub enum Work {
     /// Files that are there.
     Read,
@@ -68,14 +67,8 @@ impl Work {
     }
 }
 
-impl fmt::Display for Work {
-    fn fmt<W: fmt::Write>(&self, f: &mut fmt::Formatter<W>) -> fmt::Result {
-        f.write_str(self.name())
-    }
-}
-
 /// The races: what is renamed above the paths that are looked up.
-#[derive(Clone, Copy, PartialEq, Eq)]
+#[derive(Clone, Copy)]
 pub enum Sort {
     /// A directory gets another name and back, and a file stands below it in between.
     Rename,
@@ -104,7 +97,7 @@ pub struct LookTask<'a> {
 }
 
 /// What a look-up does where the rows don't answer.
-#[derive(Clone, Copy, PartialEq, Eq)]
+#[derive(Clone, Copy)]
 pub enum Miss {
     /// It takes the lock for each name of its path, as `look` does.
     NameByName,
@@ -142,7 +135,7 @@ pub struct RaceTask {
 }
 
 /// How a race is told.
-#[derive(Clone, Copy, PartialEq, Eq)]
+#[derive(Clone, Copy)]
 pub enum Style {
     Table,
     Json,

@@ -1,5 +1,6 @@
 //! What ends the program without a verdict.
 
+use clap::error::ErrorKind;
 use dc_lang::InputFault;
 use dc_names::NoMemory;
 use std::alloc::{AllocError, AllocFailed};
@@ -40,6 +41,35 @@ impl File {
             File::Commands => "COMMANDS",
             File::Replies => "REPLIES",
             File::Trace => "FILE",
+        }
+    }
+}
+
+impl Fault {
+    /// The status that the program ends with.
+    pub fn status(&self) -> u8 {
+        match self {
+            Fault::Words(error) => match error.kind() {
+                ErrorKind::DisplayHelp => 0,
+                ErrorKind::OutOfMemory => 3,
+                _ => 2,
+            },
+            Fault::NoText | Fault::BadSize | Fault::OneInput => 2,
+            Fault::NoMemory => 3,
+            Fault::Unread(_) | Fault::Write => 4,
+            Fault::BadLine(..) | Fault::Unpaired(_) => 5,
+        }
+    }
+
+    /// What is told of a fault that is of no file and no line.
+    pub fn text(&self) -> &'static str {
+        match self {
+            Fault::NoText => "an argument is no text",
+            Fault::BadSize => "bad size",
+            Fault::OneInput => "both files are standard input",
+            Fault::Write => "write fault",
+            Fault::Words(_) | Fault::NoMemory => "no memory",
+            Fault::Unread(_) | Fault::BadLine(..) | Fault::Unpaired(_) => "",
         }
     }
 }

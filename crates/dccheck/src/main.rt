@@ -13,13 +13,13 @@ mod traces;
 ghost use Rattle.std.specs.Prelude.{◌≤◌};
 ghost use Rattle.dc_names.specs.declared.limits.TheConstants.{MOST_INODES};
 
-use clap::error::ErrorKind;
 use command_line::{Options, Task, options_in};
 use counts::Counts;
 use dc_plain::MOST_INODES;
 use faults::{Fault, File};
 use progress::Progress;
 use record::Record;
+use report::Report;
 use std::io::{Read, Write};
 use std::process::ExitCode;
 use std::{env, fs, io};
@@ -66,6 +66,18 @@ fn tell_counts(rt: &HostRuntime, options: &Options, counts: &Counts) {
     }
 }
 
+/// Writes the verdict on a record, and what was judged. Answers the status.
+fn tell_report(rt: &HostRuntime, options: &Options, report: &Report) -> Result<u8, Fault> {
+    let text = if options.json {
+        report.json(rt.alloc())?
+    } else {
+        report.text(rt.alloc())?
+    };
+    write(rt, &text)?;
+    tell_counts(rt, options, &report.counts);
+    Ok(if report.is_legal() { 0 } else { 1 })
+}
+
 /// Judges a record. Answers the status.
 fn check_record(
     rt: &HostRuntime,
@@ -83,14 +95,26 @@ fn check_record(
     let record = Record::read(rt.alloc(), &input, &output)?;
     progress.tell(rt, "the replies are paired with the commands");
     let report = record.judge(rt.alloc(), options.inodes)?;
+    tell_report(rt, options, &report)
+}
+
+/// Writes what is said of a trace, and what was judged. Answers the status.
+fn tell_found(
+    rt: &HostRuntime,
+    options: &Options,
+    trace: &[u8],
+    found: &Found,
+) -> Result<u8, Fault> {
     let text = if options.json {
-        report.json(rt.alloc())?
+        found.json(rt.alloc())?
     } else {
-        report.text(rt.alloc())?
+        found.text(rt.alloc(), trace)?
     };
     write(rt, &text)?;
-    tell_counts(rt, options, &report.counts);
-    Ok(if report.is_legal() { 0 } else { 1 })
+    if let Found::Legal(_, _, report) = found {
+        tell_counts(rt, options, &report.counts);
+    }
+    Ok(found.status())
 }
 
 /// Judges a trace. Answers the status.
@@ -102,16 +126,7 @@ fn check_trace(rt: &HostRuntime, options: &Options, path: &str) -> Result<u8, Fa
     let trace = read(rt, path, File::Trace)?;
     progress.tell(rt, "the file is read");
     let found = explain(rt.alloc(), options.inodes, options.states, &trace)?;
-    let text = if options.json {
-        found.json(rt.alloc())?
-    } else {
-        found.text(rt.alloc(), &trace)?
-    };
-    write(rt, &text)?;
-    if let Found::Legal(_, _, report) = &found {
-        tell_counts(rt, options, &report.counts);
-    }
-    Ok(found.status())
+    tell_found(rt, options, &trace, &found)
 }
 
 /// Reads the files and writes the verdict. Answers the status.
@@ -129,30 +144,18 @@ fn run(rt: &HostRuntime) -> Result<u8, Fault> {
 
 /// Tells a fault, help on standard output and all else on standard error. Answers the status.
 fn tell(rt: &HostRuntime, fault: &Fault) -> u8 {
-    let (status, told) = match fault {
-        Fault::Words(error) => match error.kind() {
-            ErrorKind::DisplayHelp => (0, error.print(rt)),
-            ErrorKind::OutOfMemory => (3, eprintln!(rt; "dccheck: no memory")),
-            _ => (2, error.print(rt)),
-        },
-        Fault::NoText => (2, eprintln!(rt; "dccheck: an argument is no text")),
-        Fault::BadSize => (2, eprintln!(rt; "dccheck: bad size")),
-        Fault::OneInput => (2, eprintln!(rt; "dccheck: both files are standard input")),
-        Fault::NoMemory => (3, eprintln!(rt; "dccheck: no memory")),
-        Fault::Unread(file) => (4, eprintln!(rt; "dccheck: {} can't be read", file.name())),
-        Fault::Write => (4, eprintln!(rt; "dccheck: write fault")),
+    let status = fault.status();
+    let _ = match fault {
+        Fault::Words(error) if status != 3 => error.print(rt),
+        Fault::Unread(file) => eprintln!(rt; "dccheck: {} can't be read", file.name()),
         Fault::BadLine(file, line) => {
-            (
-                5,
-                eprintln!(rt; "dccheck: bad line {line} of {}", file.name()),
-            )
+            eprintln!(rt; "dccheck: bad line {line} of {}", file.name())
         }
-        Fault::Unpaired(line) => (
-            5,
-            eprintln!(rt; "dccheck: line {line} of REPLIES isn't the reply to its command"),
-        ),
+        Fault::Unpaired(line) => {
+            eprintln!(rt; "dccheck: line {line} of REPLIES isn't the reply to its command")
+        }
+        _ => eprintln!(rt; "dccheck: {}", fault.text()),
     };
-    let _ = told;
     status
 }
 

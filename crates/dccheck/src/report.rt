@@ -1,7 +1,7 @@
 //! What the program says of a record, as text and as JSON.
 
 use crate::counts::Counts;
-use serde_json::json;
+use serde_json::{Map, Value, put};
 use std::alloc::{AllocError, Global};
 
 /// A line of the replies, and its command.
@@ -32,12 +32,24 @@ pub struct Report {
     pub counts: Counts,
 }
 
+/// Adds some parts to a text.
+pub fn push_all(out: &mut Vec<u8>, parts: &[&[u8]]) -> Result<(), AllocError> {
+    for part in parts {
+        out.extend_from_slice(part)?;
+    }
+    Ok(())
+}
+
 /// Adds a reply and its command.
 fn push_answered(out: &mut Vec<u8>, one: &Answered) -> Result<(), AllocError> {
-    out.extend_from_slice(&one.reply)?;
-    out.extend_from_slice(b", for \"")?;
-    out.extend_from_slice(&one.command)?;
-    out.extend_from_slice(b"\"\n")
+    push_all(out, &[&one.reply, b", for \"", &one.command, b"\"\n"])
+}
+
+/// Adds one of the changes nearest to a line.
+fn push_near(alloc: Global, out: &mut Vec<u8>, one: &Answered) -> Result<(), AllocError> {
+    let head = format!(in alloc; "near {}: ", one.line)?;
+    out.extend_from_slice(head.as_bytes())?;
+    push_answered(out, one)
 }
 
 /// The text of the verdict that a line is bad.
@@ -45,12 +57,10 @@ fn wrong_text(alloc: Global, word: &str, wrong: &Wrong) -> Result<Vec<u8>, Alloc
     let mut out = format!(in alloc; "{word} {}: ", wrong.line.line)?.into_bytes();
     push_answered(&mut out, &wrong.line)?;
     if let Some(due) = &wrong.due {
-        out.extend_from_slice(b"due: ")?;
-        out.extend_from_slice(due)?;
+        push_all(&mut out, &[b"due: ", due])?;
     }
     for one in &wrong.near {
-        out.extend_from_slice(format!(in alloc; "near {}: ", one.line)?.as_bytes())?;
-        push_answered(&mut out, one)?;
+        push_near(alloc, &mut out, one)?;
     }
     Ok(out)
 }
@@ -58,6 +68,24 @@ fn wrong_text(alloc: Global, word: &str, wrong: &Wrong) -> Result<Vec<u8>, Alloc
 /// A line as a text, without its newline. Bytes that are no text are replaced.
 fn text_of(alloc: Global, line: &[u8]) -> Result<String, AllocError> {
     String::from_utf8_lossy(alloc, line.strip_suffix(b"\n").unwrap_or(line))
+}
+
+/// A line of JSON: texts and numbers by their names.
+pub fn json_line(
+    alloc: Global,
+    texts: &[(&str, String)],
+    numbers: &[(&str, u64)],
+) -> Result<Vec<u8>, AllocError> {
+    let mut members = Map::new(alloc);
+    for (name, text) in texts {
+        put(&mut members, alloc, name, Value::try_from_str(alloc, text)?)?;
+    }
+    for (name, number) in numbers {
+        put(&mut members, alloc, name, Value::from(*number))?;
+    }
+    let mut line = Value::Object(members).to_string(alloc)?.into_bytes();
+    line.push(b'\n')?;
+    Ok(line)
 }
 
 impl Report {
@@ -104,22 +132,24 @@ impl Report {
     /// The verdict as a line of JSON.
     pub fn json(&self, alloc: Global) -> Result<Vec<u8>, AllocError> {
         let (line, reply, command, due) = self.shown(alloc)?;
+        let word = self.word.to_string(alloc)?;
         let counts = &self.counts;
-        let mut text = json!(in alloc; {
-            "verdict": self.word,
-            "line": line,
-            "reply": reply,
-            "command": command,
-            "due": due,
-            "commands": counts.commands,
-            "replies": counts.replies,
-            "sessions": counts.sessions,
-            "phases": counts.phases,
-            "changes": counts.changes
-        })?
-        .to_string(alloc)?
-        .into_bytes();
-        text.extend_from_slice(b"\n")?;
-        Ok(text)
+        json_line(
+            alloc,
+            &[
+                ("verdict", word),
+                ("reply", reply),
+                ("command", command),
+                ("due", due),
+            ],
+            &[
+                ("line", line),
+                ("commands", counts.commands),
+                ("replies", counts.replies),
+                ("sessions", counts.sessions),
+                ("phases", counts.phases),
+                ("changes", counts.changes),
+            ],
+        )
     }
 }

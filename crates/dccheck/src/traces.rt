@@ -5,9 +5,8 @@ ghost use Rattle.dc_names.specs.declared.limits.TheConstants.{MOST_INODES};
 
 use crate::faults::{Fault, File};
 use crate::record::Record;
-use crate::report::Report;
+use crate::report::{Report, json_line, push_all};
 use dc_trace::{Outcome, TraceFault, find_order, read_trace, write_record};
-use serde_json::json;
 use std::alloc::{AllocError, Global};
 
 /// What a trace comes to.
@@ -54,11 +53,8 @@ pub fn explain(alloc: Global, inodes: u64, states: u64, trace: &[u8]) -> Result<
 
 /// A verdict with a line as JSON.
 fn short_json(alloc: Global, verdict: &str, line: u64) -> Result<Vec<u8>, AllocError> {
-    let mut text = json!(in alloc; { "verdict": verdict, "line": line })?
-        .to_string(alloc)?
-        .into_bytes();
-    text.extend_from_slice(b"\n")?;
-    Ok(text)
+    let word = verdict.to_string(alloc)?;
+    json_line(alloc, &[("verdict", word)], &[("line", line)])
 }
 
 impl Found {
@@ -76,18 +72,14 @@ impl Found {
         match self {
             Found::Legal(commands, replies, report) => {
                 let mut text = report.text(alloc)?;
-                text.extend_from_slice(b"\n")?;
-                text.extend_from_slice(commands)?;
-                text.extend_from_slice(b"\n")?;
-                text.extend_from_slice(replies)?;
+                push_all(&mut text, &[b"\n", commands, b"\n", replies])?;
                 Ok(text)
             }
             Found::Bad(line) => {
                 let place = (*line as usize).saturating_sub(1);
                 let mut text = format!(in alloc; "bad call {line}: ")?.into_bytes();
                 let said = trace.split(|byte| *byte == b'\n').nth(place);
-                text.extend_from_slice(said.unwrap_or(b""))?;
-                text.extend_from_slice(b"\n")?;
+                push_all(&mut text, &[said.unwrap_or(b""), b"\n"])?;
                 Ok(text)
             }
             Found::Undecided => Vec::from_slice(alloc, b"undecided\n"),

@@ -23,15 +23,36 @@ pub struct Task {
     pub brief: bool,
 }
 
-/// An option with a number from `least` to `most`.
-fn number<'a>(
-    alloc: Global,
-    id: &'a str,
-    range: (i64, i64),
-    default: &'a str,
-    help: &'a str,
-) -> Arg<'a> {
-    let (least, most) = range;
+/// An option with a number: its name, the least and the most, its default, and what it is for.
+#[derive(Clone, Copy)]
+struct Number(&'static str, i64, i64, &'static str, &'static str);
+
+const NUMBERS: [Number; 3] = [
+    Number(
+        "seconds",
+        0,
+        1_000_000,
+        "10",
+        "After so many seconds no further cache is begun",
+    ),
+    Number(
+        "seed",
+        0,
+        i64::MAX,
+        "1",
+        "The number of the first cache, by which its calls are drawn; each further one has the next",
+    ),
+    Number(
+        "calls",
+        16,
+        1_000_000,
+        "8000",
+        "Calls of all threads on a cache",
+    ),
+];
+
+fn option_of<'a>(alloc: Global, number: &Number) -> Arg<'a> {
+    let Number(id, least, most, default, help) = *number;
     Arg::new(alloc, id)
         .long(id)
         .value_name("N")
@@ -41,36 +62,17 @@ fn number<'a>(
 }
 
 fn matches_in<'a>(alloc: Global, words: &'a [String]) -> Result<ArgMatches<'a>, Error> {
+    let mut command = Command::new(alloc, "dcsoak")
+        .about(ABOUT)
+        .no_binary_name(true);
+    for option in &NUMBERS {
+        command = command.arg(option_of(alloc, option))?;
+    }
     let brief = Arg::new(alloc, "brief")
         .long("brief")
         .help("Prints the verdict alone")
         .action(ArgAction::SetTrue);
-    let command = Command::new(alloc, "dcsoak")
-        .about(ABOUT)
-        .no_binary_name(true)
-        .arg(number(
-            alloc,
-            "seconds",
-            (0, 1_000_000),
-            "10",
-            "After so many seconds no further cache is begun",
-        ))?
-        .arg(number(
-            alloc,
-            "seed",
-            (0, i64::MAX),
-            "1",
-            "The number of the first cache, by which its calls are drawn; each further one has the next",
-        ))?
-        .arg(number(
-            alloc,
-            "calls",
-            (16, 1_000_000),
-            "8000",
-            "Calls of all threads on a cache",
-        ))?
-        .arg(brief)?;
-    command.try_get_matches_from(words)
+    command.arg(brief)?.try_get_matches_from(words)
 }
 
 /// What the words after the program's name ask for.

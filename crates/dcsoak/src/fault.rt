@@ -1,7 +1,6 @@
 //! Why the program ends otherwise than well.
 
 use clap::error::ErrorKind;
-use dc_cache::MakeFault;
 use dc_names::NoMemory;
 use std::alloc::{AllocError, AllocFailed};
 use std::io;
@@ -24,21 +23,40 @@ pub enum Fault {
 }
 
 impl Fault {
+    /// The status that the program ends with.
+    fn status(&self) -> u8 {
+        match self {
+            Fault::Words(error) => match error.kind() {
+                ErrorKind::DisplayHelp => 0,
+                ErrorKind::OutOfMemory => 3,
+                _ => 2,
+            },
+            Fault::Wrong => 1,
+            Fault::NoText => 2,
+            Fault::NoMemory => 3,
+            Fault::NoClock | Fault::Write => 4,
+        }
+    }
+
+    /// What is told of the fault.
+    fn text(&self) -> &'static str {
+        match self {
+            Fault::Wrong => "a cache was wrong",
+            Fault::NoText => "an argument is no text",
+            Fault::Words(_) | Fault::NoMemory => "no memory",
+            Fault::NoClock => "the clock can't be read",
+            Fault::Write => "write fault",
+        }
+    }
+
     /// Tells the fault, help on standard output and all else on standard error. Answers the status.
     pub fn tell<R: Print + Eprint>(&self, rt: &R) -> u8 {
-        let (status, told) = match self {
-            Fault::Words(error) => match error.kind() {
-                ErrorKind::DisplayHelp => (0, error.print(rt)),
-                ErrorKind::OutOfMemory => (3, eprintln!(rt; "dcsoak: no memory")),
-                _ => (2, error.print(rt)),
-            },
-            Fault::Wrong => (1, Ok(())),
-            Fault::NoText => (2, eprintln!(rt; "dcsoak: an argument is no text")),
-            Fault::NoMemory => (3, eprintln!(rt; "dcsoak: no memory")),
-            Fault::NoClock => (4, eprintln!(rt; "dcsoak: the clock can't be read")),
-            Fault::Write => (4, eprintln!(rt; "dcsoak: write fault")),
+        let status = self.status();
+        let _ = match self {
+            Fault::Words(error) if status != 3 => error.print(rt),
+            Fault::Wrong => Ok(()),
+            _ => eprintln!(rt; "dcsoak: {}", self.text()),
         };
-        let _ = told;
         status
     }
 }
@@ -46,12 +64,6 @@ impl Fault {
 impl From<clap::Error> for Fault {
     fn from(error: clap::Error) -> Fault {
         Fault::Words(error)
-    }
-}
-
-impl From<MakeFault> for Fault {
-    fn from(_fault: MakeFault) -> Fault {
-        Fault::NoMemory
     }
 }
 

@@ -2,19 +2,9 @@
 #![tactic(auto)]
 
 mod args;
-mod draw;
 mod fault;
-mod gate;
-mod replay;
 mod report;
-mod round;
 mod soak;
-mod tally;
-#[cfg(test)]
-mod tests;
-mod thread;
-mod threads;
-mod ways;
 
 ghost use Rattle.std.specs.Thread.{IsSync};
 

@@ -1,7 +1,6 @@
 //! The table of a run: a row for each number of buckets, and the calls by kind.
 
-use crate::round::{BUCKETS, SORTS};
-use crate::tally::{NAMES, Tally, sum};
+use dc_soak::{BUCKETS, NAMES, SORTS, Tally, sum};
 use std::fmt;
 
 /// What stands above the rows.

@@ -5,7 +5,7 @@ ghost use Rattle.std.specs.Thread.{IsSync};
 use crate::args::Task;
 use crate::fault::Fault;
 use crate::report::Report;
-use crate::round::{Round, Wrong};
+use dc_soak::{Round, Wrong};
 use std::alloc::Global;
 use std::rt::Clock;
 use std::sync::Wait;

@@ -54,7 +54,7 @@ fn fault_of<R: Wait>(
     if came.is_ok() && answer_by(rt, alloc, way, &twin, &mut other, asked) != *came {
         return Ok(Some("the reply"));
     }
-    if way == Way::Fills
+    if let Way::Fills = way
         && answer_by(rt, alloc, way, &cache, &mut pass, asked)
             != answer_by(rt, alloc, way, &twin, &mut other, asked)
     {
@@ -91,7 +91,11 @@ pub fn trial<R: Wait>(
         return Ok(Told::Wrong("no answer"));
     }
     // A walk that answered met the refusal as it took a pin back, and so that row is empty.
-    if way == Way::Fills && came.is_ok() && place.is_none() && is_told(&cache, &mut pass, &asked) {
+    if matches!(way, Way::Fills)
+        && came.is_ok()
+        && place.is_none()
+        && is_told(&cache, &mut pass, &asked)
+    {
         return Ok(Told::Wrong("a row without a place in the list"));
     }
     match fault_of(rt, alloc, way, input.before(), &asked, cache, pass, &came)? {

@@ -8,7 +8,7 @@ use std::alloc::Global;
 use std::sync::Wait;
 
 /// How the call of a trial is made.
-#[derive(Clone, Copy, PartialEq, Eq)]
+#[derive(Clone, Copy)]
 pub enum Way {
     /// It waits for the lock.
     Waits,

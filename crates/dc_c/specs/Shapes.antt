@@ -1,0 +1,73 @@
+-- The calls that the functions for C make, by what each call may come to and how that is told.
+use Rattle.std.specs.Prelude.{◌≡◌, ℕ, ℤ, length, List, Option, option_map, option_and_then, MatchOption, Bool, if◌then◌else◌, []}
+use Rattle.dc_cache.specs.Calls.{Request, Stamped}
+use Rattle.dc_hold.specs.Allowed.{Fast, Change, Taken, Read, MayFind, MayLook, MayCount, MayMake, MayTake, MayRead, MayLearn, MayShrink, read_over, bytes_told}
+use Rattle.dc_hold.specs.Numbers.{status_number}
+use Rattle.dc_hold.specs.Tells.{tells_change, tells_fast, tells_lost, tells_read, tells_tried}
+use Rattle.dc_hold.specs.declared.status.Status.TheVariants as statuses
+use Rattle.dc_hold.specs.declared.told.Found.{Found}
+use Rattle.dc_hold.specs.declared.told.Lost.{Lost}
+use Rattle.dc_hold.specs.declared.told.Told.{Told}
+use Rattle.dc_c.specs.Answering.{Shows, Answers, OnHold}
+use Rattle.dc_c.specs.declared.handle.Handle.{Handle}
+
+abbrev pub LooksFast : Request → Handle → Handle → ℤ → Found → Found → Type 0
+LooksFast call = Answers Fast Found (MayFind call) (λ fast. Shows (tells_fast fast))
+
+abbrev pub Looks : Request → Handle → Handle → ℤ → Found → Found → Type 0
+Looks call = Answers (Option Stamped) Found (MayLook call) (λ tried. Shows (tells_tried tried))
+
+abbrev pub Counts : Request → Handle → Handle → ℤ → Found → Found → Type 0
+Counts call = Answers (Option Stamped) Found (MayCount call) (λ tried. Shows (tells_tried tried))
+
+abbrev pub Makes : Request → Handle → Handle → ℤ → Found → Found → Type 0
+Makes call = Answers (Option Change) Found (MayMake call) (λ tried. Shows (tells_change tried))
+
+-- what a change found, and what it took away
+abbrev pub Written : Type 0
+Written = Found × Lost
+
+pub record ShowsTaken (tried : Option Taken) (number : ℤ) (written : Written) : Type 0 where
+  pub made : Shows (tells_change (option_map (λ taken. taken.0) tried)) number written.0
+  pub lost : written.1 ≡ tells_lost (option_and_then (λ taken. taken.1) tried)
+
+abbrev pub Takes : Request → Handle → Handle → ℤ → Written → Written → Type 0
+Takes call = Answers (Option Taken) Written (MayTake call) ShowsTaken
+
+-- a text is written over what stood there
+pub record ShowsText (room : List ℕ) (tried : Read) (number : ℤ) (written : Found × List ℕ) : Type 0 where
+  pub read : Shows (tells_read tried) number written.0
+  pub text : written.1 ≡ read_over room tried
+
+abbrev pub ReadsText : Request → Handle → Handle → ℤ → Found × List ℕ → Found × List ℕ → Type 0
+ReadsText call old new number before = Answers Read (Found × List ℕ) (MayRead call) (ShowsText before.1) old new number before
+
+-- of names it is told how many bytes they take
+abbrev pub tells_list : Read → Told
+tells_list tried = let told = tells_read tried in record told { found = record told.found { count = bytes_told tried } }
+
+pub record ShowsNames (room : List ℕ) (tried : Read) (number : ℤ) (written : Found × List ℕ) : Type 0 where
+  pub read : Shows (tells_list tried) number written.0
+  pub same : length written.1 ≡ length room
+
+abbrev pub Lists : Request → Handle → Handle → ℤ → Found × List ℕ → Found × List ℕ → Type 0
+Lists call old new number before = Answers Read (Found × List ℕ) (MayRead call) (ShowsNames before.1) old new number before
+
+-- the clock is written
+pub record ShowsClock (learnt : Bool × ℕ) (number : ℤ) (written : ℕ) : Type 0 where
+  pub status : number ≡ status_number (if learnt.0 then statuses.Done else statuses.NotYet)
+  pub clock : written ≡ learnt.1
+
+abbrev pub Learns : ℕ → Handle → Handle → ℤ → ℕ → ℕ → Type 0
+Learns at = Answers (Bool × ℕ) ℕ (MayLearn at) ShowsClock
+
+-- how many rows were emptied is written, if any might be
+abbrev pub ShowsMany : ℕ → Option ℕ → ℤ → ℕ → Type 0
+ShowsMany before tried number written = MatchOption tried ((number ≡ status_number statuses.Busy) × (written ≡ before)) (λ many. (number ≡ status_number statuses.Done) × (written ≡ many))
+
+abbrev pub Shrinks : ℕ → Handle → Handle → ℤ → ℕ → ℕ → Type 0
+Shrinks most old new number before = Answers (Option ℕ) ℕ (MayShrink most) (ShowsMany before) old new number before
+
+-- a pass that was open is blank then
+abbrev pub Closes : Handle → Handle → ℤ → Type 0
+Closes old new number = (new.holds ≡ []) × OnHold old.holds (number ≡ status_number statuses.BadPass) (λ hold. number ≡ status_number statuses.Done)

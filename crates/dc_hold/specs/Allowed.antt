@@ -1,0 +1,78 @@
+-- What each call of a hold may come to, from its pass before to its pass after.
+use Rattle.std.specs.Prelude.{◌≡◌, ◌↔◌, ℕ, ◌-◌, ◌^◌, ◌≤◌, ◌++◌, min, length, take, drop, Bool, true, List, Option, Some, None, Result, Ok, Err, MatchOption}
+use Rattle.dc_names.specs.declared.NoMemory.{NoMemory}
+use Rattle.dc_plain.specs.declared.call.Reply.{Reply}
+use Rattle.dc_plain.specs.declared.call.Reply.TheVariants as replies
+use Rattle.dc_table.specs.Changes.{NothingNew}
+use Rattle.dc_rows.specs.declared.fault.ChangeFault.{ChangeFault}
+use Rattle.dc_walk.specs.declared.answer.Fast as walk
+use Rattle.dc_cache.specs.Answers.{Answered, IfFast, Loaded, Made, Told}
+use Rattle.dc_cache.specs.Calls.{Request, Stamped}
+use Rattle.dc_cache.specs.Passes.{view, Missed}
+use Rattle.dc_cache.specs.declared.cache.Pass.{Pass}
+use Rattle.dc_cache.specs.declared.gone.Gone as cache
+use Rattle.dc_hold.specs.Numbers.{bytes_of}
+
+-- a look-up by the rows alone
+abbrev pub Fast : Type 0
+Fast = walk.Fast
+
+abbrev pub MayFind : Request → Pass → Pass → Fast → Type 0
+MayFind call p q fast = IfFast p q call fast
+
+-- a look-up that may ask the tree
+abbrev pub MayLook : Request → Pass → Pass → Option Stamped → Type 0
+MayLook call p q tried = MatchOption tried (NothingNew (view p) (view q)) (Answered p q call)
+
+-- a read whose answer takes no memory
+abbrev pub MayCount : Request → Pass → Pass → Option Stamped → Type 0
+MayCount call p q tried = MatchOption tried (Missed p q) (Answered p q call)
+
+-- a change
+abbrev pub Change : Type 0
+Change = Result Stamped ChangeFault
+
+abbrev pub MayMake : Request → Pass → Pass → Option Change → Type 0
+MayMake call p q tried = MatchOption tried (Missed p q) (Made p q call)
+
+-- a change that may take a name away, with what it took
+abbrev pub Taken : Type 0
+Taken = Change × Option cache.Gone
+
+abbrev pub MayTake : Request → Pass → Pass → Option Taken → Type 0
+MayTake call p q tried = MatchOption tried (Missed p q) (λ taken. Made p q call taken.0)
+
+-- a read whose answer takes memory
+abbrev pub Read : Type 0
+Read = Option (Result Stamped NoMemory)
+
+abbrev pub MayRead : Request → Pass → Pass → Read → Type 0
+MayRead call p q tried = MatchOption tried (Missed p q) (Told p q call)
+
+-- the first bytes of a text that was read, as many as there is room for
+abbrev text_over : List ℕ → Reply → List ℕ
+text_over room (replies.Text text) = let many = min (length room) (length text.items) in take many text.items ++ drop many room
+text_over room _ = room
+
+abbrev pub read_over : List ℕ → Read → List ℕ
+read_over room (Some (Ok stamped)) = text_over room stamped.reply
+read_over room _ = room
+
+-- how many bytes the names take that were read
+abbrev bytes_in : Reply → ℕ
+bytes_in (replies.Names names) = bytes_of names.items
+bytes_in _ = 0
+
+abbrev pub bytes_told : Read → ℕ
+bytes_told (Some (Ok stamped)) = bytes_in stamped.reply
+bytes_told _ = 0
+
+-- whether so many changes were made, by the clock that was loaded, as far as 64 bits tell it
+pub record MayLearn (at : ℕ) (p q : Pass) (learnt : Bool × ℕ) : Type 0 where
+  pub loaded : Loaded (view p) (view q)
+  pub clock : learnt.1 ≡ min (2 ^ 64 - 1) (view q).book.seen
+  pub come : (learnt.0 ≡ true) ↔ (at ≤ learnt.1)
+
+-- nothing is recorded as up to so many rows are emptied
+abbrev pub MayShrink : ℕ → Pass → Pass → Option ℕ → Type 0
+MayShrink most p q tried = MatchOption tried (Missed p q) (λ many. NothingNew (view p) (view q) × (many ≤ most))

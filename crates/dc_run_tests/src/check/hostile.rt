@@ -1,0 +1,135 @@
+//! Records that no server writes. Each has a verdict or a fault.
+
+use super::{INPUT, OUTPUT};
+use crate::numbers::next;
+use crate::runs::{INODES, verdict};
+use crate::texts::front;
+use dc_check::{RecordFault, Verdict, check, record_of};
+use std::alloc::{AllocError, Global};
+use std::test::Fail;
+
+/// A line of eight random bytes.
+fn random_line(alloc: Global, mut seed: u64) -> Result<(Vec<u8>, u64), AllocError> {
+    let mut line = Vec::with_capacity(alloc, 9)?;
+    for _ in 0..8 {
+        seed = next(seed);
+        line.extend_from_slice(&[(seed >> 56) as u8])?;
+    }
+    line.extend_from_slice(b"\n")?;
+    Ok((line, seed))
+}
+
+/// So many copies of a line.
+fn copies(alloc: Global, line: &[u8], many: u64) -> Result<Vec<u8>, AllocError> {
+    let mut text = Vec::new(alloc);
+    for _ in 0..many {
+        text.extend_from_slice(line)?;
+    }
+    Ok(text)
+}
+
+/// Whether an input and an output are no record, as a line is bad or has no other.
+fn is_refused(alloc: Global, input: &[u8], output: &[u8]) -> bool {
+    matches!(
+        record_of(alloc, input, output),
+        Err(RecordFault::BadLine(_) | RecordFault::Unpaired)
+    )
+}
+
+/// Each line alone, as an input and as an output, and all of them behind good ones.
+#[test]
+fn random_bytes_are_no_record(rt: HostRuntime) -> Result<(), Fail> {
+    let alloc = rt.alloc();
+    let mut seed = 7;
+    let mut all = copies(alloc, b"0 look /\n", 3)?;
+    for _ in 0..100_000 {
+        let (line, later) = random_line(alloc, seed)?;
+        seed = later;
+        assert!(rt; is_refused(alloc, &line, b""), "{line:?}");
+        assert!(rt; is_refused(alloc, b"0 look /\n", &line), "{line:?}");
+        all.extend_from_slice(&line)?;
+    }
+    assert!(rt; matches!(record_of(alloc, &all, &all), Err(RecordFault::BadLine(4))));
+    Ok(())
+}
+
+/// Only the input's last newline may be missing.
+#[test]
+fn records_that_break_off(rt: HostRuntime) -> Result<(), Fail> {
+    let alloc = rt.alloc();
+    let (input, output) = (INPUT.as_bytes(), OUTPUT.as_bytes());
+    for bytes in 0..input.len() {
+        let is_line = bytes.saturating_add(1) == input.len();
+        let refused = is_refused(alloc, front(input, bytes), output);
+        assert!(rt; refused != is_line, "{bytes}");
+    }
+    for bytes in 0..output.len() {
+        assert!(rt; is_refused(alloc, input, front(output, bytes)), "{bytes}");
+    }
+    Ok(())
+}
+
+/// The verdict on a text as the output of `INPUT`, or `None` where the two are no record.
+fn judged(alloc: Global, output: &[u8]) -> Result<Option<Verdict>, Fail> {
+    match record_of(alloc, INPUT.as_bytes(), output) {
+        Ok(stamps) => Ok(Some(check(alloc, INODES, &stamps)?)),
+        Err(_) => Ok(None),
+    }
+}
+
+/// An output with one byte that is another is no legal record of the same input.
+#[test]
+fn records_with_one_byte_changed(rt: HostRuntime) -> Result<(), Fail> {
+    let alloc = rt.alloc();
+    let right = OUTPUT.as_bytes();
+    assert!(rt; judged(alloc, right)? == Some(Verdict::Legal));
+    for place in 0..right.len() {
+        for byte in 0..=255u8 {
+            let mut output = copies(alloc, right, 1)?;
+            if let Some(changed) = output.get_mut(place) {
+                *changed = byte;
+            }
+            let same = output.as_slice() == right;
+            let verdict = judged(alloc, &output)?;
+            assert!(rt; same == (verdict == Some(Verdict::Legal)), "{output:?}");
+        }
+    }
+    Ok(())
+}
+
+#[test]
+fn points_at_the_end_of_all_numbers(rt: HostRuntime) -> Result<(), Fail> {
+    let alloc = rt.alloc();
+    let look = b"0 look /\n";
+    for output in [
+        b"0 is 1 dir @18446744073709551615\n".as_slice(),
+        b"0 is 1 dir @18446744073709551614\n",
+        b"0 is 1 dir @1\n",
+    ] {
+        assert_eq!(rt; verdict(alloc, look, output)?, Verdict::BadOrder(1));
+    }
+    let high = b"0 ok 2 @18446744073709551615\n";
+    assert_eq!(rt;
+        verdict(alloc, b"0 mkdir /a\n", high)?,
+        Verdict::BadOrder(1)
+    );
+    let further = b"0 is 1 dir @18446744073709551616\n";
+    assert!(rt; is_refused(alloc, look, further));
+    Ok(())
+}
+
+#[test]
+fn many_equal_lines_and_sixteen_sessions(rt: HostRuntime) -> Result<(), Fail> {
+    let alloc = rt.alloc();
+    let input = copies(alloc, b"0 look /\n", 1_000_000)?;
+    let output = copies(alloc, b"0 is 1 dir @0\n", 1_000_000)?;
+    assert_eq!(rt; verdict(alloc, &input, &output)?, Verdict::Legal);
+    let mut input = Vec::new(alloc);
+    let mut output = Vec::new(alloc);
+    for session in 0..16u64 {
+        input.extend_from_slice(format!(in alloc; "{session} look /\n")?.as_bytes())?;
+        output.extend_from_slice(format!(in alloc; "{session} is 1 dir @0\n")?.as_bytes())?;
+    }
+    assert_eq!(rt; verdict(alloc, &input, &output)?, Verdict::Legal);
+    Ok(())
+}

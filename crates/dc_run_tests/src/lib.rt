@@ -1,0 +1,22 @@
+//! Tests of the server, the checker and the search for points, over inputs and records, and of sessions whose
+//! replies the checker judges. There is nothing here but tests.
+#![tactic(auto)]
+
+#[cfg(test)]
+mod check;
+#[cfg(test)]
+mod exchanges;
+#[cfg(test)]
+mod numbers;
+#[cfg(test)]
+mod runs;
+#[cfg(test)]
+mod serve;
+#[cfg(test)]
+mod sessions;
+#[cfg(test)]
+mod storms;
+#[cfg(test)]
+mod texts;
+#[cfg(test)]
+mod trace;

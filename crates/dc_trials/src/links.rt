@@ -1,0 +1,88 @@
+//! What the rows tell of a `readlink`, beside the reply that it has.
+
+ghost use Rattle.dc_cache.specs.Passes.{Fits};
+
+use crate::answers::is;
+use crate::steps::{Act, Step, is_told, play};
+use dc_cache::{Dcache, FastLink, Follow, Kind, Pass, ROOT, Reply, Why, parse};
+use std::alloc::Global;
+use std::sync::Wait;
+use std::test::Fail;
+
+/// Whether the rows, once they are filled, and the tree refuse a `readlink` so, after three changes.
+fn is_refused<R: Wait>(
+    rt: &R,
+    alloc: Global,
+    cache: &Dcache,
+    pass: &mut Pass,
+    text: &[u8],
+    number: u64,
+) -> bool
+    requires { Fits cache.now pass.old }
+    ensures { Fits cache.now pass.new }
+{
+    cache.look(rt, alloc, pass, ROOT, text, Follow::No);
+    let Ok(path) = parse(text) else {
+        return false;
+    };
+    let FastLink::Refused(told) = cache.readlink_fast(pass, ROOT, path) else {
+        return false;
+    };
+    let refused = Reply::Refused(number);
+    is(&told, &refused, 3) && is_told(&cache.readlink(rt, alloc, pass, ROOT, text), &refused, 3)
+}
+
+/// Whether each `readlink` is refused with its number.
+fn are_refused<R: Wait>(
+    rt: &R,
+    alloc: Global,
+    cache: &Dcache,
+    pass: &mut Pass,
+    rows: &[(&[u8], u64)],
+) -> bool
+    requires { Fits cache.now pass.old }
+    ensures { Fits cache.now pass.new }
+{
+    let mut all = true;
+    for (text, number) in rows {
+        all &= is_refused(rt, alloc, cache, pass, text, *number);
+    }
+    all
+}
+
+#[test]
+fn rows_tell_what_is_no_link(rt: HostRuntime) -> Result<(), Fail> {
+    let (cache, mut p) = Dcache::new(rt.alloc(), 16, 16).expect(&rt, "memory");
+    let steps = [
+        Step::Change(Act::Mkdir(b"/d"), Reply::Done(2), 0),
+        Step::Change(Act::Create(b"/d/f"), Reply::Done(3), 1),
+        Step::Change(Act::Symlink(b"d", b"/s"), Reply::Done(4), 2),
+    ];
+    assert_eq!(rt; play(&rt, rt.alloc(), &cache, &mut p, &steps), None);
+    let rows = [
+        (b"/".as_slice(), 22),
+        (b"/d", 22),
+        (b"/s/f", 22),
+        (b"/s/", 22),
+        (b"/x", 2),
+        (b"/d/f/", 20),
+    ];
+    assert!(rt; are_refused(&rt, rt.alloc(), &cache, &mut p, &rows));
+    Ok(())
+}
+
+#[test]
+fn rows_tell_a_link_from_what_is_none(rt: HostRuntime) -> Result<(), Fail> {
+    let (cache, mut p) = Dcache::new(rt.alloc(), 16, 16).expect(&rt, "memory");
+    let steps = [Step::Change(Act::Symlink(b"d", b"/s"), Reply::Done(2), 0)];
+    assert_eq!(rt; play(&rt, rt.alloc(), &cache, &mut p, &steps), None);
+    let path = parse(b"/s")?;
+    let told = cache.readlink_fast(&mut p, ROOT, path);
+    assert!(rt; matches!(told, FastLink::Again(Why::Miss(0))));
+    cache.look(&rt, rt.alloc(), &mut p, ROOT, b"/s", Follow::No);
+    let FastLink::Link(told) = cache.readlink_fast(&mut p, ROOT, path) else {
+        return Err("no link".into());
+    };
+    assert!(rt; is(&told, &Reply::Found(2, Kind::Link), 1));
+    Ok(())
+}

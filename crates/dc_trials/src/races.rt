@@ -1,0 +1,209 @@
+//! A directory is renamed above the paths of others who look up.
+//!
+//! The file is made and unlinked while its directory has its other name, so its path under the first
+//! name never leads to it: whatever the threads do, each answer is ENOENT.
+
+ghost use Rattle.std.specs.Thread.{IsSync};
+ghost use Rattle.dc_cache.specs.Passes.{Fits, IsChange};
+
+use crate::answers::{create, unlink};
+use crate::steps::{Act, Step, play};
+use dc_cache::{Call, Dcache, Fast, Flags, Follow, Pass, ROOT, Reply, Stamped, Store, parse};
+use std::alloc::Global;
+use std::sync::Wait;
+use std::test::Fail;
+use std::thread::{Threads, join};
+
+/// The names of a directory, and the path of a file in it under both.
+#[derive(Clone, Copy)]
+struct Race<'a> {
+    first: &'a [u8],
+    second: &'a [u8],
+    file: &'a [u8],
+    file_then: &'a [u8],
+}
+
+fn rename<'a>(old: &'a [u8], new: &'a [u8]) -> Call<'a>
+    ensures { IsChange result }
+{
+    let base = ROOT;
+    Call::Rename {
+        base,
+        old,
+        new,
+        flags: Flags::default(),
+    }
+}
+
+/// Whether an answer is ENOENT.
+fn is_absent(stamped: &Stamped) -> bool {
+    stamped.reply == Reply::Refused(2)
+}
+
+/// Makes a change, and says whether it was made.
+fn is_done<R: Wait>(rt: &R, alloc: Global, cache: &Dcache, pass: &mut Pass, call: &Call<'_>) -> bool
+    requires pass { Fits cache.now pass.old }
+    requires change { IsChange call.now }
+    ensures { Fits cache.now pass.new }
+{
+    match cache.change(rt, alloc, pass, call) {
+        Ok(made) => !matches!(made.reply, Reply::Refused(_)),
+        Err(_) => false,
+    }
+}
+
+/// Renames the directory, makes and unlinks the file, and renames the directory back, some times. It
+/// says whether each change was made.
+fn rename_there_and_back<R: Wait>(
+    rt: &R,
+    alloc: Global,
+    cache: &Dcache,
+    mut pass: Pass,
+    first: &[u8],
+    second: &[u8],
+    file_then: &[u8],
+) -> (Pass, bool)
+    requires { Fits cache.now pass }
+    ensures { Fits cache.now result.0 }
+{
+    let mut all = true;
+    for _ in 0..40 {
+        all &= is_done(rt, alloc, cache, &mut pass, &rename(first, second));
+        all &= is_done(rt, alloc, cache, &mut pass, &create(file_then));
+        all &= is_done(rt, alloc, cache, &mut pass, &unlink(file_then));
+        all &= is_done(rt, alloc, cache, &mut pass, &rename(second, first));
+    }
+    (pass, all)
+}
+
+/// Looks the file up by its first path, some times, and says whether each answer was ENOENT.
+fn look_meanwhile<R: Wait>(
+    rt: &R,
+    alloc: Global,
+    cache: &Dcache,
+    mut pass: Pass,
+    file: &[u8],
+) -> (Pass, bool)
+    requires { Fits cache.now pass }
+    ensures { Fits cache.now result.0 }
+{
+    let Ok(path) = parse(file) else {
+        return (pass, false);
+    };
+    let mut all = true;
+    for _ in 0..200 {
+        let found = match cache.look_fast(&mut pass, ROOT, path, Follow::Yes) {
+            Fast::Done(found) => found,
+            Fast::Again(_) => cache.look(rt, alloc, &mut pass, ROOT, file, Follow::Yes),
+        };
+        all &= is_absent(&found);
+    }
+    (pass, all)
+}
+
+/// Looks the file up in two threads, each with a pass of its own, and joins these.
+fn look_in_two<R: Threads + Wait + Sync>(
+    rt: &R,
+    alloc: Global,
+    cache: &Dcache,
+    mut pass: Pass,
+    file: &[u8],
+) -> (Pass, bool)
+    requires sync { IsSync R.row }
+    requires pass { Fits cache.now pass }
+    ensures { Fits cache.now result.0 }
+{
+    let other = cache.split(&mut pass);
+    let ((mut pass, absent), (other, absent_too)) = join(
+        rt,
+        move || -> (Pass, bool)
+            requires { Fits cache.now pass }
+            ensures { Fits cache.entry.now result.0 }
+        { look_meanwhile(rt, alloc, cache, pass, file) },
+        move || -> (Pass, bool)
+            requires { Fits cache.now other }
+            ensures { Fits cache.entry.now result.0 }
+        { look_meanwhile(rt, alloc, cache, other, file) },
+    );
+    cache.join(&mut pass, other);
+    (pass, absent && absent_too)
+}
+
+/// One thread renames while two look up. It says whether each change was made and each answer ENOENT,
+/// and joins the passes.
+fn run<R: Threads + Wait + Sync>(
+    rt: &R,
+    alloc: Global,
+    cache: &Dcache,
+    mut pass: Pass,
+    race: Race<'_>,
+) -> (Pass, bool)
+    requires sync { IsSync R.row }
+    requires pass { Fits cache.now pass }
+    ensures { Fits cache.now result.0 }
+{
+    let other = cache.split(&mut pass);
+    let Race {
+        first,
+        second,
+        file,
+        file_then,
+    } = race;
+    let ((mut pass, made), (other, absent)) = join(
+        rt,
+        move || -> (Pass, bool)
+            requires { Fits cache.now pass }
+            ensures { Fits cache.entry.now result.0 }
+        { rename_there_and_back(rt, alloc, cache, pass, first, second, file_then) },
+        move || -> (Pass, bool)
+            requires { Fits cache.now other }
+            ensures { Fits cache.entry.now result.0 }
+        { look_in_two(rt, alloc, cache, other, file) },
+    );
+    cache.join(&mut pass, other);
+    (pass, made && absent)
+}
+
+/// The file is one and four directories below the one that is renamed.
+#[test]
+fn a_name_that_never_stands_is_never_found(rt: HostRuntime) -> Result<(), Fail> {
+    let (cache, mut pass) = Dcache::new(rt.alloc(), 16, 1024).expect(&rt, "memory");
+    let steps = [
+        Step::Change(Act::Mkdir(b"/p"), Reply::Done(2), 0),
+        Step::Change(Act::Mkdir(b"/p/d"), Reply::Done(3), 1),
+        Step::Change(Act::Mkdir(b"/p/d/d"), Reply::Done(4), 2),
+        Step::Change(Act::Mkdir(b"/p/d/d/d"), Reply::Done(5), 3),
+        Step::Change(Act::Mkdir(b"/p/d/d/d/d"), Reply::Done(6), 4),
+    ];
+    assert_eq!(rt; play(&rt, rt.alloc(), &cache, &mut pass, &steps), None);
+    let (pass, right) = run(
+        &rt,
+        rt.alloc(),
+        &cache,
+        pass,
+        Race {
+            first: b"/p",
+            second: b"/q",
+            file: b"/p/d/f",
+            file_then: b"/q/d/f",
+        },
+    );
+    assert!(rt; right);
+    let (pass, right) = run(
+        &rt,
+        rt.alloc(),
+        &cache,
+        pass,
+        Race {
+            first: b"/p",
+            second: b"/q",
+            file: b"/p/d/d/d/d/f",
+            file_then: b"/q/d/d/d/d/f",
+        },
+    );
+    assert!(rt; right);
+    let ended = cache.close(pass).expect(&rt, "the lock is free");
+    // Five directories, and four changes in each of forty rounds of both races.
+    assert!(rt; ended.clock == 5 + 2 * 40 * 4 && ended.store.live() == 6);
+    Ok(())
+}

@@ -1,0 +1,243 @@
+//! Steps of one pass, one after the other, and what each comes to.
+
+ghost use Rattle.dc_cache.specs.Passes.{Fits, IsChange};
+
+use crate::answers::{create, is, is_made, mkdir, symlink, unlink};
+use dc_cache::{
+    Call, ChangeFault, Dcache, Fast, Follow, NoMemory, Pass, ROOT, Reply, Stamped, Why, parse,
+};
+use std::alloc::Global;
+use std::sync::Wait;
+
+/// A change from the root.
+#[derive(Clone, Copy)]
+pub enum Act<'a> {
+    Mkdir(&'a [u8]),
+    Create(&'a [u8]),
+    /// A text, and the path of the link that has it.
+    Symlink(&'a [u8], &'a [u8]),
+    Unlink(&'a [u8]),
+}
+
+/// A step from the root, then its reply and point.
+#[derive(Drop)]
+pub enum Step<'a> {
+    Change(Act<'a>, Reply, u64),
+    Look(&'a [u8], Follow, Reply, u64),
+    /// A look-up that fills the rows of its whole path.
+    Filled(&'a [u8], Reply, u64),
+    /// A look-up that fills and pins a row for each name.
+    Counted(&'a [u8], Reply, u64),
+    Stat(&'a [u8], Reply, u64),
+    Readlink(&'a [u8], Reply, u64),
+    List(&'a [u8], Reply, u64),
+    /// A walk by the rows alone.
+    Fast(&'a [u8], Reply, u64),
+    /// A walk by the rows alone that has no answer, and why.
+    Again(&'a [u8], Why),
+    /// So many rows are to be emptied at most, and so many are.
+    Shrink(u64, u64),
+    /// Without waiting, while the lock is free.
+    Try(Tried<'a>),
+}
+
+/// A step that never waits, then its reply and point.
+#[derive(Drop)]
+pub enum Tried<'a> {
+    Change(Act<'a>, Reply, u64),
+    Look(&'a [u8], Follow, Reply, u64),
+    Stat(&'a [u8], Reply, u64),
+    Readlink(&'a [u8], Reply, u64),
+    List(&'a [u8], Reply, u64),
+    /// So many rows are to be emptied at most, and so many are.
+    Shrink(u64, u64),
+}
+
+fn call_of<'a>(act: Act<'a>) -> Call<'a>
+    ensures { IsChange result }
+{
+    match act {
+        Act::Mkdir(path) => mkdir(path),
+        Act::Create(path) => create(path),
+        Act::Symlink(text, path) => symlink(text, path),
+        Act::Unlink(path) => unlink(path),
+    }
+}
+
+/// What the fast walk of a path from the root comes to, or `None` where the text is no path.
+fn look_fast(cache: &Dcache, pass: &mut Pass, text: &[u8]) -> Option<Fast>
+    requires { Fits cache.now pass.old }
+    ensures { Fits cache.now pass.new }
+{
+    Some(cache.look_fast(pass, ROOT, parse(text).ok()?, Follow::Yes))
+}
+
+/// What the counted walk of a path from the root comes to, or `None` where the text is no path.
+fn look_counted<R: Wait>(
+    rt: &R,
+    alloc: Global,
+    cache: &Dcache,
+    pass: &mut Pass,
+    text: &[u8],
+) -> Option<Fast>
+    requires { Fits cache.now pass.old }
+    ensures { Fits cache.now pass.new }
+{
+    Some(cache.look_counted(rt, alloc, pass, ROOT, parse(text).ok()?, Follow::Yes))
+}
+
+/// Looks a path from the root up.
+fn look<R: Wait>(
+    rt: &R,
+    alloc: Global,
+    cache: &Dcache,
+    pass: &mut Pass,
+    path: &[u8],
+    follow: Follow,
+) -> Stamped
+    requires { Fits cache.now pass.old }
+    ensures { Fits cache.now pass.new }
+{
+    cache.look(rt, alloc, pass, ROOT, path, follow)
+}
+
+/// Looks a path from the root up so that its rows are filled.
+fn look_filled<R: Wait>(
+    rt: &R,
+    alloc: Global,
+    cache: &Dcache,
+    pass: &mut Pass,
+    path: &[u8],
+) -> Stamped
+    requires { Fits cache.now pass.old }
+    ensures { Fits cache.now pass.new }
+{
+    cache.look_filled(rt, alloc, pass, ROOT, path, Follow::Yes)
+}
+
+/// Whether a walk was answered so.
+fn is_done(found: &Option<Fast>, reply: &Reply, at: u64) -> bool {
+    match found {
+        Some(Fast::Done(stamped)) => is(stamped, reply, at),
+        _ => false,
+    }
+}
+
+/// Whether a walk had no answer, for this reason.
+fn is_again(found: &Option<Fast>, why: Why) -> bool {
+    match found {
+        Some(Fast::Again(found)) => *found == why,
+        _ => false,
+    }
+}
+
+/// Whether a read was answered so.
+pub fn is_told(told: &Result<Stamped, NoMemory>, reply: &Reply, at: u64) -> bool {
+    match told {
+        Ok(stamped) => is(stamped, reply, at),
+        Err(_) => false,
+    }
+}
+
+/// Whether a look-up that never waits was answered so.
+pub fn is_found(found: &Option<Stamped>, reply: &Reply, at: u64) -> bool {
+    match found {
+        Some(found) => is(found, reply, at),
+        None => false,
+    }
+}
+
+/// Whether a read that never waits was answered so.
+fn is_read(told: &Option<Result<Stamped, NoMemory>>, reply: &Reply, at: u64) -> bool {
+    match told {
+        Some(told) => is_told(told, reply, at),
+        None => false,
+    }
+}
+
+/// Whether a change that never waits was answered so.
+fn is_changed(made: &Option<Result<Stamped, ChangeFault>>, reply: &Reply, at: u64) -> bool {
+    match made {
+        Some(made) => is_made(made, reply, at),
+        None => false,
+    }
+}
+
+/// Whether a step that never waits comes to what it should.
+fn is_tried(alloc: Global, cache: &Dcache, pass: &mut Pass, tried: &Tried<'_>) -> bool
+    requires { Fits cache.now pass.old }
+    ensures { Fits cache.now pass.new }
+{
+    match tried {
+        Tried::Change(act, reply, at) => {
+            is_changed(&cache.try_change(alloc, pass, &call_of(*act)), reply, *at)
+        }
+        Tried::Look(path, follow, reply, at) => {
+            is_found(
+                &cache.try_look(alloc, pass, ROOT, path, *follow),
+                reply,
+                *at,
+            )
+        }
+        Tried::Stat(path, reply, at) => is_found(&cache.try_stat(pass, ROOT, path), reply, *at),
+        Tried::Readlink(path, reply, at) => {
+            is_read(&cache.try_readlink(alloc, pass, ROOT, path), reply, *at)
+        }
+        Tried::List(path, reply, at) => {
+            is_read(&cache.try_list(alloc, pass, ROOT, path), reply, *at)
+        }
+        Tried::Shrink(most, emptied) => cache.try_shrink(pass, *most) == Some(*emptied),
+    }
+}
+
+/// Whether a step comes to what it should.
+fn is_so<R: Wait>(rt: &R, alloc: Global, cache: &Dcache, pass: &mut Pass, step: &Step<'_>) -> bool
+    requires { Fits cache.now pass.old }
+    ensures { Fits cache.now pass.new }
+{
+    match step {
+        Step::Change(act, reply, at) => {
+            is_made(&cache.change(rt, alloc, pass, &call_of(*act)), reply, *at)
+        }
+        Step::Look(path, follow, reply, at) => {
+            is(&look(rt, alloc, cache, pass, path, *follow), reply, *at)
+        }
+        Step::Filled(path, reply, at) => {
+            is(&look_filled(rt, alloc, cache, pass, path), reply, *at)
+        }
+        Step::Counted(path, reply, at) => {
+            is_done(&look_counted(rt, alloc, cache, pass, path), reply, *at)
+        }
+        Step::Stat(path, reply, at) => is(&cache.stat(rt, pass, ROOT, path), reply, *at),
+        Step::Readlink(path, reply, at) => {
+            is_told(&cache.readlink(rt, alloc, pass, ROOT, path), reply, *at)
+        }
+        Step::List(path, reply, at) => {
+            is_told(&cache.list(rt, alloc, pass, ROOT, path), reply, *at)
+        }
+        Step::Fast(path, reply, at) => is_done(&look_fast(cache, pass, path), reply, *at),
+        Step::Again(path, why) => is_again(&look_fast(cache, pass, path), *why),
+        Step::Shrink(most, emptied) => cache.shrink(rt, pass, *most) == *emptied,
+        Step::Try(tried) => is_tried(alloc, cache, pass, tried),
+    }
+}
+
+/// Takes the steps one after the other. It tells which one, counted from 0, came to something else, or
+/// `None` where each came to what it should.
+pub fn play<R: Wait>(
+    rt: &R,
+    alloc: Global,
+    cache: &Dcache,
+    pass: &mut Pass,
+    steps: &[Step<'_>],
+) -> Option<usize>
+    requires { Fits cache.now pass.old }
+    ensures { Fits cache.now pass.new }
+{
+    for (number, step) in steps.iter().enumerate() {
+        if !is_so(rt, alloc, cache, pass, step) {
+            return Some(number);
+        }
+    }
+    None
+}

@@ -1,0 +1,209 @@
+//! Calls that never wait, while another thread has the lock again and again, and while it is free.
+
+ghost use Rattle.std.specs.Thread.{IsSync};
+ghost use Rattle.dc_cache.specs.Passes.{Fits};
+
+use crate::answers::{is_made, mkdir};
+use crate::passes::fill;
+use crate::steps::{Act, Step, Tried, is_found, play};
+use dc_cache::{Dcache, Follow, Kind, Pass, ROOT, Reply, Sleepless, Why};
+use std::alloc::Global;
+use std::sync::Wait;
+use std::sync::atomic::{AtomicBool, Ordering};
+use std::test::Fail;
+use std::thread::{Threads, join};
+
+/// How many files there are to be listed, so that the lister mostly has the lock.
+const FILES: u64 = 100;
+
+/// How often the directory is listed at most.
+const MOST_LISTS: u32 = 200_000;
+
+/// How often a call is tried at most.
+const MOST_TRIES: u32 = 10_000_000;
+
+/// Lists the root, again and again until the other thread is through with its calls.
+fn list_meanwhile<R: Wait>(
+    rt: &R,
+    alloc: Global,
+    cache: &Dcache,
+    mut pass: Pass,
+    over: &AtomicBool,
+) -> Pass
+    requires { Fits cache.now pass }
+    ensures { Fits cache.now result }
+{
+    for _ in 0..MOST_LISTS {
+        if over.load(Ordering::SeqCst) {
+            return pass;
+        }
+        let _told = cache.list(rt, alloc, &mut pass, ROOT, b"/");
+    }
+    pass
+}
+
+/// A call that asks the tree, and so tries for the lock.
+#[derive(Clone, Copy)]
+enum Asked {
+    Change,
+    Look,
+    Stat,
+    Readlink,
+    List,
+    Shrink,
+}
+
+/// Whether a call answers `None`. The answers that it may have else alter nothing.
+fn is_none(alloc: Global, cache: &Dcache, pass: &mut Pass, asked: Asked) -> bool
+    requires { Fits cache.now pass.old }
+    ensures { Fits cache.now pass.new }
+{
+    match asked {
+        Asked::Change => cache.try_change(alloc, pass, &mkdir(b"/a00/a")).is_none(),
+        // A name of this length has no row, so that the tree is asked each time.
+        Asked::Look => cache
+            .try_look(alloc, pass, ROOT, &[b'n'; 33], Follow::Yes)
+            .is_none(),
+        Asked::Stat => cache.try_stat(pass, ROOT, b"/").is_none(),
+        Asked::Readlink => cache.try_readlink(alloc, pass, ROOT, b"/").is_none(),
+        Asked::List => cache.try_list(alloc, pass, ROOT, b"/").is_none(),
+        Asked::Shrink => cache.try_shrink(pass, 1).is_none(),
+    }
+}
+
+/// Whether look-ups that ask no question, and so need no lock, are answered.
+fn is_answered(alloc: Global, cache: &Dcache, pass: &mut Pass) -> bool
+    requires { Fits cache.now pass.old }
+    ensures { Fits cache.now pass.new }
+{
+    let root = cache.try_look(alloc, pass, ROOT, b"/..", Follow::Yes);
+    let none = cache.try_look(alloc, pass, ROOT, b"", Follow::Yes);
+    is_found(&root, &Reply::Found(1, Kind::Dir), FILES)
+        && is_found(&none, &Reply::Refused(2), FILES)
+}
+
+/// Tries a call until another pass has the lock, and says whether it came to that, and whether look-ups
+/// that need no lock were answered all the same.
+fn is_refused_once(alloc: Global, cache: &Dcache, pass: &mut Pass, asked: Asked) -> bool
+    requires { Fits cache.now pass.old }
+    ensures { Fits cache.now pass.new }
+{
+    for _ in 0..MOST_TRIES {
+        if is_none(alloc, cache, pass, asked) {
+            return is_answered(alloc, cache, pass);
+        }
+    }
+    false
+}
+
+/// Tries each call until another pass has the lock, and says whether it came to that with all of them.
+fn try_each(alloc: Global, cache: &Dcache, mut pass: Pass, over: &AtomicBool) -> (Pass, bool)
+    requires { Fits cache.now pass }
+    ensures { Fits cache.now result.0 }
+{
+    let mut all = true;
+    for asked in [
+        Asked::Change,
+        Asked::Look,
+        Asked::Stat,
+        Asked::Readlink,
+        Asked::List,
+        Asked::Shrink,
+    ] {
+        all &= is_refused_once(alloc, cache, &mut pass, asked);
+    }
+    over.store(true, Ordering::SeqCst);
+    (pass, all)
+}
+
+/// One thread lists while the other tries.
+fn try_meanwhile<R: Threads + Wait + Sync>(
+    rt: &R,
+    alloc: Global,
+    cache: &Dcache,
+    mut pass: Pass,
+    over: &AtomicBool,
+) -> (Pass, bool)
+    requires sync { IsSync R.row }
+    requires pass { Fits cache.now pass }
+    ensures { Fits cache.now result.0 }
+{
+    let other = cache.split(&mut pass);
+    let (mut pass, (other, refused)) = join(
+        rt,
+        move || -> Pass
+            requires { Fits cache.now pass }
+            ensures { Fits cache.entry.now result }
+        { list_meanwhile(rt, alloc, cache, pass, over) },
+        move || -> (Pass, bool)
+            requires { Fits cache.now other }
+            ensures { Fits cache.entry.now result.0 }
+        { try_each(alloc, cache, other, over) },
+    );
+    cache.join(&mut pass, other);
+    (pass, refused)
+}
+
+#[test]
+fn a_held_lock_is_no_answer(rt: HostRuntime) -> Result<(), Fail> {
+    let (cache, pass) = Dcache::new(rt.alloc(), 16, 1024).expect(&rt, "memory");
+    let pass = fill(&rt, rt.alloc(), &cache, pass, b'a');
+    let pass = fill(&rt, rt.alloc(), &cache, pass, b'b');
+    let over = AtomicBool::new(false);
+    let (mut pass, refused) = try_meanwhile(&rt, rt.alloc(), &cache, pass, &over);
+    assert!(rt; refused);
+    let free = [Step::Try(Tried::Change(Act::Mkdir(b"/a"), Reply::Done(FILES + 2), FILES))];
+    assert_eq!(rt; play(&rt, rt.alloc(), &cache, &mut pass, &free), None);
+    Ok(())
+}
+
+/// The rows of each name, dot-dot and link of the path are filled at once.
+#[test]
+fn one_look_fills_the_whole_path(rt: HostRuntime) -> Result<(), Fail> {
+    let (cache, mut p) = Dcache::new(rt.alloc(), 16, 16).expect(&rt, "memory");
+    let path = b"/d/../s/f";
+    let file = || Reply::Found(3, Kind::File);
+    let steps = [
+        Step::Try(Tried::Change(Act::Mkdir(b"/d"), Reply::Done(2), 0)),
+        Step::Try(Tried::Change(Act::Create(b"/d/f"), Reply::Done(3), 1)),
+        Step::Try(Tried::Change(Act::Symlink(b"./d", b"/s"), Reply::Done(4), 2)),
+        Step::Again(path, Why::Miss(0)),
+        Step::Try(Tried::Look(path, Follow::Yes, file(), 3)),
+        Step::Fast(path, file(), 3),
+    ];
+    assert_eq!(rt; play(&rt, rt.alloc(), &cache, &mut p, &steps), None);
+    Ok(())
+}
+
+#[test]
+fn a_free_lock_is_an_answer(rt: HostRuntime) -> Result<(), Fail> {
+    let (cache, mut p) = Dcache::new(rt.alloc(), 1, 16).expect(&rt, "memory");
+    let text = Vec::from_slice(rt.alloc(), b"./d")?;
+    let s = Vec::from_slice(rt.alloc(), b"s")?;
+    let names = Vec::from_array(rt.alloc(), [s])?;
+    let steps = [
+        Step::Try(Tried::Change(Act::Symlink(b"./d", b"/s"), Reply::Done(2), 0)),
+        Step::Try(Tried::Look(b"/s", Follow::No, Reply::Found(2, Kind::Link), 1)),
+        Step::Try(Tried::Stat(b"/", Reply::Stat(1, Kind::Dir, 1), 1)),
+        Step::Try(Tried::Readlink(b"/s", Reply::Text(text), 1)),
+        Step::Try(Tried::List(b"/", Reply::Names(names), 1)),
+        Step::Try(Tried::Shrink(2, 1)),
+        Step::Again(b"/s", Why::Miss(0)),
+    ];
+    assert_eq!(rt; play(&rt, rt.alloc(), &cache, &mut p, &steps), None);
+    Ok(())
+}
+
+#[test]
+fn nobody_sleeps_on_a_cache_without_waiting(rt: HostRuntime) -> Result<(), Fail> {
+    let (cache, mut p) = Sleepless::new(rt.alloc(), 1, 16).expect(&rt, "memory");
+    let mut q = cache.split(&mut p);
+    let made = cache.try_change(rt.alloc(), &mut q, &mkdir(b"/a"));
+    assert!(rt; is_made(&made.expect(&rt, "the lock is free"), &Reply::Done(2), 0));
+    cache.join(&mut p, q);
+    assert!(rt; cache.learn(&mut p, 1).is_ok() && cache.learn(&mut p, 2).is_err());
+    assert!(rt; cache.counts().sleeps == 0);
+    let ended = cache.close(p).expect(&rt, "no other pass is left");
+    assert!(rt; ended.clock == 1);
+    Ok(())
+}

@@ -1,5 +1,0 @@
-use Rattle.dc_cache.specs.Passes.{Fits}
-use Rattle.dcsoak.proofs.thread.Thread.run.Given as goal
-
-abbrev pub invariant-steps : goal.invariant-steps
-invariant-steps g l = Fits l.cache l.pass
