@@ -55,7 +55,7 @@ pub record Shrinks (most n : ℕ) (q : Pass) : Type 0 where
   pub few : n ≡ min most (length (known q).got.used.listed)
   pub rows : EmptiesLast n (known q).got (known q).left
 
--- a row that has the key now has got it, or none has; no pin has come or gone
+-- a row has got the key, or none has, from one guard to the next; no pin has come or gone
 pub record Fills (key : Key) (g h : Guard) (result : Result (Option ℕ) NoMemory) : Type 0 where
   pub row : IfOk result (λ found. IfSome found (λ row. slot_of (kept_by h).index row ≡ Held key))
   pub rows : Gets key 0 (rows_of g) (rows_of h) result
