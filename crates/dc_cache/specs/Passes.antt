@@ -37,6 +37,10 @@ FitsSleepless cache p = walks.CanWalk cache.shared p.seat
 abbrev pub FitsTable : Shared → Pass → Type 0
 FitsTable shared p = walks.CanWalk shared p.seat
 
+-- two passes are of one cache
+abbrev pub SameCache : Pass → Pass → Type 0
+SameCache p q = q.seat.table_id ≡ p.seat.table_id
+
 -- another pass has the lock: this one has tried for it once, and has done and seen nothing
 abbrev pub Missed : Pass → Pass → Type 0
 Missed p q = known q ≡ tried (known p)
