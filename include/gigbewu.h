@@ -112,19 +112,20 @@ struct gb_gone {
  * looked up 4 look-ups in 100 find no row, with four times as many 4 in 1,000. A row weighs 125 bytes, and 90 more once
  * it is filled.
  * It takes a pass that is blank. That no other thread has its address yet is the caller's to see to.
- * Proved: it is safe and ends. What it answers, and that the pass is open then, is tested.
+ * Proved: it is safe and ends, it makes the cache of these sizes, and `blank` is its first pass then.
  * Answers 0, GB_BAD_SIZE exactly if the sizes are others, GB_NO_MEMORY, GB_BAD_PASS if the pass is open. */
 int gb_cache_new(uint64_t buckets, uint64_t inodes, struct gb_pass *blank);
 
 /* Opens one more pass of the cache of `pass`, for any thread. It has seen what `pass` has seen, and no answer that it
  * gets is older. Takes no lock. The thread that has `pass` makes the call, and hands the new one over.
- * Proved: it is safe and ends. What it answers is tested.
+ * Proved: it is safe and ends, and the new pass has half of what `pass` had.
  * Answers 0, GB_NO_MEMORY, GB_BAD_PASS. */
 int gb_pass_split(struct gb_pass *pass, struct gb_pass *blank);
 
 /* Ends `other`, which is blank then; `pass` has seen what either has seen. They are two passes of one cache, and the
  * thread that calls has both.
- * Proved: it is safe and ends. What it answers is tested.
+ * Proved: it is safe and ends; either both passes are as they were, or the other has ended. That two of one cache are
+ * joined is tested.
  * Answers 0, GB_BAD_PASS. */
 int gb_pass_join(struct gb_pass *pass, struct gb_pass *other);
 
