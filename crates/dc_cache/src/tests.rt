@@ -13,6 +13,7 @@ use crate::{
     Call, ChangeFault, Dcache, Fast, Follow, MakeFault, NotYet, Pass, Reply, Stamped, Why,
 };
 use dc_names::{Kind, parse};
+use dc_row::ROW_TEXT;
 use dc_store::Store;
 use std::alloc::Global;
 use std::sync::Wait;
@@ -292,13 +293,13 @@ fn links_are_followed_by_their_rows(rt: HostRuntime) -> Result<(), Fail> {
     Ok(())
 }
 
-/// A text of 33 bytes has no room in a row: each look-up asks for it under the lock.
+/// A text that is longer than a name has no room in a row: each look-up asks for it under the lock.
 #[test]
 fn a_text_without_room_is_asked_under_the_lock(rt: HostRuntime) -> Result<(), Fail> {
     let (cache, mut p) = Dcache::new(rt.alloc(), 1, 16).expect(&rt, "memory");
-    let text = b"././././././././././././././././d";
-    assert!(rt; text.len() == 33);
-    assert!(rt; make_linked(&rt, rt.alloc(), &cache, &mut p, text, b"/t"));
+    let mut text = [b'/'; ROW_TEXT + 1];
+    text[ROW_TEXT] = b'd';
+    assert!(rt; make_linked(&rt, rt.alloc(), &cache, &mut p, &text, b"/t"));
     let file = Reply::Found(3, Kind::File);
     let (first, found) = look_twice(&rt, rt.alloc(), &cache, &mut p, b"/t/f");
     assert!(rt; is_missed(&first) && is(&found, &file, 3));
