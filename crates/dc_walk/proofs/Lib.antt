@@ -9,6 +9,3 @@ pub mod Standing
 pub mod Questions
 pub mod Ended
 pub mod Checks
-pub mod Unasked
-pub mod Runs
-pub mod Blocks

@@ -102,4 +102,4 @@ count_first (x ∷ xs) size = refl
 
 pub rest_size : (words : List ℕ) → length words ≡ ROW_WORDS → length (drop 1 words) + 1 ≡ ROW_WORDS
 rest_size [] size = absurd (omega (arith, size))
-rest_size (x ∷ xs) size = let all : suc (length xs) ≡ 8 = size in let is : length xs + 1 ≡ 8 = omega arith in is
+rest_size (x ∷ xs) size = let all : suc (length xs) ≡ ROW_WORDS = size in let is : length xs + 1 ≡ ROW_WORDS = omega arith in is

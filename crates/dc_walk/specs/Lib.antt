@@ -2,7 +2,6 @@
 pub mod Looks
 pub mod Probes
 pub mod Uses
-pub mod Long
 pub mod Asking
 pub mod Filters
 pub mod Finds

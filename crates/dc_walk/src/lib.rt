@@ -11,7 +11,6 @@ mod filter;
 mod finder;
 mod link;
 mod locked;
-mod long;
 mod look;
 mod pinned;
 mod probe;
@@ -40,6 +39,6 @@ pub use why::Why;
 /// The most rows whose answers a walk rests on.
 pub const MOST_USED: usize = 256;
 
-/// The most loads of `walk_fast`, 8,449: for each question of all words of the rows of a bucket and
-/// once more of one's count, and of the clock.
+/// The most loads of `walk_fast`: for each question of all words of the rows of a bucket and once more
+/// of one's count, and of the clock.
 pub const MOST_LOADS: u64 = MOST_USED as u64 * (BUCKET_ROWS * ROW_WORDS as u64 + 1) + 1;

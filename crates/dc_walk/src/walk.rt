@@ -13,7 +13,6 @@ use crate::MOST_USED;
 use crate::answer::Fast;
 use crate::filter::KeyFilter;
 use crate::finder::Walker;
-use crate::long::has_long_name;
 use crate::look::Look;
 use crate::rows::Rows;
 use crate::settle::settle;
@@ -87,9 +86,6 @@ pub(crate) fn walk_by<S: Source>(
 {
     // Rows of an earlier walk would be taken for this one's, and their pins back.
     used.clear();
-    if has_long_name(look.path) {
-        return (Fast::Again(Why::Long), None);
-    }
     match walk_rows(source, reader, pass, used, look) {
         Ok((reply, begun)) => {
             let used = used.as_slice();
