@@ -9,7 +9,7 @@ use Rattle.dc_events.specs.Views.{View, Note}
 use Rattle.dc_events.specs.Effects.{read}
 use Rattle.dc_events.specs.Walks.{no_note, extended}
 use Rattle.dc_table.specs.Walking.{CanRead}
-use Rattle.dc_walk.specs.Probes.{probed, fresh_note}
+use Rattle.dc_walk.specs.Probes.{probed, fresh_note, read_of}
 
 last_place : (xs : List Note) (x : Note) → length (xs ++ x ∷ []) - 1 ≡ length xs
 last_place xs x = let size : length (xs ++ x ∷ []) ≡ length xs + 1 = length-append xs (x ∷ []) in omega arith
@@ -41,10 +41,6 @@ module _ (v : View) (row count : ℕ) (words : List ℕ) where
       let notes : set (xs ++ x ∷ []) (length (xs ++ x ∷ []) - 1) (extended (get_or (xs ++ x ∷ []) (length (xs ++ x ∷ []) - 1) no_note) w) ≡ xs ++ fresh_note row count (words ++ w ∷ []) ∷ []
       = ap₂ (λ (k : ℕ) (n : Note). set (xs ++ x ∷ []) k (extended n w)) (last_place xs x) (last_note xs x) ∙ set-append_seam xs x [] (fresh_note row count (words ++ w ∷ [])) in
       λ i. record v { walk = record v.walk { notes = notes i }; loads = loads i }
-
--- the words after the first, up to the i-th
-abbrev pub read_of : List ℕ → ℕ → List ℕ
-read_of words i = take (i - 1) (drop 1 words)
 
 kept_first : (words : List ℕ) (i w : ℕ) → 0 < i → get_or (set words i w) 0 0 ≡ get_or words 0 0
 kept_first [] zero w l = absurd (omega arith)

@@ -2,7 +2,7 @@
 use Rattle.std.specs.Prelude.{ℕ, ◌++◌, ◌∷◌, List, [], Option, Some, None, map}
 use Rattle.dc_rows.specs.RowChanges.{UnpinsAll}
 use Rattle.dc_table.specs.Shares.{Known}
-use Rattle.dc_walk.specs.declared.used.Room.{Room}
+use Rattle.dc_walk.specs.Rooms.{Kept}
 use Rattle.dc_walk.specs.declared.used.Used.{Used}
 
 -- the rows that answered
@@ -10,8 +10,8 @@ abbrev pub rows_used : List Used → List ℕ
 rows_used used = map (λ u. u.row) used
 
 -- the rows whose answers the last walk with this room had
-abbrev pub rows_in : Room → List ℕ
-rows_in room = rows_used room.used.items
+abbrev pub rows_in : Kept → List ℕ
+rows_in room = rows_used room.items
 
 -- these rows, and one more that was had and isn't used, if any
 abbrev pub with_spare : List ℕ → Option ℕ → List ℕ

@@ -1,5 +1,5 @@
 -- What a walk by the rows of a source comes to, which may take the lock or not.
-use Rattle.std.specs.Prelude.{◌≡◌, ℕ, ◌+◌, ◌≤◌, List, [], Bool, false, None, length}
+use Rattle.std.specs.Prelude.{◌≡◌, ℕ, ◌+◌, ◌*◌, ◌<◌, ◌≤◌, List, [], Bool, false, None, length}
 use Rattle.dc_plain.specs.Facts.{told_by}
 use Rattle.dc_plain.specs.Requests.{Answer}
 use Rattle.dc_events.specs.Views.{View}
@@ -10,7 +10,9 @@ use Rattle.dc_walk.specs.Becomings.{Between}
 use Rattle.dc_walk.specs.Fasts.{GaveUp, Keeps, IfAgain, Tried}
 use Rattle.dc_walk.specs.Looks.{look_shown, outcome_of}
 use Rattle.dc_walk.specs.Settling.{Came, Settled}
-use Rattle.dc_walk.specs.declared.TheConstants.{MOST_LOADS, MOST_USED}
+use Rattle.dc_names.specs.declared.limits.TheConstants.{BUCKET_ROWS}
+use Rattle.dc_row.specs.declared.TheConstants.{ROW_WORDS}
+use Rattle.dc_walk.specs.declared.TheConstants.{MOST_LOADS}
 use Rattle.dc_walk.specs.declared.look.Look.{Look}
 use Rattle.dc_walk.specs.declared.why.Why.{Why}
 use Rattle.dc_walk.specs.declared.answer.Fast.{Fast}
@@ -19,7 +21,7 @@ use Rattle.dc_walk.specs.declared.answer.Fast.{Fast}
 pub record Went (locks : Bool) (look : Look) (before now : View) (uses : List Use) (answer : Answer) : Type 0 where
   pub came : Came (outcome_of look) (look_shown look) now uses answer
   pub walk : Between locks (begun before (look_shown look)) now
-  pub few : length uses ≤ MOST_USED
+  pub few : ROW_WORDS * (BUCKET_ROWS * length uses + came.spent) + length uses < MOST_LOADS
 
 -- it gave up, one without the lock for a cause that it has seen
 pub record Stopped (locks : Bool) (look : Look) (buckets : ℕ) (before now : View) (why : Why) : Type 0 where

@@ -63,9 +63,9 @@ pub fn walk_counted<R: Wait>(
     ensures pins { GivesBack (rows_in room.new) (known pass.new) }
 {
     let source = Pinning { shared, rt, alloc };
-    let (fast, spare) = walk_by(&source, shared.reader(), pass, &mut room.used, look);
+    let (fast, spare) = walk_by(&source, shared.reader(), pass, room, look);
     // A pin that stayed would keep the row from every other key. The answer stands without its pins,
     // since the rows were checked.
-    unpin(shared, rt, pass, room.used.as_slice(), spare);
+    unpin(shared, rt, pass, room.as_slice(), spare);
     fast
 }

@@ -46,16 +46,16 @@ impl<'a, S: Source> Finder for Walker<'a, S> {
         hash: u64,
     ) -> Result<Option<(u64, Kind)>, Stop> {
         let key = key_of(dir, part);
-        let words = told(self.source, &mut self.rows, key, hash)?;
-        Ok(target(&words))
+        let at = told(self.source, &mut self.rows, key, hash)?;
+        Ok(target(self.rows.used.words_at(at)))
     }
 
     #[inline(always)]
     fn link_text(&mut self, number: u64) -> Result<LinkText, Stop> {
         let key = text_key(number);
         let hash = hash(number, key.label.bytes());
-        let text = told(self.source, &mut self.rows, key, hash)?;
-        Ok(LinkText::of(&text))
+        let at = told(self.source, &mut self.rows, key, hash)?;
+        Ok(LinkText::of(self.rows.used.words_at(at)))
     }
 
     ghost stays = { λ f. (refl, stays_so S.locks f.rows) };

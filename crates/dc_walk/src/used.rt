@@ -1,14 +1,17 @@
 //! The rows whose answers a walk rests on.
 
-ghost use Rattle.std.specs.Prelude.{IfSome, IfNone};
+ghost use Rattle.std.specs.Prelude.{◌≡◌, ◌<◌, ◌≤◌, ◌==◌, ◌∷◌, ◌++◌, [], length, set, IfSome, IfNone};
 ghost use Rattle.dc_plain.specs.KeysShown.{key_shown};
 ghost use Rattle.dc_resolve.specs.Needs.{IsUntold};
-ghost use Rattle.dc_walk.specs.Finds.{told_in, AllSpelled, IsStanding};
+ghost use Rattle.dc_row.specs.declared.TheConstants.{ROW_WORDS};
+ghost use Rattle.dc_walk.specs.Finds.{told_in, AllSpelled, StandsAt};
+ghost use Rattle.dc_walk.specs.Rooms.{used_at};
+ghost use Rattle.dc_walk.specs.declared.TheConstants.{MOST_USED};
 
 use crate::MOST_USED;
-use arrayvec::ArrayVec;
 use dc_plain::Key;
 use dc_row::{EMPTY_ROW, ROW_WORDS, tells_of, words_have_the_fact_they_spell};
+use std::marker::Model;
 
 /// A row that answered a question: the place of its note among those of the walk, and its words, the
 /// count first.
@@ -19,44 +22,129 @@ pub(crate) struct Used {
     pub words: [u64; ROW_WORDS],
 }
 
-impl Default for Used {
-    fn default() -> Used {
-        Used {
-            row: 0,
-            place: 0,
-            words: EMPTY_ROW,
-        }
-    }
-}
+/// No row yet.
+const BLANK: Used = Used {
+    row: 0,
+    place: 0,
+    words: EMPTY_ROW,
+};
 
-/// Room for the rows that a walk rests on, which the next walk may use again.
+/// Room for the rows that a walk rests on, which the next walk may use again. A row is read where it stays
+/// if it answers: behind the last that did.
 #[derive(Drop)]
 pub struct Room {
-    pub(crate) used: ArrayVec<Used, MOST_USED>,
+    rows: [Used; MOST_USED],
+    len: usize,
+}
+
+impl Model for Room {
+    ghost use Rattle.std.specs.Prelude.{◌≤◌};
+    ghost use Rattle.dc_walk.specs.Rooms.{Kept, kept_in};
+    ghost use Rattle.dc_walk.specs.declared.TheConstants.{MOST_USED};
+
+    ghost Value = { Kept };
+
+    ghost view = { λ r. kept_in r.rows r.len };
+
+    ghost invariant = { λ r. r.len ≤ MOST_USED };
 }
 
 impl Room {
     /// Room that no walk has used yet. It takes no memory besides its own.
     #[must_use]
-    pub fn new() -> Room {
+    pub fn new() -> Room
+        ensures { result.items ≡ [] }
+    {
         Room {
-            used: ArrayVec::new(),
+            rows: [BLANK; MOST_USED],
+            len: 0,
         }
+    }
+
+    /// Forgets the rows of an earlier walk. What they told stays in their place, where nothing reads it.
+    pub(crate) fn clear(&mut self)
+        ensures { self.new.items ≡ [] }
+    {
+        self.len = 0;
+    }
+
+    /// Whether no row more can be kept.
+    #[inline(always)]
+    pub(crate) fn is_full(&self) -> bool
+        ensures full { result ≡ (length self.now.items == MOST_USED) }
+        ensures fits { length self.now.items ≤ MOST_USED }
+    {
+        self.len == MOST_USED
+    }
+
+    /// The rows that were kept.
+    #[inline(always)]
+    pub(crate) fn as_slice(&self) -> &[Used]
+        ensures value { result.now ≡ self.now.items }
+        ensures fits { length result.now ≤ MOST_USED }
+    {
+        &self.rows[..self.len]
+    }
+
+    /// The words of a row that was kept.
+    #[inline(always)]
+    pub(crate) fn words_at(&self, at: usize) -> &[u64; ROW_WORDS]
+        requires kept { at < length self.now.items }
+        ensures { result.now ≡ (used_at self.now.items at).words }
+    {
+        &self.rows[at].words
+    }
+
+    /// The words of the row that is being read.
+    #[inline(always)]
+    pub(crate) fn next(&self) -> &[u64; ROW_WORDS]
+        requires some { length self.now.items < MOST_USED }
+        ensures words { result.now ≡ self.now.next }
+        ensures size { length self.now.next ≡ ROW_WORDS }
+    {
+        &self.rows[self.len].words
+    }
+
+    /// Puts a word into the row that is being read.
+    #[inline(always)]
+    pub(crate) fn put(&mut self, at: usize, word: u64)
+        requires some { length self.old.items < MOST_USED }
+        requires at { at < ROW_WORDS }
+        ensures same { self.new.items ≡ self.old.items }
+        ensures next { self.new.next ≡ set self.old.next at word }
+        ensures size { length self.new.next ≡ ROW_WORDS }
+    {
+        self.rows[self.len].words[at] = word;
+    }
+
+    /// Keeps the row that was read, whose note has this place, and answers where it stands.
+    #[inline(always)]
+    pub(crate) fn keep(&mut self, row: u64, place: u64) -> usize
+        requires some { length self.old.items < MOST_USED }
+        ensures kept { self.new.items
+            ≡ self.old.items ++ record { row = row; place = place; words = self.old.next } ∷ [] }
+        ensures last { result ≡ length self.old.items }
+    {
+        let at = self.len;
+        self.rows[at].row = row;
+        self.rows[at].place = place;
+        self.len += 1;
+        at
     }
 }
 
-/// The words of the used row that tells of a key, if one does.
+/// Where the used row stands that tells of a key, if one does.
 #[inline(always)]
-pub(crate) fn standing(used: &[Used], key: Key<'_>) -> Option<[u64; ROW_WORDS]>
+pub(crate) fn standing(used: &[Used], key: Key<'_>) -> Option<usize>
     requires spelled { AllSpelled used.now }
-    ensures some { IfSome result (IsStanding used.now (key_shown key.entry)) }
+    ensures some { IfSome result (StandsAt used.now (key_shown key.entry)) }
     ensures none { IfNone result (let key = key_shown key.entry in
         IsUntold (told_in used.now) key.number key.label) }
 {
     words_have_the_fact_they_spell();
     for i in 0..used.len() {
         if tells_of(&used[i].words, key) {
-            return Some(used[i].words);
+            return Some(i);
         }
     }
     None

@@ -9,7 +9,6 @@ ghost use Rattle.dc_walk.specs.Finds.{use_shown, AllInside};
 ghost use Rattle.dc_walk.specs.Sources.{IsUntried};
 ghost use Rattle.dc_walk.specs.Walks.{Went, Stopped, Walks};
 
-use crate::MOST_USED;
 use crate::answer::Fast;
 use crate::filter::KeyFilter;
 use crate::finder::Walker;
@@ -17,9 +16,8 @@ use crate::look::Look;
 use crate::rows::Rows;
 use crate::settle::settle;
 use crate::source::Source;
-use crate::used::Used;
+use crate::used::Room;
 use crate::why::Why;
-use arrayvec::ArrayVec;
 use dc_plain::Reply;
 use dc_resolve::{Walked, walk};
 use dc_table::{Pass, Reader};
@@ -30,7 +28,7 @@ pub(crate) fn walk_rows<'x, S: Source>(
     source: &'x S,
     reader: Reader<'x>,
     pass: &'x mut Pass,
-    used: &'x mut ArrayVec<Used, MOST_USED>,
+    used: &'x mut Room,
     look: Look<'x>,
 ) -> Result<(Reply, bool), (Why, Option<u64>)>
     requires serves { S.serves source.now (table_of reader) }
@@ -53,6 +51,7 @@ pub(crate) fn walk_rows<'x, S: Source>(
         made: 0,
         filter: KeyFilter::new(),
         spare: None,
+        slow: false,
         why: None,
     };
     let mut walker = Walker { source, rows };
@@ -74,7 +73,7 @@ pub(crate) fn walk_by<S: Source>(
     source: &S,
     reader: Reader<'_>,
     pass: &mut Pass,
-    used: &mut ArrayVec<Used, MOST_USED>,
+    used: &mut Room,
     look: Look<'_>,
 ) -> (Fast, Option<u64>)
     requires serves { S.serves source.now (table_of reader) }
