@@ -5,6 +5,7 @@ pub mod Told
 pub mod Walked
 pub mod Sighted
 pub mod Lookings
+pub mod Rooms
 pub mod Standing
 pub mod Questions
 pub mod Ended

@@ -1,5 +1,6 @@
 -- What a finder over rows becomes by a question.
-use Rattle.std.proofs.Common.{◌≡◌, ℕ, zero, suc, ◌+◌, ◌*◌, ◌/◌, ◌<◌, ◌≤◌, inl, inr, List, [], ◌∷◌, ◌&&◌, Bool, true, false, Option, Some, None, IfSome, is_some, if◌then◌else◌, length, get_or, map, refl, ap, sym, ◌∙◌, subst, arith}
+use Rattle.std.proofs.Common.{◌≡◌, ℕ, zero, suc, ◌+◌, ◌*◌, ◌/◌, ◌<◌, ◌≤◌, ◌==◌, inl, inr, List, [], ◌∷◌, ◌&&◌, Bool, true, false, Option, Some, None, IfSome, is_some, if◌then◌else◌, length, get_or, map, refl, ap, sym, ◌∙◌, subst, arith}
+use Rattle.std.proofs.lemmas.Bool.{cases_eq, eq-eqb}
 use Rattle.std.proofs.lemmas.List.{map-append, length-map}
 use Rattle.std.specs.List.{Contains}
 use Rattle.dc_plain.specs.Facts.{Fact, Key, Teller, told_by}
@@ -87,6 +88,12 @@ same_between s = let seen = ap (λ (b : Book). b.seen) s.book in record {
   nothing = record { own = ap (λ (b : Book). b.own) s.book; joined = ap (λ (b : Book). b.joined) s.book; later = omega arith };
   book = λ free. s.book;
 }
+
+pub is_below : (m n : ℕ) → (m == n) ≡ false → m ≤ n → m < n
+is_below m n other few = elim (cases_eq m n) [
+  | inl same ↦ let never : (n == n) ≡ false = subst (λ (k : ℕ). (k == n) ≡ false) same other in let is : (n == n) ≡ true = eq-eqb n n refl in absurd cc
+  | inr ne ↦ omega arith
+]
 
 -- so many rows are used, and so many looked at besides, that the walk is within its loads
 abbrev pub IsWithin : ℕ → ℕ → Type 0

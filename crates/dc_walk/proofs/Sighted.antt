@@ -98,11 +98,6 @@ module _ {f g : Rows} where
           let uses : uses_in g ≡ uses_in f = ap (map use_shown) used in
           record { finding = finds_on (probed (now_in f) row count words) (uses_in f) (e + (k + 1)) s can (subst AllSpelled (sym used) is.spelled) (inside_still s is used) (held_still s is used filter) (few_still s is used) now (one_look (passed row count words few is.walk)) uses made_so is.call; used = used }
 
-      pub other_so : length words + 1 ≡ ROW_WORDS → (TellsOf (count ∷ words) key → ⊥) → IsOther (now_in g) row key
-      other_so whole other =
-          let x = fresh_note row count words in
-          subst (λ (z : View). IsOther z row key) (sym now) (record { note = x; noted = last_noted (now_in f).walk.notes x; is_of = refl; whole = whole; other = other })
-
       pub answers_so : (at : ℕ) (fact : Fact) (u : Use) → uses_in g ≡ uses_in f ++ u ∷ [] → AllSpelled g.used.now.items → AllInside (share f.pass.now).rows g.used.now.items → AllHeld g.filter g.used.now.items → length g.used.now.items ≤ MOST_USED → u.row ≡ row → u.count ≡ count → u.place ≡ f.made → u.fact ≡ fact → Spells (count ∷ words) (Some fact)
           → key_of fact ≡ key → k < BUCKET_ROWS → outcome_in f (said_in f) ≡ None → IsUntold (said_in f) key.number key.label
           → StandsAt g.used.now.items key at → Answers f key g e at
@@ -117,6 +112,12 @@ module _ {f g : Rows} where
             uses = uses;
             standing = standing;
           }
+
+-- a row that was read whole and doesn't tell of the key
+pub other_so : (v w : View) (row count : ℕ) (words : List ℕ) (key : Key) → w ≡ probed v row count words → length words + 1 ≡ ROW_WORDS → (TellsOf (count ∷ words) key → ⊥) → IsOther w row key
+other_so v w row count words key now whole other =
+    let x = fresh_note row count words in
+    subst (λ (z : View). IsOther z row key) (sym now) (record { note = x; noted = last_noted v.walk.notes x; is_of = refl; whole = whole; other = other })
 
 pub on_still : {v : View} → GoesOn v v
 on_still {v = v} = record { notes = []; noted = sym (append-nil v.walk.notes); more = []; faults = sym (append-nil v.faults); same = same_walk v }

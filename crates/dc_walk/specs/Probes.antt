@@ -1,13 +1,14 @@
 -- What a probe of a row makes of a view.
 use Rattle.std.specs.Prelude.{◌≡◌, ℕ, ◌+◌, ◌-◌, List, [], ◌∷◌, ◌++◌, true, false, length, get_or, take, drop}
 use Rattle.dc_plain.specs.Requests.{Request}
+use Rattle.dc_row.specs.declared.TheConstants.{ROW_WORDS}
 use Rattle.dc_events.specs.Views.{Note, Walk, View}
 use Rattle.dc_events.specs.Views.Fault.{Busy}
 use Rattle.dc_events.specs.Effects.{faulted}
 use Rattle.dc_walk.specs.declared.probe.Extent as rust_extent
 use Rattle.dc_walk.specs.declared.probe.Extent.TheVariants as extents
-use Rattle.dc_walk.specs.declared.probe.Probe as rust_probe
-use Rattle.dc_walk.specs.declared.probe.Probe.TheVariants as probes
+use Rattle.dc_walk.specs.declared.probe.Probed as rust_probe
+use Rattle.dc_walk.specs.declared.probe.Probed.TheVariants as probes
 
 -- a note that no check has seen
 abbrev pub fresh_note : ℕ → ℕ → List ℕ → Note
@@ -41,8 +42,13 @@ walk_with call notes = record { busy = true; call = call; notes = notes; pivoted
 abbrev pub read_of : List ℕ → ℕ → List ℕ
 read_of words i = take (i - 1) (drop 1 words)
 
+-- a row's words up to the i-th were read after the view was this
+pub record HasRead (v w : View) (row : ℕ) (words : List ℕ) (i : ℕ) : Type 0 where
+  pub size : length words ≡ ROW_WORDS
+  pub read : w ≡ probed v row (get_or words 0 0) (read_of words i)
+
 -- what a probe makes of a view by the words that it has read, all of them where it was asked for all
-abbrev pub Reads : View → ℕ → rust_extent.Extent → List ℕ → View → rust_probe.Probe → Type 0
+abbrev pub Reads : View → ℕ → rust_extent.Extent → List ℕ → View → rust_probe.Probed → Type 0
 Reads v row extent words w probes.Odd = w ≡ faulted v (Busy row)
-Reads v row extent words w probes.Head = (extent ≡ extents.Head) × (w ≡ probed v row (get_or words 0 0) (read_of words 3))
-Reads v row extent words w probes.Whole = w ≡ seen_whole v row words
+Reads v row extent words w probes.Head = (extent ≡ extents.Head) × HasRead v w row words 3
+Reads v row extent words w probes.Whole = (length words ≡ ROW_WORDS) × (w ≡ seen_whole v row words)

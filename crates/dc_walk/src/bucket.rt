@@ -8,7 +8,7 @@ ghost use Rattle.dc_table.specs.Shares.{HasNotTried};
 ghost use Rattle.dc_walk.specs.Asking.{GoesOn};
 ghost use Rattle.dc_walk.specs.Causes.{Looked};
 ghost use Rattle.dc_walk.specs.Filters.{key_hash};
-ghost use Rattle.dc_walk.specs.Findings.{SameRows, IsFinding, now_in, outcome_in, said_in};
+ghost use Rattle.dc_walk.specs.Findings.{SameRows, IsFinding, now_in, outcome_in, said_in, spent};
 ghost use Rattle.dc_walk.specs.Sights.{Answers, Fails, GivesUp, LookedWhole};
 ghost use Rattle.dc_names.specs.declared.limits.TheConstants.{BUCKET_ROWS};
 ghost use Rattle.dc_walk.specs.declared.TheConstants.{MOST_USED};
@@ -60,10 +60,46 @@ fn ask_rows(
     Err(odd)
 }
 
-/// Asks rows for a key: first those whose head and number are the key's, then each of them whole, since a
-/// row that was left after its head tells nothing of why there is no answer. Where it is found by this
-/// second look after all, as a change meanwhile wrote it, later keys are sought in whole rows at once,
-/// so that no walk makes two looks twice and loads more than it may.
+/// Looks at rows whole, since a row that was left after its head tells nothing of why there is no answer.
+/// Where a row tells of the key after all, later keys are sought in whole rows at once.
+// Kept out of line: few look-ups come to it.
+#[inline(never)]
+fn look_whole(
+    rows: &mut Rows<'_>,
+    lane: Lane,
+    key: Key<'_>,
+    hash: u64,
+    earlier: u64,
+) -> Result<usize, Option<u64>>
+    requires finding { IsFinding rows.old earlier }
+    requires within { lane.first + lane.many ≤ (share rows.old.pass.now).rows }
+    requires many { lane.many ≤ BUCKET_ROWS }
+    requires early { spent rows.old + earlier ≤ BUCKET_ROWS }
+    requires few { (share rows.old.pass.now).rows < 2 ^ 64 }
+    requires hash { hash ≡ key_hash (key_shown key) }
+    requires room { length rows.old.used.now.items < MOST_USED }
+    requires needed { outcome_in rows.old (said_in rows.old) ≡ None }
+    requires untold { IsUntold (said_in rows.old) (key_shown key).number (key_shown key).label }
+    ensures same { SameRows rows.old rows.new }
+    ensures untried { HasNotTried (known rows.old.pass.now) (known rows.new.pass.now) }
+    ensures why { rows.new.why ≡ rows.old.why }
+    ensures on { GoesOn (now_in rows.old) (now_in rows.new) }
+    ensures tells { IfOk result (Answers rows.old (key_shown key.entry) rows.new 0) }
+    ensures fails { OnErr result (GivesUp rows.old rows.new) }
+    ensures looked { IfErr result (λ odd.
+        Looked (now_in rows.new) lane.first (key_shown key.entry) odd lane.many) }
+{
+    let found = ask_rows(rows, lane, key, hash, Extent::Whole, earlier);
+    if found.is_ok() {
+        rows.slow = true;
+    }
+    found
+}
+
+/// Asks rows for a key: first those whose head and number are the key's, then each of them whole. A walk
+/// that found a key by the second look alone, as a change meanwhile wrote its row, makes no second look
+/// again: else it would load more than it may.
+#[inline(always)]
 pub(crate) fn seek_row(
     rows: &mut Rows<'_>,
     lane: Lane,
@@ -87,17 +123,11 @@ pub(crate) fn seek_row(
     ensures looked { IfErr result (λ odd.
         Looked (now_in rows.new) lane.first (key_shown key.entry) odd lane.many) }
 {
-    let earlier = if rows.slow {
-        0
-    } else {
-        if let Ok(at) = ask_rows(rows, lane, key, hash, Extent::Head, 0) {
-            return Ok(at);
-        }
-        lane.many
-    };
-    let found = ask_rows(rows, lane, key, hash, Extent::Whole, earlier);
-    if found.is_ok() {
-        rows.slow = true;
+    if rows.slow {
+        return look_whole(rows, lane, key, hash, 0);
     }
-    found
+    match ask_rows(rows, lane, key, hash, Extent::Head, 0) {
+        Ok(at) => Ok(at),
+        Err(_) => look_whole(rows, lane, key, hash, lane.many),
+    }
 }

@@ -1,12 +1,12 @@
 //! A row that is noted and read.
 
-ghost use Rattle.std.specs.Prelude.{◌≡◌, ◌<◌, length};
-ghost use Rattle.dc_events.specs.Effects.{begins};
+ghost use Rattle.std.specs.Prelude.{◌≡◌, ◌<◌, true, false, length};
+ghost use Rattle.dc_events.specs.Effects.{begins, faulted};
+ghost use Rattle.dc_events.specs.Views.Fault.{Busy};
 ghost use Rattle.dc_plain.specs.Requests.{request_of};
-ghost use Rattle.dc_row.specs.declared.TheConstants.{ROW_WORDS};
 ghost use Rattle.dc_table.specs.Holders.{table_of};
 ghost use Rattle.dc_table.specs.Passes.{view, share, Fits, IsIdle, StaysOut};
-ghost use Rattle.dc_walk.specs.Probes.{IsEarly, Reads};
+ghost use Rattle.dc_walk.specs.Probes.{IsEarly, HasRead, Reads};
 ghost use Rattle.dc_walk.specs.declared.TheConstants.{MOST_USED};
 
 use crate::used::Room;
@@ -24,7 +24,7 @@ pub(crate) enum Extent {
 }
 
 /// What a probe of a row has read.
-pub(crate) enum Probe {
+pub(crate) enum Probed {
     /// Nothing, since the row is being changed.
     Odd,
     /// The head and the number, which aren't the key's.
@@ -46,8 +46,43 @@ fn may_tell(words: &[u64], key: Key<'_>) -> bool {
         && text.is_none_or(|len| length(words) == len)
 }
 
-/// Notes a row and reads it into a room, its count first, as far as it is asked to. `first` begins the
-/// walk of the call. Of an odd row nothing more is read than the count.
+/// Notes a row and reads its head and its number into a room, its count first. `first` begins the walk of
+/// the call. Of an odd row, which it answers by no, nothing more is read than the count.
+#[inline(always)]
+fn read_head(
+    reader: Reader<'_>,
+    pass: &mut Pass,
+    room: &mut Room,
+    call: &Call<'_>,
+    row: u64,
+    first: bool,
+) -> bool
+    requires pass { Fits (table_of reader) pass.old × IsIdle pass.old }
+    requires row { row < (share pass.old).rows }
+    requires early { IsEarly (begins first (view pass.old) (request_of call.now)) }
+    requires some { length room.old.items < MOST_USED }
+    ensures same { StaysOut pass.old pass.new }
+    ensures fits { Fits (table_of reader.entry) pass.new }
+    ensures items { room.new.items ≡ room.old.items }
+    ensures read { result ≡ true → HasRead (begins first (view pass.old) (request_of call.now))
+        (view pass.new) row room.new.next 3 }
+    ensures odd { result ≡ false → view pass.new
+        ≡ faulted (begins first (view pass.old) (request_of call.now)) (Busy row) }
+{
+    // For the proof: that the row has its words.
+    let _words = room.next();
+    // The count before the words: words that are written meanwhile have a higher count, which the check
+    // after the pivot finds. Read after them, a count could be that of a later fact.
+    let Ok(count) = reader.note(pass, call, row, first) else {
+        return false;
+    };
+    room.put(0, count);
+    room.put(1, reader.read_word(pass, row, 1));
+    room.put(2, reader.read_word(pass, row, 2));
+    true
+}
+
+/// Notes a row and reads it into a room as far as it is asked to. `first` begins the walk of the call.
 #[inline(always)]
 pub(crate) fn probe(
     reader: Reader<'_>,
@@ -58,32 +93,24 @@ pub(crate) fn probe(
     first: bool,
     key: Key<'_>,
     extent: Extent,
-) -> Probe
+) -> Probed
     requires pass { Fits (table_of reader) pass.old × IsIdle pass.old }
     requires row { row < (share pass.old).rows }
     requires early { IsEarly (begins first (view pass.old) (request_of call.now)) }
     requires some { length room.old.items < MOST_USED }
     ensures same { StaysOut pass.old pass.new }
     ensures items { room.new.items ≡ room.old.items }
-    ensures size { length room.new.next ≡ ROW_WORDS }
     ensures reads { Reads (begins first (view pass.old) (request_of call.now)) row extent room.new.next
         (view pass.new) result }
 {
-    // For the proof: that the row has its words.
-    let _words = room.next();
-    // The count before the words: words that are written meanwhile have a higher count, which the check
-    // after the pivot finds. Read after them, a count could be that of a later fact.
-    let Ok(count) = reader.note(pass, call, row, first) else {
-        return Probe::Odd;
-    };
-    room.put(0, count);
-    room.put(1, reader.read_word(pass, row, 1));
-    room.put(2, reader.read_word(pass, row, 2));
+    if !read_head(reader, pass, room, call, row, first) {
+        return Probed::Odd;
+    }
     if extent == Extent::Head && !may_tell(room.next(), key) {
-        return Probe::Head;
+        return Probed::Head;
     }
     for i in 3..ROW_WORDS {
         room.put(i, reader.read_word(pass, row, i as u64));
     }
-    Probe::Whole
+    Probed::Whole
 }

@@ -12,7 +12,7 @@ ghost use Rattle.dc_walk.specs.Sights.{Saw};
 ghost use Rattle.dc_names.specs.declared.limits.TheConstants.{BUCKET_ROWS};
 ghost use Rattle.dc_walk.specs.declared.TheConstants.{MOST_USED};
 
-use crate::probe::{Extent, Probe, probe};
+use crate::probe::{Extent, Probed, probe};
 use crate::rows::Rows;
 use dc_plain::Key;
 use dc_row::{tells_of, words_have_the_fact_they_spell};
@@ -59,12 +59,12 @@ pub(crate) fn look_at(
     let first = !rows.begun;
     rows.begun = true;
     match probe(rows.reader, rows.pass, rows.used, &call, row, first, key, extent) {
-        Probe::Odd => return Seen::Odd,
-        Probe::Head => {
+        Probed::Odd => return Seen::Odd,
+        Probed::Head => {
             rows.made += 1;
             return Seen::Other;
         }
-        Probe::Whole => {}
+        Probed::Whole => {}
     }
     let place = rows.made;
     rows.made += 1;

@@ -22,13 +22,6 @@ pub(crate) struct Used {
     pub words: [u64; ROW_WORDS],
 }
 
-/// No row yet.
-const BLANK: Used = Used {
-    row: 0,
-    place: 0,
-    words: EMPTY_ROW,
-};
-
 /// Room for the rows that a walk rests on, which the next walk may use again. A row is read where it stays
 /// if it answers: behind the last that did.
 #[derive(Drop)]
@@ -38,15 +31,13 @@ pub struct Room {
 }
 
 impl Model for Room {
-    ghost use Rattle.std.specs.Prelude.{◌≤◌};
-    ghost use Rattle.dc_walk.specs.Rooms.{Kept, kept_in};
-    ghost use Rattle.dc_walk.specs.declared.TheConstants.{MOST_USED};
+    ghost use Rattle.dc_walk.specs.Rooms.{Kept, IsRoom, kept_in};
 
     ghost Value = { Kept };
 
     ghost view = { λ r. kept_in r.rows r.len };
 
-    ghost invariant = { λ r. r.len ≤ MOST_USED };
+    ghost invariant = { λ r. IsRoom r.rows r.len };
 }
 
 impl Room {
@@ -55,10 +46,13 @@ impl Room {
     pub fn new() -> Room
         ensures { result.items ≡ [] }
     {
-        Room {
-            rows: [BLANK; MOST_USED],
-            len: 0,
-        }
+        let blank = Used {
+            row: 0,
+            place: 0,
+            words: EMPTY_ROW,
+        };
+        let rows = [blank; MOST_USED];
+        Room { rows, len: 0 }
     }
 
     /// Forgets the rows of an earlier walk. What they told stays in their place, where nothing reads it.
@@ -92,7 +86,7 @@ impl Room {
         requires kept { at < length self.now.items }
         ensures { result.now ≡ (used_at self.now.items at).words }
     {
-        &self.rows[at].words
+        &self.as_slice()[at].words
     }
 
     /// The words of the row that is being read.

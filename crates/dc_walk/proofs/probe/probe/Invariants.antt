@@ -1,10 +1,9 @@
-use Rattle.std.proofs.Common.{◌≡◌, get_or, length}
-use Rattle.dc_row.specs.declared.TheConstants.{ROW_WORDS}
+use Rattle.std.proofs.Common.{◌≡◌}
 use Rattle.dc_events.specs.Effects.{begins}
 use Rattle.dc_plain.specs.Requests.{request_of}
 use Rattle.dc_table.specs.Holders.{table_of}
 use Rattle.dc_table.specs.Passes.{view, Fits, StaysOut}
-use Rattle.dc_walk.specs.Probes.{probed, read_of}
+use Rattle.dc_walk.specs.Probes.{HasRead}
 use Rattle.dc_walk.proofs.probe.probe.Given as goal
 
 abbrev pub invariant-loop-i : goal.invariant-loop-i
@@ -12,6 +11,5 @@ invariant-loop-i l = record {
   fits : Fits (table_of l.fn.reader) l.pass;
   stays : StaysOut l.fn.pass l.pass;
   items : l.room.items ≡ l.fn.room.items;
-  size : length l.room.next ≡ ROW_WORDS;
-  read : view l.pass ≡ probed (begins l.fn.first (view l.fn.pass) (request_of l.fn.call)) l.fn.row (get_or l.room.next 0 0) (read_of l.room.next l.i);
+  has : HasRead (begins l.fn.first (view l.fn.pass) (request_of l.fn.call)) (view l.pass) l.fn.row l.room.next l.i;
 }
