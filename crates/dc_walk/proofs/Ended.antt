@@ -13,7 +13,7 @@ use Rattle.dc_events.specs.Views.{View, Book}
 use Rattle.dc_events.specs.Views.Fault.{Busy, Changed}
 use Rattle.dc_events.specs.Effects.{begins, begun}
 use Rattle.dc_table.specs.Holders.{table_of}
-use Rattle.dc_table.specs.Passes.{Pass, view, share}
+use Rattle.dc_table.specs.Passes.{Pass, view, share, IsSamePass, IsIdle}
 use Rattle.dc_table.specs.Shares.{Share}
 use Rattle.dc_walk.specs.Uses.{Use, facts_of}
 use Rattle.dc_walk.specs.Asking.{IsWalk}
@@ -88,6 +88,12 @@ module _ (locks : Bool) (f : Rows) where
 
     between_so : Between locks (begun v (request_in f)) (view_in g.begun p f.look)
     between_so = subst (λ (z : View × View). Between locks z.0 z.1) (λ i. (begins_so i, now_is i)) b.walk
+
+    pub same_so : IsSamePass f.pass.now p × IsIdle p
+    same_so = subst (λ q. IsSamePass f.pass.now q × IsIdle q) (sym same) (b.same.same_pass, (b.good good).finding.can.idle)
+
+    pub inside_so : AllInside (share f.pass.now).rows us
+    inside_so = subst (λ (z : Share × List Used). AllInside z.0.rows z.1) (λ i. (b.same.same_pass.same_share i, sym same_used i)) (b.good good).finding.inside
 
     pub went_so : (end : Outcome) (answer : Answer) → g.why ≡ None → ((teller : Teller) → Extends (said_in g) teller → outcome_in f teller ≡ Some end) → answer ≡ outcome_answer end
         → Went locks f.look v (view_in g.begun p f.look) (map use_shown us) answer

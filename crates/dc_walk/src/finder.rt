@@ -12,7 +12,6 @@ use crate::rows::Rows;
 use crate::source::Source;
 use dc_names::{Kind, Part, hash};
 use dc_resolve::{Finder, Stop};
-use dc_row::target;
 
 /// Answers the questions of a look-up by the rows of a source.
 #[derive(Drop)]
@@ -47,7 +46,7 @@ impl<'a, S: Source> Finder for Walker<'a, S> {
     ) -> Result<Option<(u64, Kind)>, Stop> {
         let key = key_of(dir, part);
         let at = told(self.source, &mut self.rows, key, hash)?;
-        Ok(target(self.rows.used.words_at(at)))
+        Ok(self.rows.target_at(at))
     }
 
     #[inline(always)]
@@ -55,7 +54,7 @@ impl<'a, S: Source> Finder for Walker<'a, S> {
         let key = text_key(number);
         let hash = hash(number, key.label.bytes());
         let at = told(self.source, &mut self.rows, key, hash)?;
-        Ok(LinkText::of(self.rows.used.words_at(at)))
+        Ok(self.rows.text_at(at))
     }
 
     ghost stays = { λ f. (refl, stays_so S.locks f.rows) };

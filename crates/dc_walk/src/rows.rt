@@ -1,9 +1,16 @@
 //! What a walk over rows has done so far.
 
+ghost use Rattle.std.specs.Prelude.{◌<◌, Some, length};
+ghost use Rattle.dc_row.specs.Spelling.{SpellsText, TellsTarget, TellsText};
+ghost use Rattle.dc_walk.specs.Rooms.{used_at};
+
 use crate::filter::KeyFilter;
+use crate::link::LinkText;
 use crate::look::Look;
 use crate::used::Room;
 use crate::why::Why;
+use dc_names::Kind;
+use dc_row::target;
 use dc_table::{Pass, Reader};
 
 /// A walk over rows: its question, the rows that it used, whether a step was made, how many rows were
@@ -21,4 +28,25 @@ pub(crate) struct Rows<'a> {
     pub spare: Option<u64>,
     pub slow: bool,
     pub why: Option<Why>,
+}
+
+impl Rows<'_> {
+    /// Where the used row at a place says that its entry leads.
+    #[inline(always)]
+    pub(crate) fn target_at(&self, at: usize) -> Option<(u64, Kind)>
+        requires used { at < length self.now.used.now.items }
+        ensures { TellsTarget (used_at self.now.used.now.items at).words result }
+    {
+        target(self.used.words_at(at))
+    }
+
+    /// The text of a link that the used row at a place has.
+    #[inline(always)]
+    pub(crate) fn text_at(&self, at: usize) -> LinkText
+        requires used { at < length self.now.used.now.items }
+        requires spelled { SpellsText (used_at self.now.used.now.items at).words }
+        ensures { TellsText (used_at self.now.used.now.items at).words (Some result.text) }
+    {
+        LinkText::of(self.used.words_at(at))
+    }
 }

@@ -3,7 +3,7 @@ use Rattle.dc_plain.specs.Requests.Answer.{Refused as refuses}
 use Rattle.dc_plain.specs.Resolution.Outcome.{Found, Refused}
 use Rattle.dc_table.specs.Holders.{table_of}
 use Rattle.dc_table.specs.Passes.{view}
-use Rattle.dc_walk.proofs.Ended.{started, serves_so, may_so, went_so, stopped_so}
+use Rattle.dc_walk.proofs.Ended.{started, serves_so, may_so, same_so, inside_so, went_so, stopped_so}
 use Rattle.dc_walk.proofs.Questions.{none_is}
 use Rattle.dc_walk.proofs.walk.walk_rows.Goals as goal
 
@@ -24,3 +24,21 @@ pub returns-in-Some-clause-stopped : goal.returns-in-Some-clause-stopped
 returns-in-Some-clause-stopped g c = let e = c.in-Stopped.ensures in let v = view c.args.pass.now in
     stopped_so _ _ v refl e.becomes.1 (started _ _ v c.requires.can refl refl refl c.requires.empty) _ (c.pass-1.given.1 (sym e.becomes.1.same.pass)) _ (ap (λ used. used.items) (c.used-1.given.1 (sym e.becomes.1.same.used)))
     c.in-Some.why c.in-Some.is
+
+pub returns-in-Found-clause-same : goal.returns-in-Found-clause-same
+returns-in-Found-clause-same g c = let e = c.in-Found.ensures in same_so _ _ (view c.args.pass.now) refl e.becomes.1 (started _ _ (view c.args.pass.now) c.requires.can refl refl refl c.requires.empty) _ (c.pass-1.given.1 (sym e.becomes.1.same.pass)) _ (ap (λ used. used.items) (c.used-1.given.1 (sym e.becomes.1.same.used)))
+
+pub returns-in-Found-clause-rows : goal.returns-in-Found-clause-rows
+returns-in-Found-clause-rows g c = let e = c.in-Found.ensures in inside_so _ _ (view c.args.pass.now) refl e.becomes.1 (started _ _ (view c.args.pass.now) c.requires.can refl refl refl c.requires.empty) _ (c.pass-1.given.1 (sym e.becomes.1.same.pass)) _ (ap (λ used. used.items) (c.used-1.given.1 (sym e.becomes.1.same.used)))
+
+pub returns-in-Refused-clause-same : goal.returns-in-Refused-clause-same
+returns-in-Refused-clause-same g c = let e = c.in-Refused.ensures in same_so _ _ (view c.args.pass.now) refl e.becomes.1 (started _ _ (view c.args.pass.now) c.requires.can refl refl refl c.requires.empty) _ (c.pass-1.given.1 (sym e.becomes.1.same.pass)) _ (ap (λ used. used.items) (c.used-1.given.1 (sym e.becomes.1.same.used)))
+
+pub returns-in-Refused-clause-rows : goal.returns-in-Refused-clause-rows
+returns-in-Refused-clause-rows g c = let e = c.in-Refused.ensures in inside_so _ _ (view c.args.pass.now) refl e.becomes.1 (started _ _ (view c.args.pass.now) c.requires.can refl refl refl c.requires.empty) _ (c.pass-1.given.1 (sym e.becomes.1.same.pass)) _ (ap (λ used. used.items) (c.used-1.given.1 (sym e.becomes.1.same.used)))
+
+pub returns-in-Some-clause-same : goal.returns-in-Some-clause-same
+returns-in-Some-clause-same g c = let e = c.in-Stopped.ensures in same_so _ _ (view c.args.pass.now) refl e.becomes.1 (started _ _ (view c.args.pass.now) c.requires.can refl refl refl c.requires.empty) _ (c.pass-1.given.1 (sym e.becomes.1.same.pass)) _ (ap (λ used. used.items) (c.used-1.given.1 (sym e.becomes.1.same.used)))
+
+pub returns-in-Some-clause-rows : goal.returns-in-Some-clause-rows
+returns-in-Some-clause-rows g c = let e = c.in-Stopped.ensures in inside_so _ _ (view c.args.pass.now) refl e.becomes.1 (started _ _ (view c.args.pass.now) c.requires.can refl refl refl c.requires.empty) _ (c.pass-1.given.1 (sym e.becomes.1.same.pass)) _ (ap (λ used. used.items) (c.used-1.given.1 (sym e.becomes.1.same.used)))
