@@ -1,6 +1,6 @@
 //! A fact of a key that is sought in the words of rows, which are compared and not decoded.
 
-ghost use Rattle.std.specs.Prelude.{◌≡◌, ◌≤◌, ◌↔◌, length, slice_index, Option, Some, IfSome, IsTrue, true, false};
+ghost use Rattle.std.specs.Prelude.{◌≡◌, ◌≤◌, ◌<◌, ◌↔◌, ℕ, length, slice_index, Option, Some, IfSome, IsTrue, true, false};
 ghost use Rattle.dc_names.specs.Words.{AreBytes};
 ghost use Rattle.dc_plain.specs.Facts.{Target, label_bytes};
 ghost use Rattle.dc_plain.specs.Facts.Fact.{Reads};
@@ -123,12 +123,26 @@ fn is_spelled(words: &[u64], tag: u64, kind: u64, number: u64, value: u64, text:
     if words[1] != head || words[2] != number || words[3] != value {
         return false;
     }
-    'text: for i in 4..ROW_WORDS {
+    let end = 4 + text.len().div_ceil(8);
+    'text: for i in 4..end {
         if words[i] != text_word(text, i - 4) {
             return false;
         }
     }
-    true
+    are_zero(words, end)
+}
+
+/// Whether all words from one on are zero, as those past a text are. It looks at each, so that several are
+/// looked at at a time.
+#[inline(always)]
+fn are_zero(words: &[u64], from: usize) -> bool
+    ensures { IsTrue result ↔ ((i : ℕ) → from ≤ i → i < length words.now → slice_index words.now i ≡ 0) }
+{
+    let mut zero = true;
+    for i in from..words.len() {
+        zero &= words[i] == 0;
+    }
+    zero
 }
 
 /// Whether an entry can have this kind and this number: one that leads nowhere has no number.
