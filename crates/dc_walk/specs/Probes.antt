@@ -47,6 +47,12 @@ pub record HasRead (v w : View) (row : ℕ) (words : List ℕ) (i : ℕ) : Type 
   pub size : length words ≡ ROW_WORDS
   pub read : w ≡ probed v row (get_or words 0 0) (read_of words i)
 
+-- the walk goes on, and has read the row's words up to the i-th
+pub record IsReading (w : View) (row : ℕ) (words : List ℕ) (i : ℕ) : Type 0 where
+  pub before : View
+  pub early : IsEarly before
+  pub has : HasRead before w row words i
+
 -- what a probe makes of a view by the words that it has read, all of them where it was asked for all
 abbrev pub Reads : View → ℕ → rust_extent.Extent → List ℕ → View → rust_probe.Probed → Type 0
 Reads v row extent words w probes.Odd = w ≡ faulted v (Busy row)

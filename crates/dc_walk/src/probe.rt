@@ -11,7 +11,7 @@ ghost use Rattle.dc_walk.specs.declared.TheConstants.{MOST_USED};
 
 use crate::used::Room;
 use dc_plain::{Call, Key, Label};
-use dc_row::{ROW_WORDS, length, number, tag};
+use dc_row::{length, number, tag};
 use dc_table::{Pass, Reader};
 
 /// How much of a row is read.
@@ -109,8 +109,6 @@ pub(crate) fn probe(
     if extent == Extent::Head && !may_tell(room.next(), key) {
         return Probed::Head;
     }
-    for i in 3..ROW_WORDS {
-        room.put(i, reader.read_word(pass, row, i as u64));
-    }
+    room.read_rest(reader, pass, row);
     Probed::Whole
 }

@@ -4,13 +4,18 @@ ghost use Rattle.std.specs.Prelude.{◌≡◌, ◌<◌, ◌≤◌, ◌==◌, ◌
 ghost use Rattle.dc_plain.specs.KeysShown.{key_shown};
 ghost use Rattle.dc_resolve.specs.Needs.{IsUntold};
 ghost use Rattle.dc_row.specs.declared.TheConstants.{ROW_WORDS};
+ghost use Rattle.dc_events.specs.Views.{View};
+ghost use Rattle.dc_table.specs.Holders.{table_of};
+ghost use Rattle.dc_table.specs.Passes.{view, share, Fits, IsIdle, StaysOut};
 ghost use Rattle.dc_walk.specs.Finds.{told_in, AllSpelled, StandsAt};
+ghost use Rattle.dc_walk.specs.Probes.{HasRead, IsReading};
 ghost use Rattle.dc_walk.specs.Rooms.{used_at};
 ghost use Rattle.dc_walk.specs.declared.TheConstants.{MOST_USED};
 
 use crate::MOST_USED;
 use dc_plain::Key;
 use dc_row::{EMPTY_ROW, ROW_WORDS, tells_of, words_have_the_fact_they_spell};
+use dc_table::{Pass, Reader};
 use std::marker::Model;
 
 /// A row that answered a question: the place of its note among those of the walk, and its words, the
@@ -109,6 +114,25 @@ impl Room {
         ensures size { length self.new.next ≡ ROW_WORDS }
     {
         self.rows[self.len].words[at] = word;
+    }
+
+    /// Reads the rest of the row that was noted last, whose head and number were read.
+    #[inline(always)]
+    pub(crate) fn read_rest(&mut self, reader: Reader<'_>, pass: &mut Pass, row: u64)
+        requires some { length self.old.items < MOST_USED }
+        requires pass { Fits (table_of reader) pass.old × IsIdle pass.old }
+        requires row { row < (share pass.old).rows }
+        requires reading { IsReading (view pass.old) row self.old.next 3 }
+        ensures same { StaysOut pass.old pass.new }
+        ensures items { self.new.items ≡ self.old.items }
+        ensures read { (v : View) → HasRead v (view pass.old) row self.old.next 3
+            → HasRead v (view pass.new) row self.new.next ROW_WORDS }
+    {
+        // One reference for all words, as each further step may have written what lies behind `self`.
+        let words = &mut self.rows[self.len].words;
+        for i in 3..ROW_WORDS {
+            words[i] = reader.read_word(pass, row, i as u64);
+        }
     }
 
     /// Keeps the row that was read, whose note has this place, and answers where it stands.
