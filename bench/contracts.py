@@ -7,7 +7,7 @@ usage: bench/contracts.py OLD NEW [CRATE ..]
 A tree is a folder with crates/; of an older commit, `git worktree add FOLDER COMMIT` makes one. The comparison prints each
 public function that is new, gone, or has other clauses, word for word. The measure prints clauses (of all functions) of
 more than 100 characters within their braces, bodies of more than 30 lines, public functions of more than four clauses, and
-answers of more than 20 lines. Tests are left out.
+answers of more than 20 lines. Tests are left out, and the crates of tests.
 """
 import pathlib
 import re
@@ -18,10 +18,18 @@ CLAUSE = re.compile(r"^\s*(?:requires|ensures)\b")
 LONG, LONGEST, BODY, CLAUSES, ANSWER = 100, 160, 30, 4, 20
 
 
-def sources(tree, crate):
-    for path in sorted((tree / "crates" / crate / "src").rglob("*.rt")):
-        if not crate.endswith(("_tests", "_trials")) and "tests" not in path.parts and path.name != "tests.rt":
+def of_code(tree, crate, folder, files):
+    """The files of a crate's folder that are not of tests."""
+    if crate.endswith(("_tests", "_trials")):
+        return
+    top = tree / "crates" / crate / folder
+    for path in sorted(top.rglob(files)):
+        if not {"tests", "tests.rt"} & set(path.relative_to(top).parts):
             yield path
+
+
+def sources(tree, crate):
+    return of_code(tree, crate, "src", "*.rt")
 
 
 def end_of_body(lines, at, indent):
@@ -78,7 +86,7 @@ def measure(tree, crates):
                 found["clauses"] += [(len(inner(c)), f"{where}: {c}") for c in clauses if len(inner(c)) > LONG]
                 found["bodies"] += [(body, where)] if body > BODY else []
                 found["functions"] += [(len(clauses), where)] if is_public and len(clauses) > CLAUSES else []
-        for path in (tree / "crates" / crate / "proofs").rglob("Answers.antt"):
+        for path in of_code(tree, crate, "proofs", "Answers.antt"):
             lines = sum(1 for line in path.read_text().split("\n") if line.strip())
             found["answers"] += [(lines, str(path.relative_to(tree)))] if lines > ANSWER else []
     longest = sum(1 for length, _ in found["clauses"] if length > LONGEST)

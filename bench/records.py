@@ -2,6 +2,7 @@
 """Tries the checker on the server's replies to random inputs, as they are and altered.
 
 usage: bench/records.py SERVER CHECKER [INPUTS] [SEED]
+       bench/records.py --long CHECKER REPLIES [ENTRIES]
 
 SERVER and CHECKER are the programs as they were built (`rt run` in crates/dcserve and crates/dccheck builds them);
 INPUTS is how many inputs there are, 1,000 by default.
@@ -19,6 +20,11 @@ checker must say `legal`. Then the record is altered in one place, in each of th
 It prints how many verdicts there were of each kind, and ends with the first that is wrong. Last come the seconds of the
 processor for records of 5,000, 10,000 and 20,000 replies of 16 sessions: directories made in the root, and as many looked
 up.
+
+With --long it has one legal record of so many replies judged, of 16 sessions: ENTRIES directories are made in the root (a
+tenth as many as replies by default, and at most 100,000), then they are looked up. It prints the seconds of the processor,
+the memory at its peak, and both for a reply and beside the size of the two files. docs/MEASUREMENTS.md has figures of
+100,000, 1,000,000 and 10,000,000 replies; the files of so many take 400 MB of the folder for temporary files.
 """
 import collections
 import os
@@ -34,6 +40,9 @@ ONE_PATH = ["look", "llook", "cd", "readlink", "stat", "list", "mkdir", "create"
 TWO_PATHS = ["link", "symlink", "rename"]
 MAKES = ["mkdir", "mkdir", "create", "link", "symlink", "rename"]
 PHASES, LINES, SESSIONS, LIMIT = 3, 12, 4, 24
+# Of long records: how many sessions take turns, and a number without a factor in common with how many names there are, so
+# that each is looked up in its turn.
+MANY, STRIDE = 16, 7919
 
 
 def path():
@@ -181,26 +190,48 @@ def expect(checker, folder, text, replies, what, status, begin, limit=LIMIT):
         sys.exit(f"{what}: not {status} {begin!r} but {found}\n{text}\n" + "\n".join(replies))
 
 
-def long_record(number):
-    half = number // 2
-    makes = [(i % 16, f"mkdir /{i:x}", f"ok {i + 2} @{i}") for i in range(half)]
-    looked = [i * 7919 % half for i in range(half)]
-    looks = [(i % 16, f"look /{n:x}", f"is {n + 2} dir @{half}") for i, n in enumerate(looked)]
-    lines = sorted(makes + looks, key=lambda line: line[0])
-    return "".join(f"{s} {c}\n" for s, c, _ in lines), [f"{s} {r}" for s, _, r in lines]
+def long_record(number, entries):
+    """The lines of a record, session after session: a command and its reply."""
+    for whose in range(MANY):
+        for i in range(whose, entries, MANY):
+            yield f"{whose} mkdir /{i:x}\n", f"{whose} ok {i + 2} @{i}\n"
+        for i in range(whose, number - entries, MANY):
+            n = i * STRIDE % entries
+            yield f"{whose} look /{n:x}\n", f"{whose} is {n + 2} dir @{entries}\n"
 
 
-def time_of(checker, folder, number):
-    text, replies = long_record(number)
+def judge_long(checker, folder, number, entries):
+    """The seconds of the processor and the bytes at the peak, as the most of any child, and the size of the files."""
+    paths = [os.path.join(folder, name) for name in ("commands", "replies")]
+    with open(paths[0], "w") as commands, open(paths[1], "w") as replies:
+        for command, reply in long_record(number, entries):
+            commands.write(command)
+            replies.write(reply)
     begin = resource.getrusage(resource.RUSAGE_CHILDREN)
-    expect(checker, folder, text, replies, f"{number} replies", 0, "legal\n", number)
+    # The root is an inode too.
+    run = subprocess.run([checker, f"--inodes={entries + 1}", *paths], stdout=subprocess.PIPE, stderr=subprocess.PIPE)
     end = resource.getrusage(resource.RUSAGE_CHILDREN)
-    return end.ru_utime - begin.ru_utime + end.ru_stime - begin.ru_stime
+    if (run.returncode, run.stdout) != (0, b"legal\n"):
+        sys.exit(f"{number} replies: not legal but {run.returncode} {run.stdout!r} {run.stderr!r}")
+    seconds = end.ru_utime - begin.ru_utime + end.ru_stime - begin.ru_stime
+    return seconds, end.ru_maxrss * 1024, sum(map(os.path.getsize, paths))
+
+
+def tell_long(checker, number, entries):
+    with tempfile.TemporaryDirectory() as folder:
+        seconds, peak, size = judge_long(checker, folder, number, entries)
+    print(
+        f"{number} replies over {entries} entries: {seconds:.2f} s, {seconds / number * 1e6:.2f} us a reply; "
+        f"{peak / 1e6:.0f} MB, {peak / number:.0f} bytes a reply, {peak / size:.1f} times the {size / 1e6:.1f} MB of the files"
+    )
 
 
 def main():
-    if len(sys.argv) not in (3, 4, 5):
+    if len(sys.argv) not in (3, 4, 5) or sys.argv[1] == "--long" and len(sys.argv) == 3:
         sys.exit(__doc__)
+    if sys.argv[1] == "--long":
+        number = int(sys.argv[3])
+        return tell_long(sys.argv[2], number, int(sys.argv[4]) if len(sys.argv) > 4 else max(1, min(number // 10, 100_000)))
     server, checker = sys.argv[1:3]
     random.seed(int(sys.argv[4]) if len(sys.argv) > 4 else 1)
     counts = collections.Counter()
@@ -218,7 +249,7 @@ def main():
         for what, count in counts.items():
             print(f"{what}: {count}")
         for number in (5_000, 10_000, 20_000):
-            print(f"{number} replies: {time_of(checker, folder, number):.2f} s")
+            print(f"{number} replies: {judge_long(checker, folder, number, number // 2)[0]:.2f} s")
 
 
 main()

@@ -7,33 +7,36 @@
  * Threads share a cache, and each calls it with a pass of its own. gb_cache_new makes the first pass, gb_pass_split one
  * more for another thread. A pass is the cache's as long as it is open: the cache ends with its last pass.
  *
- * No call here waits. One that needs the lock tries for it once, and answers GB_BUSY where another pass has it; nothing
+ * No call here waits. One that needs the lock tries for it once, and answers GB_BUSY if another pass has it; nothing
  * has happened then. The blocking forms at the end of this file (gb_look, gb_mkdir, ..) try again, and sleep meanwhile.
  *
  * A path is so many bytes, and needs no zero byte at its end. `base` is the number of the directory where a relative
  * path starts. Names have up to 255 bytes, paths up to 4,095, and as many links are followed as on Linux. No pointer may
- * be null, also where nothing is to be read or written behind it.
+ * be null, also if nothing is to be read or written behind it.
  *
- * What is proved. The library is proved as it is written, in Rattle. Each function is safe and ends, where its caller
+ * What is proved. The library is proved as it is written, in Rattle. Each function is safe and ends, if its caller
  * keeps the rules below, and it answers what the proved call of its name does: whatever the schedule of the threads,
  * each call that answers 0 or a refusal takes effect at one moment between its call and its return, and the answer is
  * what that operation gives on the tree of that moment. In the order of these moments all answers are those of a single
  * thread. That is proved of the library's calls, and of each look-up, read and change below that it makes the call of its
- * name, with these arguments, and tells its answer in these numbers.
- * docs/PROMISES.md of the library has it clause by clause.
+ * name, with these arguments, and tells its answer in these numbers. What else is proved of a function, or is not, its
+ * comment says. docs/PROMISES.md of the library has it clause by clause.
+ *
+ * Who may call. Any thread may call any function at any time, with an open pass that no other call has. The comments
+ * say what else is asked.
  *
  * What is not proved: this file, the compiler, the C library (malloc, free), and what a caller does wrong. The rules:
  *
  *   - A pass is in one call at a time. Two threads that use one pass at once are an error that may corrupt memory.
- *     Found at run time where it costs nothing: some such calls answer GB_BAD_PASS, others are not noticed.
+ *     Found at run time if that costs nothing: some such calls answer GB_BAD_PASS, others are not noticed.
  *   - A pass that moves to another thread does so by a lock, a thread's start or end, or a seq_cst atomic.
  *   - A pass is never copied by its bytes, and changed by these calls alone. Used after its end it is blank, which is
  *     found: GB_BAD_PASS. A copy made before is not blank, and using it is an error that is not noticed.
  *   - A pass knows its cache, so no call can be made with the pass of another cache. gb_pass_join takes two passes, and
- *     finds out where they are of two caches, unless passes of the second one are joined elsewhere at that moment; then
+ *     finds out if they are of two caches, unless passes of the second one are joined elsewhere at that moment; then
  *     it may end the pass all the same.
  *   - Pointers lead to as many bytes as is said, which nobody else writes during the call. No two of one call lead to the
- *     same bytes where either is written to: the passes of a call are two, and a path is not read from where the answer
+ *     same bytes if either is written to: the passes of a call are two, and a path is not read from where the answer
  *     goes. Not tested.
  */
 #ifndef GIGBEWU_H
@@ -51,7 +54,7 @@ struct gb_pass {
     void *at;
 };
 
-/* What a call answers: 0 where it is done; above 0 a refusal, by Linux's number (ENOENT, EEXIST, ..: 1, 2, 16, 17, 20,
+/* What a call answers: 0 if it is done; above 0 a refusal, by Linux's number (ENOENT, EEXIST, ..: 1, 2, 16, 17, 20,
  * 21, 22, 28, 31, 36, 39, 40); below 0 one of these, and then the tree is as it was. */
 enum {
     GB_BUSY = -1,         /* another pass had the lock at some moment of this call: try again */
@@ -59,7 +62,7 @@ enum {
     GB_NO_MEMORY = -3,    /* malloc refused what the call needed */
     GB_SPENT = -4,        /* 2^62 changes were made, and no more can be; look-ups go on */
     GB_BAD_SIZE = -5,     /* gb_cache_new: not those numbers of buckets or inodes */
-    GB_BAD_PASS = -6,     /* a blank pass where an open one is wanted, or the other way round, or of another cache */
+    GB_BAD_PASS = -6,     /* a blank pass instead of an open one, or the other way round, or of another cache */
     GB_BAD_ARGUMENT = -7, /* `follow` or `flags` is none of the numbers below */
     GB_NOT_YET = -8       /* gb_learn: so many changes have not been made */
 };
@@ -96,7 +99,7 @@ struct gb_found {
 };
 
 /* What a change took away, so that a caller can let go what it keeps by inode number: the number and kind of what stood
- * at the name, and 1 where that name was its last (numbers are never used again). All 0 where nothing went. It is read
+ * at the name, and 1 if that name was its last (numbers are never used again). All 0 if nothing went. It is read
  * under the same hold of the lock; what it says is tested, and not proved. */
 struct gb_gone {
     uint64_t number;
@@ -108,58 +111,67 @@ struct gb_gone {
  * is how many may live at once, the root among them, from 1 to 1,048,576. With twice as many rows as names that are
  * looked up 4 look-ups in 100 find no row, with four times as many 4 in 1,000. A row weighs 350 bytes, and 90 more once
  * it is filled.
- * Answers 0, GB_BAD_SIZE exactly where the sizes are others, GB_NO_MEMORY, GB_BAD_PASS where the pass is open. */
+ * It takes a pass that is blank. That no other thread has its address yet is the caller's to see to.
+ * Proved: it is safe and ends. What it answers, and that the pass is open then, is tested.
+ * Answers 0, GB_BAD_SIZE exactly if the sizes are others, GB_NO_MEMORY, GB_BAD_PASS if the pass is open. */
 int gb_cache_new(uint64_t buckets, uint64_t inodes, struct gb_pass *blank);
 
 /* Opens one more pass of the cache of `pass`, for any thread. It has seen what `pass` has seen, and no answer that it
- * gets is older. Takes no lock.
+ * gets is older. Takes no lock. The thread that has `pass` makes the call, and hands the new one over.
+ * Proved: it is safe and ends. What it answers is tested.
  * Answers 0, GB_NO_MEMORY, GB_BAD_PASS. */
 int gb_pass_split(struct gb_pass *pass, struct gb_pass *blank);
 
-/* Ends `other`, which is blank then; `pass` has seen what either has seen. They are two passes of one cache.
+/* Ends `other`, which is blank then; `pass` has seen what either has seen. They are two passes of one cache, and the
+ * thread that calls has both.
+ * Proved: it is safe and ends. What it answers is tested.
  * Answers 0, GB_BAD_PASS. */
 int gb_pass_join(struct gb_pass *pass, struct gb_pass *other);
 
 /* Ends a pass, which is blank then, and with the last pass of a cache its tree and all its memory. The caller sees to
  * it that what the threads did comes before, as by pthread_join.
+ * Proved: an open pass is blank then. That all memory is given back is tested.
  * Answers 0, GB_BAD_PASS. */
 int gb_close(struct gb_pass *pass);
 
 /* Looks a path up by the rows alone. It takes no lock and no memory, never waits, and makes a bounded number of loads,
- * all of which is proved. Any thread may call it with its pass, at any time. Where it answers GB_AGAIN, `why` says why,
- * and gb_try_look answers.
+ * all of which is proved, as is the reason that `why` gives if it answers GB_AGAIN. gb_try_look answers then.
  * Answers 0 with number and kind, a refusal, GB_AGAIN, GB_BAD_PASS, GB_BAD_ARGUMENT. */
 int gb_look_fast(struct gb_pass *pass, uint64_t base, const char *path, size_t len, uint32_t follow,
                  struct gb_found *found);
 
-/* Looks a path up by the rows, or where they don't answer under the lock, and then fills rows for the next look-up as
+/* Looks a path up by the rows, or if they don't answer under the lock, and then fills rows for the next look-up as
  * far as there is memory. Want of memory is no answer of it.
- * Proved: the answer is that of one moment between the call and the return.
+ * Proved: the answer is that of one moment between the call and the return. That rows are filled is tested.
  * Answers 0 with number and kind, a refusal, GB_BUSY, GB_BAD_PASS, GB_BAD_ARGUMENT. */
 int gb_try_look(struct gb_pass *pass, uint64_t base, const char *path, size_t len, uint32_t follow,
                 struct gb_found *found);
 
 /* Number and kind of what a path leads to, a last link followed, and in `count` how many names it has, or of a
  * directory how many entries. Takes the lock, and no memory.
+ * Proved: all three are those of one moment between the call and the return.
  * Answers 0, a refusal, GB_BUSY, GB_BAD_PASS. */
 int gb_try_stat(struct gb_pass *pass, uint64_t base, const char *path, size_t len, struct gb_found *found);
 
-/* The text of a symbolic link. Writes the first `room` bytes of it, or all where it has fewer, and no zero byte;
+/* The text of a symbolic link. Writes the first `room` bytes of it, or all if it has fewer, and no zero byte;
  * `count` is how many bytes the text has, at most 4,095. Takes the lock.
+ * Proved: the text is that of one moment between the call and the return, and so are the bytes that are written.
  * Answers 0, a refusal (EINVAL of what is no link), GB_BUSY, GB_NO_MEMORY, GB_BAD_PASS. */
 int gb_try_readlink(struct gb_pass *pass, uint64_t base, const char *path, size_t len, char *text, size_t room,
                     struct gb_found *found);
 
 /* The names in a directory, in no order that is promised, without dot and dot-dot. Writes each with a zero byte behind
- * it, whole names as far as they fit into `room`; `count` is how many bytes all of them take. Where that is more than
+ * it, whole names as far as they fit into `room`; `count` is how many bytes all of them take. If that is more than
  * `room`, ask again with more. Takes the lock.
+ * Proved: the names were read at one moment between the call and the return, and take `count` bytes. How they are
+ * written to `names` is tested.
  * Answers 0, a refusal (ENOTDIR), GB_BUSY, GB_NO_MEMORY, GB_BAD_PASS. */
 int gb_try_list(struct gb_pass *pass, uint64_t base, const char *path, size_t len, char *names, size_t room,
                 struct gb_found *found);
 
 /* The seven changes. Each takes the lock, and the memory of what it makes or moves. A last link is never followed.
  * Proved of each: it takes effect at one moment between the call and the return, whole or not at all, and every look-up
- * of any thread is on one side of that moment.
+ * of any thread is on one side of that moment. After want of memory the tree is as it was. What `gone` says is tested.
  * They answer 0, a refusal, GB_BUSY, GB_NO_MEMORY, GB_SPENT, GB_BAD_PASS. */
 
 /* Makes an empty directory, whose number is found. */
@@ -186,18 +198,20 @@ int gb_try_rmdir(struct gb_pass *pass, uint64_t base, const char *path, size_t l
                  struct gb_gone *gone);
 
 /* Gives what the old path names the new path for its name. `gone` tells what stood there and was replaced; it is all 0
- * where nothing stood, with GB_EXCHANGE, and where both paths name one file, which changes nothing.
+ * if nothing stood, with GB_EXCHANGE, and if both paths name one file, which changes nothing.
  * Answers GB_BAD_ARGUMENT too. */
 int gb_try_rename(struct gb_pass *pass, uint64_t base, const char *old_path, size_t old_len, const char *path,
                   size_t len, uint32_t flags, struct gb_found *found, struct gb_gone *gone);
 
 /* Learns how many changes were made, which it writes to `clock`: no later answer of this pass is older. So a thread
- * that was told of the change at `at` sees it, where it learns `at + 1`. Takes no lock and never waits.
- * Answers 0, GB_NOT_YET where fewer than `at` were made, GB_BAD_PASS. */
+ * that was told of the change at `at` sees it, if it learns `at + 1`. Takes no lock and never waits.
+ * Proved: the pass has then seen so many changes, and the answer is exact.
+ * Answers 0, GB_NOT_YET if fewer than `at` were made, GB_BAD_PASS. */
 int gb_learn(struct gb_pass *pass, uint64_t at, uint64_t *clock);
 
 /* Empties up to `most` rows that were least used, and writes to `emptied` how many. No answer depends on it. Takes the
  * lock, and no memory.
+ * Proved: `emptied` is at most `most`, and no answer is recorded.
  * Answers 0, GB_BUSY, GB_BAD_PASS. */
 int gb_try_shrink(struct gb_pass *pass, uint64_t most, uint64_t *emptied);
 
@@ -325,7 +339,7 @@ static inline void gb_gate_wake(struct gb_gate *gate)
 }
 #endif
 
-/* A gate whose threads sleep by a futex, or where there is none by a condition variable. */
+/* A gate whose threads sleep by a futex, or if there is none by a condition variable. */
 static inline struct gb_gate gb_gate_new(void)
 {
     struct gb_gate gate = {0, 0, gb_gate_wait, gb_gate_wake};
