@@ -5,7 +5,8 @@ use Rattle.dc_hold.specs.declared.hold.Hold.{Hold}
 use Rattle.dc_hold.specs.declared.status.Status.TheVariants as statuses
 use Rattle.dc_hold.specs.declared.told.Found.{Found}
 use Rattle.dc_hold.specs.declared.told.Told.{Told}
-use Rattle.dc_c.specs.Answering.{Answers, Calls, OnHold, Refuses, Shows}
+use Rattle.dc_c.specs.Answering.{Answers, Calls, Refuses, Shows}
+use Rattle.dc_c.specs.Holding.{OnHold}
 use Rattle.dc_c.specs.declared.handle.Handle.{Handle}
 
 -- the hold of the handle was called, and put back
@@ -19,6 +20,15 @@ called {A = A} {O = O} Allows Tells old new number before written hold at back a
 pub tried : {A : Type 0} (P : A → Type 0) (Q : Type 0) (o : Option A) → IfSome o P → IfNone o Q → MatchOption o Q P
 tried P Q None some none = none
 tried P Q (Some x) some none = some
+
+-- what holds whether or not it is answered holds of the answer besides
+pub besides : {A : Type 0} (P : A → Type 0) (N : Type 0) (o : Option A) → N → IfSome o P → IfSome o (λ x. N × P x)
+besides P N None always some = some
+besides P N (Some x) always some = (always, some)
+
+-- the number that is answered is the one that was told
+pub as_told : (T : ℤ → Type 0) {n m : ℤ} → m ≡ n → T n → T m
+as_told T e told = subst T (sym e) told
 
 -- a number that C gave has this meaning
 pub meant : {A : Type 0} (o : Option A) (x : A) (B : Type 0) (F : A → Type 0) → Some x ≡ o → F x → MatchOption o B F

@@ -7,6 +7,7 @@ use Rattle.dc_hold.specs.declared.status.Status.{Status}
 use Rattle.dc_hold.specs.declared.status.Status.TheVariants as statuses
 use Rattle.dc_hold.specs.declared.told.Found.{Found}
 use Rattle.dc_hold.specs.declared.told.Told.{Told}
+use Rattle.dc_c.specs.Holding.{OnHold}
 use Rattle.dc_c.specs.declared.handle.Handle.{Handle}
 
 -- the number that is answered, and what is written of what was found
@@ -27,10 +28,6 @@ pub record Calls (A O : Type 0) (May : Pass → Pass → A → Type 0) (Tells : 
   pub answer : A
   pub allowed : May hold.pass called.pass answer
   pub told : Tells answer number written
-
-abbrev pub OnHold : List Hold → Type 0 → (Hold → Type 0) → Type 0
-OnHold [] blank of_hold = blank
-OnHold (hold ∷ _) blank of_hold = of_hold hold
 
 -- a blank handle is refused, and the hold of an open one is called
 abbrev pub Answers : (A O : Type 0) → (Pass → Pass → A → Type 0) → (A → ℤ → O → Type 0) → Handle → Handle → ℤ → O → O → Type 0

@@ -1,4 +1,5 @@
 -- What a handle owns, and what the functions for C do.
 pub mod Owned
+pub mod Holding
 pub mod Answering
 pub mod Shapes

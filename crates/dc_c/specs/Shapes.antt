@@ -1,14 +1,19 @@
 -- The calls that the functions for C make, by what each call may come to and how that is told.
-use Rattle.std.specs.Prelude.{◌≡◌, ℕ, ℤ, length, List, Option, option_map, option_and_then, MatchOption, Bool, if◌then◌else◌, []}
+use Rattle.std.specs.Prelude.{◌≡◌, ◌⊎◌, ℕ, ℤ, length, List, Option, option_map, option_and_then, MatchOption, Bool, []}
 use Rattle.dc_cache.specs.Calls.{Request, Stamped}
-use Rattle.dc_hold.specs.Allowed.{Fast, Change, Taken, Read, MayFind, MayLook, MayCount, MayMake, MayTake, MayRead, MayLearn, MayShrink, read_over, bytes_told}
-use Rattle.dc_hold.specs.Numbers.{status_number}
+use Rattle.dc_cache.specs.Passes.{view}
+use Rattle.dc_cache.specs.declared.cache.Pass.{Pass}
+use Rattle.dc_hold.specs.Allowed.{Fast, Change, Taken, Read, MayFind, MayLook, MayCount, MayMake, MayTake, MayRead, MayLearn, MayShrink, IsFirst, IsSplit, read_over, bytes_told}
+use Rattle.dc_hold.specs.Numbers.{status_number, status_of_learn, status_of_sizes}
+use Rattle.dc_hold.specs.declared.hold.Hold.{Hold}
+use Rattle.dc_hold.specs.declared.status.Status.{Status}
 use Rattle.dc_hold.specs.Tells.{tells_change, tells_fast, tells_lost, tells_read, tells_tried}
 use Rattle.dc_hold.specs.declared.status.Status.TheVariants as statuses
 use Rattle.dc_hold.specs.declared.told.Found.{Found}
 use Rattle.dc_hold.specs.declared.told.Lost.{Lost}
 use Rattle.dc_hold.specs.declared.told.Told.{Told}
-use Rattle.dc_c.specs.Answering.{Shows, Answers, OnHold}
+use Rattle.dc_c.specs.Answering.{Shows, Answers, Refuses}
+use Rattle.dc_c.specs.Holding.{OnHold}
 use Rattle.dc_c.specs.declared.handle.Handle.{Handle}
 
 abbrev pub LooksFast : Request → Handle → Handle → ℤ → Found → Found → Type 0
@@ -55,7 +60,7 @@ Lists call old new number before = Answers Read (Found × List ℕ) (MayRead cal
 
 -- the clock is written
 pub record ShowsClock (learnt : Bool × ℕ) (number : ℤ) (written : ℕ) : Type 0 where
-  pub status : number ≡ status_number (if learnt.0 then statuses.Done else statuses.NotYet)
+  pub status : number ≡ status_number (status_of_learn learnt.0)
   pub clock : written ≡ learnt.1
 
 abbrev pub Learns : ℕ → Handle → Handle → ℤ → ℕ → ℕ → Type 0
@@ -71,3 +76,35 @@ Shrinks most old new number before = Answers (Option ℕ) ℕ (MayShrink most) (
 -- a pass that was open is blank then
 abbrev pub Closes : Handle → Handle → ℤ → Type 0
 Closes old new number = (new.holds ≡ []) × OnHold old.holds (number ≡ status_number statuses.BadPass) (λ hold. number ≡ status_number statuses.Done)
+
+-- a handle that was blank has such a hold, or is blank still, and it is told why
+abbrev pub Opens : (Hold → Type 0) → Status → List Hold → ℤ → Type 0
+Opens Is why holds number = OnHold holds (number ≡ status_number why) (λ hold. Is hold × (number ≡ status_number statuses.Done))
+
+-- a blank handle gets the first hold of a new cache, and an open one is refused
+abbrev pub Begins : ℕ → ℕ → Handle → Handle → ℤ → Type 0
+Begins buckets inodes old new number = OnHold old.holds (Opens (λ hold. IsFirst buckets inodes hold.pass) (status_of_sizes buckets inodes) new.holds number)
+    (λ _. (new.holds ≡ old.holds) × (number ≡ status_number statuses.BadPass))
+
+-- another hold was cut off, or the pass has done and seen what it had
+abbrev pub MaySplit : Pass → Pass → List Hold → Type 0
+MaySplit p q holds = OnHold holds (view q ≡ view p) (λ other. IsSplit p q other.pass)
+
+abbrev pub ShowsSplit : List Hold → ℤ → List Hold → Type 0
+ShowsSplit holds number written = (written ≡ holds) × OnHold holds (number ≡ status_number statuses.NoMemory) (λ _. number ≡ status_number statuses.Done)
+
+-- a blank handle gets the hold that is cut off; before that an open one is refused
+abbrev pub Splits : Handle → Handle → ℤ → List Hold → List Hold → Type 0
+Splits old new number before written = OnHold before (Answers (List Hold) (List Hold) MaySplit ShowsSplit old new number before written)
+    (λ _. Refuses (List Hold) statuses.BadPass old new number before written)
+
+-- a second handle is blank, since its hold ended before the first one's learns how many changes were made
+abbrev pub ShowsEnd : Bool × ℕ → ℤ → List Hold → Type 0
+ShowsEnd learnt number written = (number ≡ status_number statuses.Done) × (written ≡ [])
+
+abbrev pub Ends : Handle → Handle → ℤ → List Hold → List Hold → Type 0
+Ends old new number before written = OnHold before ⊥ (λ _. Answers (Bool × ℕ) (List Hold) (MayLearn 0) ShowsEnd old new number before written)
+
+-- of two open handles the second is ended; or both stay as they were, as they do where one of them is blank
+abbrev pub Joins : Handle → Handle → ℤ → List Hold → List Hold → Type 0
+Joins old new number before written = Refuses (List Hold) statuses.BadPass old new number before written ⊎ Ends old new number before written

@@ -1,6 +1,7 @@
 //! The handle that a program in C keeps of its pass.
 
-ghost use Rattle.std.specs.Prelude.{◌≡◌, List, [], ◌∷◌, IsFalse, MatchOption};
+ghost use Rattle.std.specs.Prelude.{◌≡◌, List, [], ◌∷◌, IsFalse, IsTrue, MatchOption};
+ghost use Rattle.dc_c.specs.Holding.{IsOpen};
 ghost use Rattle.dc_c.specs.Owned.{handle_owns, holds_coded};
 ghost use Rattle.dc_hold.specs.declared.hold.Hold.{Hold};
 
@@ -85,6 +86,7 @@ impl Handle {
     pub(crate) fn is_open(&mut self, alloc: Global) -> bool
         ensures same { self.new.holds ≡ self.old.holds }
         ensures blank { IsFalse result → self.new.holds ≡ [] }
+        ensures held { IsTrue result → IsOpen self.old.holds }
     {
         match self.take(alloc) {
             Some(hold) => {

@@ -1,62 +1,92 @@
 //! How a cache and its passes begin and end, and what a pass learns and empties.
 
-ghost use Rattle.std.specs.Prelude.{◌≡◌, []};
-ghost use Rattle.dc_c.specs.Shapes.{Closes, Learns, Shrinks};
+ghost use Rattle.std.specs.Prelude.{◌≡◌, ◌∷◌, [], IfOk, IfErr};
+ghost use Rattle.dc_cache.specs.Passes.{view};
+ghost use Rattle.dc_c.specs.Shapes.{Begins, Closes, Joins, Learns, Shrinks, ShowsClock, ShowsMany, Splits};
+ghost use Rattle.dc_hold.specs.Allowed.{IsFirst, IsSplit};
+ghost use Rattle.dc_hold.specs.Numbers.{status_number, status_of_sizes};
+ghost use Rattle.dc_hold.specs.declared.status.Status.TheVariants.{Done, NoMemory};
 
 use crate::handle::Handle;
 use dc_hold::{Hold, Status};
 use std::alloc::Global;
 
-/// Makes a cache with its first pass. `BadSize` where a cache may not have these sizes.
-#[unsafe(no_mangle)]
-pub extern "C" fn gb_cache_new(
-    alloc: Global,
-    buckets: u64,
-    inodes: u64,
-    blank: &mut Handle,
-) -> i32 {
-    if blank.is_open(alloc) {
-        return Status::BadPass.number();
-    }
-    match Hold::new(alloc, buckets, inodes) {
-        Ok(hold) => opened(alloc, blank, hold).number(),
-        Err(fault) => Status::of_make(fault).number(),
+/// A cache with its first hold, in a box.
+fn begun(alloc: Global, buckets: u64, inodes: u64) -> Result<Box<Hold, Global>, Status>
+    ensures first { IfOk result (λ hold. IsFirst buckets inodes hold.value.pass) }
+    ensures fault { IfErr result (λ status. status ≡ status_of_sizes buckets inodes) }
+{
+    let hold = Hold::new(alloc, buckets, inodes)?;
+    match Box::new(alloc, hold) {
+        Ok(hold) => Ok(hold),
+        Err(_) => Err(Status::NoMemory),
     }
 }
 
-/// Puts a new hold into a blank handle, if there is memory for it.
-fn opened(alloc: Global, blank: &mut Handle, hold: Hold) -> Status
-    requires { blank.old.holds ≡ [] }
+/// Another hold of the same cache, in a box.
+fn cut_off(alloc: Global, hold: &mut Hold) -> Result<Box<Hold, Global>, Status>
+    ensures split { IfOk result (λ other. IsSplit hold.old.pass hold.new.pass other.value.pass) }
+    ensures fault { IfErr result (λ status. status ≡ NoMemory) }
+    ensures same { IfErr result (λ _. view hold.new.pass ≡ view hold.old.pass) }
 {
-    match Box::new(alloc, hold) {
+    let Ok(other) = hold.split() else {
+        return Err(Status::NoMemory);
+    };
+    match Box::new(alloc, other) {
+        Ok(other) => Ok(other),
+        Err(_) => Err(Status::NoMemory),
+    }
+}
+
+/// Puts a hold into a blank handle, if there is one, and answers how the call ended.
+fn opened(blank: &mut Handle, made: Result<Box<Hold, Global>, Status>) -> i32
+    requires { blank.old.holds ≡ [] }
+    ensures done { IfOk made (λ hold.
+        (blank.new.holds ≡ hold.value ∷ []) × (result ≡ status_number Done)) }
+    ensures fault { IfErr made (λ status.
+        (blank.new.holds ≡ []) × (result ≡ status_number status)) }
+{
+    match made {
         Ok(hold) => {
             blank.put(hold);
-            Status::Done
+            Status::Done.number()
         }
-        Err(_) => Status::NoMemory,
+        Err(status) => status.number(),
     }
+}
+
+/// Makes a cache with its first pass. `BadSize` where a cache may not have these sizes.
+#[unsafe(no_mangle)]
+pub extern "C" fn gb_cache_new(alloc: Global, buckets: u64, inodes: u64, blank: &mut Handle) -> i32
+    ensures begins { Begins buckets inodes blank.old blank.new result }
+{
+    if blank.is_open(alloc) {
+        return Status::BadPass.number();
+    }
+    opened(blank, begun(alloc, buckets, inodes))
 }
 
 /// Another pass of the same cache, for another thread.
 #[unsafe(no_mangle)]
-pub extern "C" fn gb_pass_split(alloc: Global, pass: &mut Handle, blank: &mut Handle) -> i32 {
+pub extern "C" fn gb_pass_split(alloc: Global, pass: &mut Handle, blank: &mut Handle) -> i32
+    ensures splits { Splits pass.old pass.new result blank.old.holds blank.new.holds }
+{
     if blank.is_open(alloc) {
         return Status::BadPass.number();
     }
     let Some(mut hold) = pass.take(alloc) else {
         return Status::BadPass.number();
     };
-    let split = hold.split();
+    let split = cut_off(alloc, &mut hold);
     pass.put(hold);
-    match split {
-        Ok(split) => opened(alloc, blank, split).number(),
-        Err(_) => Status::NoMemory.number(),
-    }
+    opened(blank, split)
 }
 
 /// Ends another pass of the same cache, of which this one then has seen what it saw.
 #[unsafe(no_mangle)]
-pub extern "C" fn gb_pass_join(alloc: Global, pass: &mut Handle, other: &mut Handle) -> i32 {
+pub extern "C" fn gb_pass_join(alloc: Global, pass: &mut Handle, other: &mut Handle) -> i32
+    ensures joins { Joins pass.old pass.new result other.old.holds other.new.holds }
+{
     let Some(mut hold) = pass.take(alloc) else {
         return Status::BadPass.number();
     };
@@ -90,6 +120,15 @@ pub extern "C" fn gb_close(alloc: Global, pass: &mut Handle) -> i32
     }
 }
 
+/// Writes the clock that was loaded, and answers how the call ended.
+fn tell_clock(clock: &mut u64, learnt: (bool, u64)) -> i32
+    ensures { ShowsClock learnt result clock.new }
+{
+    let (has_come, seen) = learnt;
+    *clock = seen;
+    Status::of_learn(has_come).number()
+}
+
 /// Sees how many changes were made, and whether these are so many at least.
 #[unsafe(no_mangle)]
 pub extern "C" fn gb_learn(alloc: Global, pass: &mut Handle, at: u64, clock: &mut u64) -> i32
@@ -98,13 +137,21 @@ pub extern "C" fn gb_learn(alloc: Global, pass: &mut Handle, at: u64, clock: &mu
     let Some(mut hold) = pass.take(alloc) else {
         return Status::BadPass.number();
     };
-    let (has_come, seen) = hold.learn(at);
+    let learnt = hold.learn(at);
     pass.put(hold);
-    *clock = seen;
-    if has_come {
-        Status::Done.number()
-    } else {
-        Status::NotYet.number()
+    tell_clock(clock, learnt)
+}
+
+/// Writes how many rows were emptied, if any might be, and answers how the call ended.
+fn tell_many(emptied: &mut u64, tried: Option<u64>) -> i32
+    ensures { ShowsMany emptied.old tried result emptied.new }
+{
+    match tried {
+        Some(many) => {
+            *emptied = many;
+            Status::Done.number()
+        }
+        None => Status::Busy.number(),
     }
 }
 
@@ -123,11 +170,5 @@ pub extern "C" fn gb_try_shrink(
     };
     let tried = hold.try_shrink(most);
     pass.put(hold);
-    match tried {
-        Some(many) => {
-            *emptied = many;
-            Status::Done.number()
-        }
-        None => Status::Busy.number(),
-    }
+    tell_many(emptied, tried)
 }

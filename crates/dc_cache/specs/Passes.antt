@@ -4,6 +4,7 @@ use Rattle.dc_events.specs.Views.{View}
 use Rattle.dc_table.specs.Passes as seats
 use Rattle.dc_ops.specs.Asked as asked
 use Rattle.dc_plain.specs.declared.call.Call.{Call}
+use Rattle.dc_rows.specs.Outcomes as outcomes
 use Rattle.dc_table.specs.Shares as shares
 use Rattle.dc_table.specs.Shares.{Known, Share, tried}
 use Rattle.dc_walk.specs.Findings as walks
@@ -36,9 +37,17 @@ FitsSleepless cache p = walks.CanWalk cache.shared p.seat
 abbrev pub FitsTable : Shared → Pass → Type 0
 FitsTable shared p = walks.CanWalk shared p.seat
 
+-- two passes are of one cache
+abbrev pub SameCache : Pass → Pass → Type 0
+SameCache p q = q.seat.table_id ≡ p.seat.table_id
+
 -- another pass has the lock: this one has tried for it once, and has done and seen nothing
 abbrev pub Missed : Pass → Pass → Type 0
 Missed p q = known q ≡ tried (known p)
+
+-- so many rows were emptied: as many as were asked for, or all that were listed when the pass got the lock; the last of them, and no other
+abbrev pub Shrinks : ℕ → ℕ → Pass → Type 0
+Shrinks most emptied q = outcomes.Shrinks most emptied q.seat
 
 -- a share that is the whole, as that of the first pass
 abbrev pub IsWhole : Share → Type 0

@@ -2,7 +2,7 @@
 
 ghost use Rattle.std.specs.Prelude.{◌≡◌, ◌≤◌, IfOk, IfErr};
 ghost use Rattle.dc_cache.specs.Answers.{Answered};
-ghost use Rattle.dc_cache.specs.Passes.{view, share, Fits};
+ghost use Rattle.dc_cache.specs.Passes.{view, share, Fits, Shrinks};
 ghost use Rattle.dc_events.specs.Rows.{most};
 ghost use Rattle.dc_ops.specs.Asked.{IsChange};
 ghost use Rattle.dc_plain.specs.Requests.{request_of};
@@ -44,7 +44,7 @@ impl Dcache {
         requires pass { Fits self.now pass.old }
         ensures same { Fits self.now pass.new × (share pass.new ≡ share pass.old) }
         ensures nothing { NothingNew (view pass.old) (view pass.new) }
-        ensures few { result ≤ most }
+        ensures rows { Shrinks most result pass.new }
     {
         shrink(&self.shared, rt, &mut pass.seat, most)
     }

@@ -5,6 +5,7 @@ ghost use Rattle.dc_cache.specs.Answers.{Loaded};
 ghost use Rattle.dc_cache.specs.Passes.{known, view, share, Fits};
 ghost use Rattle.dc_names.specs.Sizes.{are_right};
 ghost use Rattle.dc_names.specs.Tables.{fit_a_table};
+ghost use Rattle.dc_names.specs.declared.limits.TheConstants.{BUCKET_ROWS};
 ghost use Rattle.dc_names.specs.declared.sizes.MakeFault.TheVariants.{BadSize};
 ghost use Rattle.dc_table.specs.Changes.{NothingNew};
 ghost use Rattle.dc_table.specs.Ends.{Ends};
@@ -21,7 +22,7 @@ impl Dcache {
     /// limit of live inodes, the root among them, isn't from 1 to 1,048,576.
     pub fn new(alloc: Global, buckets: u64, max_inodes: u64) -> Result<(Dcache, Pass), MakeFault>
         ensures made { IfOk result (λ r. Fits r.0 r.1
-            × (known r.1 ≡ first_known max_inodes (4 * buckets))) }
+            × (known r.1 ≡ first_known max_inodes (BUCKET_ROWS * buckets))) }
         ensures size { (result ≡ Err BadSize) ↔ (are_right buckets max_inodes ≡ false) }
     {
         let (shared, seat) = Shared::new(alloc, buckets, max_inodes)?;
@@ -39,7 +40,7 @@ impl Dcache {
         max_inodes: u64,
     ) -> Result<(Dcache, Pass), MakeFault>
         ensures made { IfOk result (λ r. Fits r.0 r.1
-            × (known r.1 ≡ first_known max_inodes (4 * buckets))) }
+            × (known r.1 ≡ first_known max_inodes (BUCKET_ROWS * buckets))) }
         ensures size { (result ≡ Err BadSize) ↔ (fit_a_table buckets max_inodes ≡ false) }
     {
         let (shared, seat) = Shared::with_buckets(alloc, buckets, max_inodes)?;

@@ -2,9 +2,10 @@
 
 ghost use Rattle.std.specs.Prelude.{◌≡◌, ◌*◌, ◌+◌, ◌≤◌, ◌↔◌, [], true, false, Err, None, IsOk, IfOk, IfErr, IfSome, IfNone, IsSome};
 ghost use Rattle.dc_cache.specs.Answers.{Answered, IfFast, Loaded, Made, Told};
-ghost use Rattle.dc_cache.specs.Passes.{buckets_of, known, view, share, FitsSleepless, Missed};
+ghost use Rattle.dc_cache.specs.Passes.{buckets_of, known, view, share, FitsSleepless, Missed, Shrinks};
 ghost use Rattle.dc_events.specs.Rows.{most};
 ghost use Rattle.dc_names.specs.Tables.{fit_a_table};
+ghost use Rattle.dc_names.specs.declared.limits.TheConstants.{BUCKET_ROWS};
 ghost use Rattle.dc_names.specs.declared.sizes.MakeFault.TheVariants.{BadSize};
 ghost use Rattle.dc_ops.specs.Asked.{IsChange};
 ghost use Rattle.dc_plain.specs.Facts.{told_by};
@@ -33,7 +34,7 @@ impl Sleepless {
     /// limit of live inodes, the root among them, isn't from 1 to 1,048,576.
     pub fn new(alloc: Global, buckets: u64, max_inodes: u64) -> Result<(Sleepless, Pass), MakeFault>
         ensures made { IfOk result (λ r. FitsSleepless r.0 r.1
-            × (known r.1 ≡ first_known max_inodes (4 * buckets))) }
+            × (known r.1 ≡ first_known max_inodes (BUCKET_ROWS * buckets))) }
         ensures size { (result ≡ Err BadSize) ↔ (fit_a_table buckets max_inodes ≡ false) }
     {
         let (shared, seat) = Shared::with_buckets(alloc, buckets, max_inodes)?;
@@ -218,7 +219,7 @@ impl Sleepless {
         requires pass { FitsSleepless self.now pass.old }
         ensures same { FitsSleepless self.now pass.new × (share pass.new ≡ share pass.old) }
         ensures nothing { NothingNew (view pass.old) (view pass.new) }
-        ensures few { IfSome result (λ emptied. emptied ≤ most) }
+        ensures rows { IfSome result (λ emptied. Shrinks most emptied pass.new) }
         ensures held { IfNone result (Missed pass.old pass.new) }
     {
         tries::try_shrink(&self.shared, pass, most)

@@ -3,7 +3,7 @@
 
 ghost use Rattle.std.specs.Prelude.{◌≡◌, ◌≤◌, Some, IfSome, IfNone};
 ghost use Rattle.dc_cache.specs.Answers.{Answered, Made, Told};
-ghost use Rattle.dc_cache.specs.Passes.{view, share, FitsTable, Missed};
+ghost use Rattle.dc_cache.specs.Passes.{view, share, FitsTable, Missed, Shrinks};
 ghost use Rattle.dc_events.specs.Rows.{most};
 ghost use Rattle.dc_names.specs.Paths.{fault_of};
 ghost use Rattle.dc_ops.specs.Asked.{IsChange, IsSought, IsToldAtLength};
@@ -138,7 +138,7 @@ pub(crate) fn try_shrink(shared: &Shared, pass: &mut Pass, most: u64) -> Option<
     requires pass { FitsTable shared.now pass.old }
     ensures same { FitsTable shared.now pass.new × (share pass.new ≡ share pass.old) }
     ensures nothing { NothingNew (view pass.old) (view pass.new) }
-    ensures few { IfSome result (λ emptied. emptied ≤ most) }
+    ensures rows { IfSome result (λ emptied. Shrinks most emptied pass.new) }
     ensures held { IfNone result (Missed pass.old pass.new) }
 {
     match Guard::try_lock(shared, &mut pass.seat) {

@@ -2,7 +2,7 @@
 
 ghost use Rattle.std.specs.Prelude.{◌≡◌, ◌≤◌, IfSome, IfNone};
 ghost use Rattle.dc_cache.specs.Answers.{Answered, Made, Told};
-ghost use Rattle.dc_cache.specs.Passes.{view, share, Fits, Missed};
+ghost use Rattle.dc_cache.specs.Passes.{view, share, Fits, Missed, Shrinks};
 ghost use Rattle.dc_events.specs.Rows.{most};
 ghost use Rattle.dc_ops.specs.Asked.{IsChange};
 ghost use Rattle.dc_plain.specs.Requests.{request_of};
@@ -82,7 +82,7 @@ impl Dcache {
         requires pass { Fits self.now pass.old }
         ensures same { Fits self.now pass.new × (share pass.new ≡ share pass.old) }
         ensures nothing { NothingNew (view pass.old) (view pass.new) }
-        ensures few { IfSome result (λ emptied. emptied ≤ most) }
+        ensures rows { IfSome result (λ emptied. Shrinks most emptied pass.new) }
         ensures held { IfNone result (Missed pass.old pass.new) }
     {
         self.woken(tries::try_shrink(&self.shared, pass, most))

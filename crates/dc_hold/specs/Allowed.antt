@@ -1,17 +1,31 @@
 -- What each call of a hold may come to, from its pass before to its pass after.
-use Rattle.std.specs.Prelude.{◌≡◌, ◌↔◌, ℕ, ◌-◌, ◌^◌, ◌≤◌, ◌++◌, min, length, take, drop, Bool, true, List, Option, Some, None, Result, Ok, Err, MatchOption}
+use Rattle.std.specs.Prelude.{◌≡◌, ◌↔◌, ℕ, ◌-◌, ◌*◌, ◌^◌, ◌≤◌, ◌++◌, min, length, take, drop, Bool, true, List, Option, Some, None, Result, Ok, Err, MatchOption}
+use Rattle.dc_names.specs.Tables.{fit_a_table}
 use Rattle.dc_names.specs.declared.NoMemory.{NoMemory}
+use Rattle.dc_names.specs.declared.limits.TheConstants.{BUCKET_ROWS}
 use Rattle.dc_plain.specs.declared.call.Reply.{Reply}
 use Rattle.dc_plain.specs.declared.call.Reply.TheVariants as replies
 use Rattle.dc_table.specs.Changes.{NothingNew}
+use Rattle.dc_table.specs.Shares.{first_known, kept_half, new_half}
 use Rattle.dc_rows.specs.declared.fault.ChangeFault.{ChangeFault}
 use Rattle.dc_walk.specs.declared.answer.Fast as walk
 use Rattle.dc_cache.specs.Answers.{Answered, IfFast, Loaded, Made, Told}
 use Rattle.dc_cache.specs.Calls.{Request, Stamped}
-use Rattle.dc_cache.specs.Passes.{view, Missed}
+use Rattle.dc_cache.specs.Passes.{known, view, Missed, SameCache, Shrinks}
 use Rattle.dc_cache.specs.declared.cache.Pass.{Pass}
 use Rattle.dc_cache.specs.declared.gone.Gone as cache
 use Rattle.dc_hold.specs.Numbers.{bytes_of}
+
+-- the first pass of a new cache has the whole of it, and has done and seen nothing
+pub record IsFirst (buckets inodes : ℕ) (p : Pass) : Type 0 where
+  pub sizes : fit_a_table buckets inodes ≡ true
+  pub whole : known p ≡ first_known inodes (BUCKET_ROWS * buckets)
+
+-- a pass was cut in two of one cache, and the other one has seen what it had
+pub record IsSplit (p q other : Pass) : Type 0 where
+  pub cache : SameCache q other
+  pub kept : known q ≡ kept_half (known p)
+  pub cut : known other ≡ new_half (known p)
 
 -- a look-up by the rows alone
 abbrev pub Fast : Type 0
@@ -73,6 +87,6 @@ pub record MayLearn (at : ℕ) (p q : Pass) (learnt : Bool × ℕ) : Type 0 wher
   pub clock : learnt.1 ≡ min (2 ^ 64 - 1) (view q).book.seen
   pub come : (learnt.0 ≡ true) ↔ (at ≤ learnt.1)
 
--- nothing is recorded as up to so many rows are emptied
+-- nothing is recorded as rows are emptied, and these are so many
 abbrev pub MayShrink : ℕ → Pass → Pass → Option ℕ → Type 0
-MayShrink most p q tried = MatchOption tried (Missed p q) (λ many. NothingNew (view p) (view q) × (many ≤ most))
+MayShrink most p q tried = MatchOption tried (Missed p q) (λ many. NothingNew (view p) (view q) × Shrinks most many q)

@@ -1,8 +1,11 @@
 -- The numbers that a program in C gives and gets.
-use Rattle.std.specs.Prelude.{ℕ, zero, suc, ◌+◌, ◌-◌, ◌^◌, ℤ, pos, negsuc, min, length, List, sum_by, Option, Some, None, true, false}
+use Rattle.std.specs.Prelude.{ℕ, zero, suc, ◌+◌, ◌-◌, ◌^◌, ℤ, pos, negsuc, min, length, List, sum_by, Option, Some, None, Bool, true, false, if◌then◌else◌}
 use Rattle.std.specs.Global.{Vec}
 use Rattle.dc_names.specs.declared.kind.Kind.{Kind}
 use Rattle.dc_names.specs.declared.kind.Kind.TheVariants.{Dir, File, Link}
+use Rattle.dc_names.specs.declared.sizes.MakeFault.{MakeFault}
+use Rattle.dc_names.specs.declared.sizes.MakeFault.TheVariants as makes
+use Rattle.dc_names.specs.Tables.{fit_a_table}
 use Rattle.dc_plain.specs.declared.call.Flags.{Flags}
 use Rattle.dc_plain.specs.declared.call.Follow.{Follow}
 use Rattle.dc_plain.specs.declared.call.Follow.TheVariants as follows
@@ -25,6 +28,18 @@ status_number statuses.BadSize = negsuc 4
 status_number statuses.BadPass = negsuc 5
 status_number statuses.BadArgument = negsuc 6
 status_number statuses.NotYet = negsuc 7
+
+abbrev pub status_of_make : MakeFault → Status
+status_of_make makes.BadSize = statuses.BadSize
+status_of_make makes.NoMemory = statuses.NoMemory
+
+-- why there is no cache of these sizes
+abbrev pub status_of_sizes : ℕ → ℕ → Status
+status_of_sizes buckets inodes = if fit_a_table buckets inodes then statuses.NoMemory else statuses.BadSize
+
+-- whether so many changes were made
+abbrev pub status_of_learn : Bool → Status
+status_of_learn has_come = if has_come then statuses.Done else statuses.NotYet
 
 abbrev pub status_of_fault : ChangeFault → Status
 status_of_fault faults.NoMemory = statuses.NoMemory

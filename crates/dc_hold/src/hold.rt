@@ -1,16 +1,17 @@
 //! One thread's hold on a cache, for callers that have no runtime.
 
-ghost use Rattle.std.specs.Prelude.{◌≡◌, ◌-◌, ◌^◌, ◌≤◌, ◌↔◌, true, min, IfSome, IfNone};
+ghost use Rattle.std.specs.Prelude.{◌≡◌, ◌-◌, ◌^◌, ◌≤◌, ◌↔◌, true, min, IfOk, IfErr, IfSome, IfNone};
 ghost use Rattle.std.specs.Arc.{arc_value};
 ghost use Rattle.dc_cache.specs.Answers.{Answered, IfFast, Loaded, Made, Told};
 ghost use Rattle.dc_cache.specs.Calls.{look, stat, readlink, list, request_of};
-ghost use Rattle.dc_cache.specs.Passes.{view, FitsSleepless, IsChange, Missed};
+ghost use Rattle.dc_cache.specs.Passes.{view, FitsSleepless, IsChange, Missed, Shrinks};
+ghost use Rattle.dc_hold.specs.Allowed.{IsFirst, IsSplit};
 ghost use Rattle.dc_hold.specs.Fitting.{fits_prop};
+ghost use Rattle.dc_hold.specs.Numbers.{status_of_sizes};
 ghost use Rattle.dc_table.specs.Changes.{NothingNew};
 
-use dc_cache::{
-    Call, ChangeFault, Fast, Follow, Gone, MakeFault, NoMemory, NotYet, Pass, Sleepless, Stamped,
-};
+use crate::status::Status;
+use dc_cache::{Call, ChangeFault, Fast, Follow, Gone, NoMemory, NotYet, Pass, Sleepless, Stamped};
 use std::alloc::Global;
 use std::sync::Arc;
 use std::sync::atomic::AtomicU64;
@@ -33,26 +34,38 @@ pub struct Hold {
 }
 
 // A hold may go to another thread: this is refused where its type is not `Send`.
-fn sent<T: Send>(value: T) -> T {
+fn sent<T: Send>(value: T) -> T
+    ensures { result ≡ value }
+{
     value
 }
 
 impl Hold {
-    /// A cache with its first hold. `BadSize` where `Sleepless::new` says so.
-    pub fn new(alloc: Global, buckets: u64, max_inodes: u64) -> Result<Hold, MakeFault> {
-        let (cache, pass) = Sleepless::new(alloc, buckets, max_inodes)?;
+    /// A cache with its first hold, or why there is none: `BadSize` where `Sleepless::new` says so, else
+    /// `NoMemory`.
+    pub fn new(alloc: Global, buckets: u64, max_inodes: u64) -> Result<Hold, Status>
+        ensures first { IfOk result (λ hold. IsFirst buckets max_inodes hold.pass) }
+        ensures fault { IfErr result (λ status. status ≡ status_of_sizes buckets max_inodes) }
+    {
+        let (cache, pass) = match Sleepless::new(alloc, buckets, max_inodes) {
+            Ok(made) => made,
+            Err(fault) => return Err(Status::of_make(fault)),
+        };
         let common = Common {
             cache,
             compared: AtomicU64::new(0),
         };
         match Arc::new(alloc, common) {
             Ok(common) => Ok(sent(Hold { common, pass })),
-            Err(_) => Err(MakeFault::NoMemory),
+            Err(_) => Err(Status::NoMemory),
         }
     }
 
     /// Another hold on the same cache, for another thread.
-    pub fn split(&mut self) -> Result<Hold, NoMemory> {
+    pub fn split(&mut self) -> Result<Hold, NoMemory>
+        ensures split { IfOk result (λ other. IsSplit self.old.pass self.new.pass other.pass) }
+        ensures fault { IfErr result (λ _. self.new ≡ self.old) }
+    {
         let Ok(common) = Arc::try_clone(&self.common) else {
             return Err(NoMemory);
         };
@@ -175,7 +188,7 @@ impl Hold {
     #[must_use]
     pub fn try_shrink(&mut self, most: u64) -> Option<u64>
         ensures nothing { NothingNew (view self.old.pass) (view self.new.pass) }
-        ensures few { IfSome result (λ emptied. emptied ≤ most) }
+        ensures rows { IfSome result (λ emptied. Shrinks most emptied self.new.pass) }
         ensures held { IfNone result (Missed self.old.pass self.new.pass) }
     {
         self.common.cache.try_shrink(&mut self.pass, most)

@@ -1,7 +1,7 @@
 //! How a call of a program in C ends.
 
 ghost use Rattle.std.specs.Prelude.{◌≡◌};
-ghost use Rattle.dc_hold.specs.Numbers.{status_number, status_of_fault};
+ghost use Rattle.dc_hold.specs.Numbers.{status_number, status_of_fault, status_of_learn, status_of_make};
 
 use dc_cache::{ChangeFault, MakeFault};
 
@@ -55,10 +55,24 @@ impl Status {
 
     /// How the making of a cache that failed ends.
     #[must_use]
-    pub fn of_make(fault: MakeFault) -> Status {
+    pub fn of_make(fault: MakeFault) -> Status
+        ensures { result ≡ status_of_make fault }
+    {
         match fault {
             MakeFault::BadSize => Status::BadSize,
             MakeFault::NoMemory => Status::NoMemory,
+        }
+    }
+
+    /// How the question ends whether so many changes were made.
+    #[must_use]
+    pub fn of_learn(has_come: bool) -> Status
+        ensures { result ≡ status_of_learn has_come }
+    {
+        if has_come {
+            Status::Done
+        } else {
+            Status::NotYet
         }
     }
 

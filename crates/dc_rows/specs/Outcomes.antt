@@ -6,13 +6,15 @@ use Rattle.dc_plain.specs.Facts.{Key}
 use Rattle.dc_plain.specs.Requests.{Request, answer_of}
 use Rattle.dc_plain.specs.Runs.{tree_after, Touches}
 use Rattle.dc_plain.specs.declared.call.Reply.{Reply}
+use Rattle.dc_index.specs.Slots.{slot_of}
+use Rattle.dc_index.specs.Slots.Slot.{Holds as Held}
 use Rattle.dc_events.specs.Rows.{most}
 use Rattle.dc_events.specs.Standing.{tree_of}
 use Rattle.dc_table.specs.Changes.{Recorded}
 use Rattle.dc_table.specs.Passes.{Pass, known, view, share, IsSamePass, IsIdle}
 use Rattle.dc_table.specs.RowStates.{RowState}
 use Rattle.dc_rows.specs.Changes.{Failed}
-use Rattle.dc_rows.specs.Guards.{seat_of, rows_of}
+use Rattle.dc_rows.specs.Guards.{seat_of, kept_by, rows_of}
 use Rattle.dc_rows.specs.RowChanges.{EmptiesLast, Gets}
 use Rattle.dc_rows.specs.Refills.{Retold, Turns}
 use Rattle.dc_rows.specs.declared.fault.ChangeFault.{ChangeFault}
@@ -52,6 +54,11 @@ MakesAlone p q call result = (history : List Request) × Makes history (known q)
 pub record Shrinks (most n : ℕ) (q : Pass) : Type 0 where
   pub few : n ≡ min most (length (known q).got.used.listed)
   pub rows : EmptiesLast n (known q).got (known q).left
+
+-- a row has got the key, or none has, from one guard to the next; no pin has come or gone
+pub record Fills (key : Key) (g h : Guard) (result : Result (Option ℕ) NoMemory) : Type 0 where
+  pub row : IfOk result (λ found. IfSome found (λ row. slot_of (kept_by h).index row ≡ Held key))
+  pub rows : Gets key 0 (rows_of g) (rows_of h) result
 
 -- a row of the table has got the key, and one pin more, from the rows that the pass got to those that it left; or none has
 pub record Pins (key : Key) (q : Pass) (result : Result (Option ℕ) NoMemory) : Type 0 where

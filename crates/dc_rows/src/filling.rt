@@ -7,6 +7,7 @@ ghost use Rattle.dc_plain.specs.KeysShown.{key_shown};
 ghost use Rattle.dc_rows.specs.Changes.{KeepsTree, OnlyWrites, RestAt};
 ghost use Rattle.dc_rows.specs.Filling.{GivenAt};
 ghost use Rattle.dc_rows.specs.Guards.{kept_by, rows_of, Keeps};
+ghost use Rattle.dc_rows.specs.Outcomes.{Fills};
 ghost use Rattle.dc_rows.specs.RowChanges.{Gets, IsFilled, LeadsTo, OnlyRow};
 ghost use Rattle.dc_shrink.specs.Listings.{pins_of};
 ghost use Rattle.dc_table.specs.Changes.{tree_now};
@@ -169,9 +170,7 @@ impl Guard<'_> {
         requires target { LeadsTo (kept_by self.old).store (key_shown key.now) target }
         ensures same_reference { self.new.holder.pass.ghost_name ≡ self.old.holder.pass.ghost_name }
         ensures keeps { Keeps self.old self.new }
-        ensures row { IfOk result (λ found. IfSome found (λ row.
-            slot_of (kept_by self.new).index row ≡ Held (key_shown key.now))) }
-        ensures rows { Gets (key_shown key.now) 0 (rows_of self.old) (rows_of self.new) result }
+        ensures fills { Fills (key_shown key.now) self.old self.new result }
     {
         let holder = &mut self.holder;
         fill_entry_row(holder, &mut self.guarded, alloc, key, target)

@@ -4,6 +4,8 @@ use dc_lang::{Command, LineFault};
 use dc_names::NoMemory;
 use dc_plain::Reply;
 use std::alloc::{AllocError, AllocFailed};
+use std::error::Error;
+use std::fmt;
 
 /// A call that began and ended at these times of one clock.
 #[derive(Debug, Drop)]
@@ -31,6 +33,17 @@ pub enum TraceFault {
     /// Memory was refused.
     NoMemory,
 }
+
+impl fmt::Display for TraceFault {
+    fn fmt<W: fmt::Write>(&self, f: &mut fmt::Formatter<W>) -> fmt::Result {
+        match self {
+            TraceFault::BadLine(line) => write!(f, "bad line {line}"),
+            TraceFault::NoMemory => f.write_str("no memory"),
+        }
+    }
+}
+
+impl Error for TraceFault {}
 
 impl TraceFault {
     /// The fault of a line.

@@ -6,7 +6,7 @@ use crate::gate::Gate;
 use crate::own::Own;
 use crate::tally::{Tally, a_second};
 use crate::work::{Miss, Work};
-use dc_cache::{Dcache, Fast, Follow, Pass, PathText, ROOT, Reply, Why};
+use dc_cache::{Dcache, Fast, Follow, Pass, PathText, ROOT, Reply};
 use std::alloc::Global;
 use std::rt::Clock;
 use std::sync::Wait;
@@ -62,14 +62,6 @@ fn look_slowly<R: Wait>(
         .reply
 }
 
-/// Counts why the rows gave up.
-fn count_cause(why: &Why, tally: &mut Tally) {
-    match why {
-        Why::Busy(_) | Why::Changed { .. } => tally.disturbed = tally.disturbed.saturating_add(1),
-        _ => tally.missed = tally.missed.saturating_add(1),
-    }
-}
-
 /// Looks a path up, and counts how it was answered.
 pub fn look<R: Wait>(
     rt: &R,
@@ -86,7 +78,7 @@ pub fn look<R: Wait>(
     match cache.look_fast(pass, ROOT, path, Follow::Yes) {
         Fast::Done(found) => found.reply,
         Fast::Again(why) => {
-            count_cause(&why, tally);
+            tally.causes.count(&why);
             look_slowly(rt, alloc, cache, pass, path, miss, tally)
         }
     }

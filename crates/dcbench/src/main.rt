@@ -2,6 +2,7 @@
 #![tactic(auto)]
 
 mod args;
+mod causes;
 mod drawing;
 mod fault;
 mod gate;
@@ -37,7 +38,7 @@ fn words(rt: &HostRuntime) -> Result<Vec<String>, Fault> {
 }
 
 /// Does what the words ask for.
-fn run<R: Threads + Wait + Clock + Sync + Print + Files + AllocGlobal>(
+fn run<R: Threads + Wait + Clock + Sync + Print + Eprint + Files + AllocGlobal>(
     rt: &R,
     words: Result<Vec<String>, Fault>,
 ) -> Result<(), Fault>

@@ -84,7 +84,10 @@ impl fmt::Display for LookRow {
         write!(
             f,
             " {:>7} {:>11} {:>11} {:>12}",
-            tally.by_lock, tally.missed, self.evicted, self.filled
+            tally.by_lock,
+            tally.causes.gone(),
+            self.evicted,
+            self.filled
         )
     }
 }
@@ -110,8 +113,11 @@ impl Row for LookRow {
                 ("without_lock", tally.by_fast()),
                 ("by_filled_rows", tally.by_rows),
                 ("under_lock", tally.by_lock),
-                ("rows_gone", tally.missed),
-                ("disturbed", tally.disturbed),
+                ("miss", tally.causes.miss),
+                ("link", tally.causes.link),
+                ("long", tally.causes.long),
+                ("busy", tally.causes.busy),
+                ("changed", tally.causes.changed),
                 ("rows_evicted", self.evicted),
                 ("rows_in_use", self.filled),
                 ("changes_refused", tally.wrong),
@@ -204,7 +210,11 @@ impl Row for RaceRow {
                 ("without_lock", tally.by_fast()),
                 ("by_filled_rows", tally.by_rows),
                 ("under_lock", tally.by_lock),
-                ("disturbed", tally.disturbed),
+                ("miss", tally.causes.miss),
+                ("link", tally.causes.link),
+                ("long", tally.causes.long),
+                ("busy", tally.causes.busy),
+                ("changed", tally.causes.changed),
                 ("changes", tally.changes),
                 ("milliseconds", self.milliseconds),
             ],

@@ -2,6 +2,7 @@
 
 ghost use Rattle.std.specs.Thread.{IsSync};
 
+use crate::causes::Causes;
 use crate::drawing::draw;
 use crate::fault::Fault;
 use crate::order::{ordered, texts_of};
@@ -46,21 +47,24 @@ fn text_of<R: Files + AllocGlobal>(
     }
 }
 
-/// Times rows of look-ups by these numbers of threads.
+/// Times rows of look-ups by these numbers of threads. Answers why look-ups took the lock, here and
+/// below.
 fn look_rows<R: Threads + Wait + Clock + Sync + Print>(
     rt: &R,
     alloc: Global,
     plan: &Plan<'_>,
     json: bool,
     threads: &[u64],
-) -> Result<(), Fault>
+) -> Result<Causes, Fault>
     requires { IsSync R.row }
 {
+    let mut causes = Causes::default();
     for threads in threads {
         let row = look_row(rt, alloc, plan, *threads)?;
         tell(rt, alloc, &row, json)?;
+        causes.take_in(&row.tally.causes);
     }
-    Ok(())
+    Ok(causes)
 }
 
 /// Times look-ups of these files of a tree.
@@ -71,7 +75,7 @@ fn look_files<R: Threads + Wait + Clock + Sync + Print>(
     lines: &[&[u8]],
     files: &[&[u8]],
     threads: &[u64],
-) -> Result<(), Fault>
+) -> Result<Causes, Fault>
     requires { IsSync R.row }
 {
     let texts = texts_of(alloc, task.shape, files)?;
@@ -97,7 +101,7 @@ fn look_by<R: Threads + Wait + Clock + Sync + Print + Files + AllocGlobal>(
     alloc: Global,
     task: &LookTask<'_>,
     threads: &[u64],
-) -> Result<(), Fault>
+) -> Result<Causes, Fault>
     requires { IsSync R.row }
 {
     let text = text_of(rt, alloc, task)?;
@@ -177,9 +181,10 @@ fn looks_at<R: Threads + Wait + Clock + Sync + Print + Files + AllocGlobal>(
     rt: &R,
     alloc: Global,
     depth: u64,
-) -> Result<(), Fault>
+) -> Result<Causes, Fault>
     requires { IsSync R.row }
 {
+    let mut causes = Causes::default();
     for work in Work::ALL {
         let shape = Shape {
             work,
@@ -195,25 +200,32 @@ fn looks_at<R: Threads + Wait + Clock + Sync + Print + Files + AllocGlobal>(
             tree: None,
             json: false,
         };
-        look_by(rt, alloc, &task, &[1, 4])?;
+        causes.take_in(&look_by(rt, alloc, &task, &[1, 4])?);
     }
-    Ok(())
+    Ok(causes)
 }
 
 /// How many milliseconds each row of the table of everything is timed.
 const BRIEFLY: u64 = 300;
 
+/// Tells on standard error why look-ups took the lock.
+fn explain<R: Eprint>(rt: &R, causes: &Causes) {
+    let _ = eprintln!(rt; "{causes}");
+}
+
 /// The table of everything.
-fn all<R: Threads + Wait + Clock + Sync + Print + Files + AllocGlobal>(
+fn all<R: Threads + Wait + Clock + Sync + Print + Eprint + Files + AllocGlobal>(
     rt: &R,
     alloc: Global,
 ) -> Result<(), Fault>
     requires { IsSync R.row }
 {
     say(rt, LOOK_HEAD)?;
+    let mut causes = Causes::default();
     for depth in [1, 4, 8] {
-        looks_at(rt, alloc, depth)?;
+        causes.take_in(&looks_at(rt, alloc, depth)?);
     }
+    explain(rt, &causes);
     say(rt, CHANGE_HEAD)?;
     let task = ChangeTask {
         threads: 4,
@@ -237,7 +249,7 @@ fn tree<R: Print>(rt: &R, alloc: Global, shape: Shape) -> Result<(), Fault> {
 }
 
 /// Does a task.
-pub fn perform<R: Threads + Wait + Clock + Sync + Print + Files + AllocGlobal>(
+pub fn perform<R: Threads + Wait + Clock + Sync + Print + Eprint + Files + AllocGlobal>(
     rt: &R,
     alloc: Global,
     task: &Task<'_>,
@@ -248,7 +260,12 @@ pub fn perform<R: Threads + Wait + Clock + Sync + Print + Files + AllocGlobal>(
         Task::All => all(rt, alloc),
         Task::Look(look) => {
             head(rt, LOOK_HEAD, look.json)?;
-            look_by(rt, alloc, look, &up_to(alloc, look.threads)?)
+            let causes = look_by(rt, alloc, look, &up_to(alloc, look.threads)?)?;
+            // A line of JSON has them.
+            if !look.json {
+                explain(rt, &causes);
+            }
+            Ok(())
         }
         Task::Change(change) => {
             head(rt, CHANGE_HEAD, change.json)?;

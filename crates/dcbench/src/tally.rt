@@ -1,5 +1,6 @@
 //! What threads count and time.
 
+use crate::causes::Causes;
 use std::alloc::Global;
 use std::time::Duration;
 
@@ -19,10 +20,8 @@ pub struct Tally {
     pub found: u64,
     /// Look-ups with another answer than the one that is right.
     pub wrong: u64,
-    /// Look-ups that the rows didn't answer as they stood: no row had a name or a link's text, or a
-    /// change came between.
-    pub missed: u64,
-    pub disturbed: u64,
+    /// Why the rows didn't answer look-ups as they stood.
+    pub causes: Causes,
     /// Look-ups that were answered by rows that were filled for them, and those that weren't.
     pub by_rows: u64,
     pub by_lock: u64,
@@ -62,8 +61,7 @@ impl Tally {
             changes: 0,
             found: 0,
             wrong: 0,
-            missed: 0,
-            disturbed: 0,
+            causes: Causes::default(),
             by_rows: 0,
             by_lock: 0,
             rate: 0,
@@ -95,8 +93,7 @@ impl Tally {
         self.changes = self.changes.saturating_add(other.changes);
         self.found = self.found.saturating_add(other.found);
         self.wrong = self.wrong.saturating_add(other.wrong);
-        self.missed = self.missed.saturating_add(other.missed);
-        self.disturbed = self.disturbed.saturating_add(other.disturbed);
+        self.causes.take_in(&other.causes);
         self.by_rows = self.by_rows.saturating_add(other.by_rows);
         self.by_lock = self.by_lock.saturating_add(other.by_lock);
         self.rate = self.rate.saturating_add(other.rate);
