@@ -138,11 +138,11 @@ fn is_spelled(words: &[u64], tag: u64, kind: u64, number: u64, value: u64, text:
 fn are_zero(words: &[u64], from: usize) -> bool
     ensures { IsTrue result ↔ ((i : ℕ) → from ≤ i → i < length words.now → slice_index words.now i ≡ 0) }
 {
-    let mut zero = true;
+    let mut any = 0;
     for i in from..words.len() {
-        zero &= words[i] == 0;
+        any |= words[i];
     }
-    zero
+    any == 0
 }
 
 /// Whether an entry can have this kind and this number: one that leads nowhere has no number.

@@ -130,9 +130,9 @@ impl Room {
     {
         // One reference for all words, as each further step may have written what lies behind `self`.
         let words = &mut self.rows[self.len].words;
-        for i in 3..ROW_WORDS {
-            words[i] = reader.read_word(pass, row, i as u64);
-        }
+        read_words(reader, pass, row, words, 3, 14);
+        read_words(reader, pass, row, words, 14, 25);
+        read_words(reader, pass, row, words, 25, ROW_WORDS);
     }
 
     /// Keeps the row that was read, whose note has this place, and answers where it stands.
@@ -148,6 +148,32 @@ impl Room {
         self.rows[at].place = place;
         self.len += 1;
         at
+    }
+}
+
+/// Reads words of the row that was noted last, from one up to another.
+// Inlined, for a few words at a time (measured): only so short a loop is unrolled.
+#[inline(always)]
+fn read_words(
+    reader: Reader<'_>,
+    pass: &mut Pass,
+    row: u64,
+    words: &mut [u64; ROW_WORDS],
+    from: usize,
+    to: usize,
+)
+    requires pass { Fits (table_of reader) pass.old × IsIdle pass.old }
+    requires row { row < (share pass.old).rows }
+    requires reading { IsReading (view pass.old) row words.old from }
+    requires some { (0 < from) × (from ≤ to) × (to ≤ ROW_WORDS) }
+    ensures same { StaysOut pass.old pass.new }
+    ensures fits { Fits (table_of reader.entry) pass.new }
+    ensures reading { IsReading (view pass.new) row words.new to }
+    ensures read { (v : View) → HasRead v (view pass.old) row words.old from
+        → HasRead v (view pass.new) row words.new to }
+{
+    for i in from..to {
+        words[i] = reader.read_word(pass, row, i as u64);
     }
 }
 
