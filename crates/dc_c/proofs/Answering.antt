@@ -1,5 +1,5 @@
 -- What a function for C answers, from what it met.
-use Rattle.std.proofs.Common.{◌≡◌, ◌∙◌, ℕ, ℤ, List, [], ◌∷◌, Option, Some, None, IfSome, IfNone, MatchOption, sym, subst}
+use Rattle.std.proofs.Common.{◌≡◌, ◌∙◌, ℕ, ℤ, [], ◌∷◌, Option, Some, None, IfSome, IfNone, MatchOption, sym, subst}
 use Rattle.dc_cache.specs.declared.cache.Pass.{Pass}
 use Rattle.dc_hold.specs.declared.hold.Hold.{Hold}
 use Rattle.dc_hold.specs.declared.status.Status.TheVariants as statuses

@@ -17,7 +17,7 @@ pub on_hold : (P : Type 0) (Q : Hold → Type 0) (holds : List Hold) (hold : Hol
 on_hold P Q holds hold has is = subst (λ holds. OnHold holds P Q) (sym has) is
 
 pub on_open : (P : Type 0) (Q : Hold → Type 0) (holds : List Hold) → IsOpen holds → ((hold : Hold) → Q hold) → OnHold holds P Q
-on_open P Q [] no is = absurd no
+on_open P Q [] never is = absurd never
 on_open P Q (hold ∷ _) _ is = is hold
 
 -- a hold that was made, if one was, is in a handle that was blank, and it is told how this ended

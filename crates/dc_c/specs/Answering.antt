@@ -1,5 +1,5 @@
 -- What a function for C does: the call of its name, on the hold that its handle has.
-use Rattle.std.specs.Prelude.{◌≡◌, ℤ, List, [], ◌∷◌}
+use Rattle.std.specs.Prelude.{◌≡◌, ℤ, [], ◌∷◌}
 use Rattle.dc_cache.specs.declared.cache.Pass.{Pass}
 use Rattle.dc_hold.specs.Numbers.{status_number}
 use Rattle.dc_hold.specs.declared.hold.Hold.{Hold}

@@ -3,7 +3,7 @@ use Rattle.dc_cache.specs.Calls.{look}
 use Rattle.dc_hold.specs.Tells.{tells_fast}
 use Rattle.dc_c.specs.Answering.{Shows}
 use Rattle.dc_hold.specs.Allowed.{MayFind}
-use Rattle.dc_c.proofs.Answering.{called, meant, shown, tried}
+use Rattle.dc_c.proofs.Answering.{called, meant, shown}
 use Rattle.dc_c.proofs.looks.gb_look_fast.Goals as goal
 
 pub returns : goal.returns

@@ -1,7 +1,5 @@
 use Rattle.std.proofs.Common.{to_z-of_z, SFits, w32, rules}
 use Rattle.dc_cache.specs.Calls.{readlink}
-use Rattle.dc_hold.specs.Tells.{tells_read}
-use Rattle.dc_c.specs.Answering.{Shows}
 use Rattle.dc_hold.specs.Allowed.{MayRead}
 use Rattle.dc_c.specs.Shapes.{ShowsText}
 use Rattle.dc_c.proofs.Answering.{called, shown, tried}

@@ -6,8 +6,8 @@ use Rattle.dc_c.proofs.passes.gb_pass_split.Goals as goal
 
 pub returns-then-is_open : goal.returns-then-is_open
 returns-then-is_open c =
-    let fits : SFits w32 c.number-then-is_open.result = search rules in
-    record { splits = on_open _ _ c.args.blank.now.holds (c.is_open.ensures.held c.if-is_open.true) (λ _. record { same = refl; why = to_z-of_z fits ∙ c.number-then-is_open.ensures; unwritten = c.is_open.ensures.same }) }
+    let fits : SFits w32 c.number.result = search rules in
+    record { splits = on_open _ _ c.args.blank.now.holds (c.is_open.ensures.held c.if-is_open.true) (λ _. record { same = refl; why = to_z-of_z fits ∙ c.number.ensures; unwritten = c.is_open.ensures.same }) }
 
 pub returns : goal.returns
 returns c =

@@ -5,7 +5,7 @@ use lib.Dec.{T, lit<}
 use seplogic.Ra.Ura.{Ura}
 use mir.Val.{Val, vnull, vstruct, vnil, vcons, of_list, has_ty, WT}
 use mir.Raw.{raw as bare}
-use base.Logic.{SProp, ent, emp, via, id⊢, guard, guard_i, never_e}
+use base.Logic.{SProp, ent, emp, id⊢, guard, guard_i, never_e}
 use base.Fml.{ftrue, fsep}
 use prog.Memory.{Memory}
 use prog.Routine.{Routine}
