@@ -10,13 +10,13 @@ use dc_row::ROW_WORDS;
 use std::alloc::Global;
 use std::test::Fail;
 
-/// The loads of a look-up of `/a/d`: row 0 tells `a`; row 0 is another and row 1 tells `d`; then the clock, and
-/// the counts of the two that told.
+/// The loads of a look-up of `/a/d`: row 0 tells `a`; row 0 is left after its head and number, and row 1 tells
+/// `d`; then the clock, and the counts of the two that told.
 fn loads_of_a_hit(alloc: Global) -> Result<Vec<Act<'static>>, NoMemory> {
     let mut loads = Vec::new(alloc);
-    for row in [0, 0, 1] {
+    for (row, words) in [(0, ROW_WORDS), (0, 3), (1, ROW_WORDS)] {
         loads.push(Act::Note(row))?;
-        for _ in 1..ROW_WORDS {
+        for _ in 1..words {
             loads.push(Act::Read)?;
         }
     }
@@ -33,7 +33,7 @@ fn a_hit(rt: HostRuntime) -> Result<(), Fail> {
     let mut core = two_told(alloc)?;
     assert_eq!(rt; (core.count(0), core.count(1), core.clock()), (2, 2, 2));
     let mut loads = loads_of_a_hit(alloc)?;
-    assert_eq!(rt; loads.len(), 3 * ROW_WORDS + 3);
+    assert_eq!(rt; loads.len(), 2 * ROW_WORDS + 6);
     let last = loads.pop().ok_or("no load")?;
     step(&mut core, alloc, 0, Act::Begin(look(b"/a/d")))?;
     act(&mut core, alloc, 0, &loads)?;
