@@ -45,8 +45,8 @@ impl<'a, S: Source> Finder for Walker<'a, S> {
         hash: u64,
     ) -> Result<Option<(u64, Kind)>, Stop> {
         let key = key_of(dir, part);
-        let at = told(self.source, &mut self.rows, key, hash)?;
-        Ok(self.rows.target_at(at))
+        let place = told(self.source, &mut self.rows, key, hash)?;
+        Ok(self.rows.target_at(place))
     }
 
     #[inline(always)]
