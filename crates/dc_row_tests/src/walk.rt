@@ -6,6 +6,7 @@ ghost use Rattle.dc_walk.specs.Findings.{CanWalk};
 mod busy;
 mod by_hand;
 mod causes;
+mod four;
 mod pinned;
 mod probe;
 mod spoiled;
