@@ -208,7 +208,8 @@ fn a_name_that_never_stands_is_never_found(rt: HostRuntime) -> Result<(), Fail> 
     Ok(())
 }
 
-/// The path of a file in the last of so many directories, each in the one before, below a directory of the root.
+/// The path of a file in the last of so many directories, each in the one before, below a directory of
+/// the root.
 fn file_below(alloc: Global, name: u8, depth: u32) -> Result<Vec<u8>, AllocError> {
     let mut path = Vec::from_slice(alloc, &[b'/', name])?;
     for _ in 0..depth {
@@ -232,8 +233,9 @@ fn make_above<R: Wait>(rt: &R, alloc: Global, cache: &Dcache, pass: &mut Pass, f
     all
 }
 
-/// Races over a file so many directories below the one that is renamed. It tells how many changes were made
-/// and how many inodes live in the end, or `None` where an answer was wrong or a change wasn't made.
+/// Races over a file so many directories below the one that is renamed. It tells how many changes were
+/// made and how many inodes live in the end, or `None` where an answer was wrong or a change wasn't
+/// made.
 fn race_below<R: Threads + Wait + Sync>(rt: &R, alloc: Global, depth: u32) -> Option<(u64, u64)>
     requires sync { IsSync R.row }
 {

@@ -1,5 +1,5 @@
-//! The four walks of docs/ARCHITECTURE.md as lists of events, each load of a word one event: one bucket, `/a` is 2
-//! and `/a/d` is 3, rows 0 and 1 tell of them, both with count 2.
+//! The four walks of docs/ARCHITECTURE.md as lists of events, each load of a word one event: one
+//! bucket, `/a` is 2 and `/a/d` is 3, rows 0 and 1 tell of them, both with count 2.
 
 use super::{act, change_row, fill, is_last, named, note, step, two_told, write};
 use crate::calls::{look, rename};
@@ -10,8 +10,8 @@ use dc_row::ROW_WORDS;
 use std::alloc::Global;
 use std::test::Fail;
 
-/// The loads of a look-up of `/a/d`: row 0 tells `a`; row 0 is another and row 1 tells `d`; then the clock, and
-/// the counts of the two that told.
+/// The loads of a look-up of `/a/d`: row 0 tells `a`; row 0 is another and row 1 tells `d`; then the
+/// clock, and the counts of the two that told.
 fn loads_of_a_hit(alloc: Global) -> Result<Vec<Act<'static>>, NoMemory> {
     let mut loads = Vec::new(alloc);
     for row in [0, 0, 1] {
@@ -86,8 +86,8 @@ fn a_loss(rt: HostRuntime) -> Result<(), Fail> {
     Ok(())
 }
 
-/// Row 0 is odd from before the commit until it tells the new fact, and nobody notes it meanwhile. The clock
-/// grows by one at the commit.
+/// Row 0 is odd from before the commit until it tells the new fact, and nobody notes it meanwhile. The
+/// clock grows by one at the commit.
 #[test]
 fn a_change(rt: HostRuntime) -> Result<(), Fail> {
     let alloc = rt.alloc();

@@ -1,5 +1,5 @@
-//! Look-ups that come to a row while it is written. A pass that has the lock shuts the row of a key, others
-//! look up, and then it writes the row and opens it.
+//! Look-ups that come to a row while it is written. A pass that has the lock shuts the row of a key,
+//! others look up, and then it writes the row and opens it.
 
 ghost use Rattle.std.specs.Prelude.{◌≡◌, ◌<◌, length, true};
 ghost use Rattle.dc_events.specs.Rows.{base_of, count, most};
@@ -70,8 +70,8 @@ fn open_with(holder: &mut Holder<'_>, row: u64, words: &[u64; ROW_WORDS])
     holder.open_row(row);
 }
 
-/// Shuts a row, has another pass look up, writes the row's words and opens it. `false` where that was its
-/// last opening: then it is empty.
+/// Shuts a row, has another pass look up, writes the row's words and opens it. `false` where that was
+/// its last opening: then it is empty.
 fn rewrite(
     holder: &mut Holder<'_>,
     row: u64,

@@ -1,5 +1,5 @@
-//! The four walks of docs/ARCHITECTURE.md, step by step where a step is public: one bucket, `/a` is 2 and `/a/d`
-//! is 3, rows 0 and 1 tell of them, both with count 2.
+//! The four walks of docs/ARCHITECTURE.md, step by step where a step is public: one bucket, `/a` is 2
+//! and `/a/d` is 3, rows 0 and 1 tell of them, both with count 2.
 
 ghost use Rattle.std.specs.Prelude.{◌<◌};
 ghost use Rattle.dc_table.specs.Passes.{share};
@@ -81,8 +81,8 @@ fn a_hit(rt: HostRuntime) -> Result<(), Fail> {
     Ok(())
 }
 
-/// The walk by rows alone gives up after one answered question; the counted walk fills row 2, alters neither
-/// the tree nor another row, and leaves no pin.
+/// The walk by rows alone gives up after one answered question; the counted walk fills row 2, alters
+/// neither the tree nor another row, and leaves no pin.
 #[test]
 fn a_miss(rt: HostRuntime) -> Result<(), Fail> {
     let (shared, mut p) = Shared::new(rt.alloc(), 1, 16).expect(&rt, "memory");
@@ -101,8 +101,9 @@ fn a_miss(rt: HostRuntime) -> Result<(), Fail> {
     Ok(())
 }
 
-/// A look-up of `/a/d` notes rows 0 and 1, then `/a` becomes `/b`: the check of row 0 fails, with count 4 where 2
-/// was noted. The change adds one to the clock and writes row 0 alone, since `b` has no row.
+/// A look-up of `/a/d` notes rows 0 and 1, then `/a` becomes `/b`: the check of row 0 fails, with
+/// count 4 where 2 was noted. The change adds one to the clock and writes row 0 alone, since `b` has
+/// no row.
 #[test]
 fn a_loss_and_its_change(rt: HostRuntime) -> Result<(), Fail> {
     let (shared, mut p) = Shared::new(rt.alloc(), 1, 16).expect(&rt, "memory");
