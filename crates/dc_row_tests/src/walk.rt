@@ -3,8 +3,10 @@
 ghost use Rattle.dc_ops.specs.Asked.{IsChange};
 ghost use Rattle.dc_walk.specs.Findings.{CanWalk};
 
+mod busy;
 mod by_hand;
 mod causes;
+mod four;
 mod pinned;
 mod probe;
 mod spoiled;

@@ -6,10 +6,10 @@
 ghost use Rattle.std.specs.Thread.{IsSync};
 ghost use Rattle.dc_cache.specs.Passes.{Fits, IsChange};
 
-use crate::answers::{create, unlink};
+use crate::answers::{create, mkdir, unlink};
 use crate::steps::{Act, Step, play};
 use dc_cache::{Call, Dcache, Fast, Flags, Follow, Pass, ROOT, Reply, Stamped, Store, parse};
-use std::alloc::Global;
+use std::alloc::{AllocError, Global};
 use std::sync::Wait;
 use std::test::Fail;
 use std::thread::{Threads, join};
@@ -205,5 +205,67 @@ fn a_name_that_never_stands_is_never_found(rt: HostRuntime) -> Result<(), Fail> 
     let ended = cache.close(pass).expect(&rt, "the lock is free");
     // Five directories, and four changes in each of forty rounds of both races.
     assert!(rt; ended.clock == 5 + 2 * 40 * 4 && ended.store.live() == 6);
+    Ok(())
+}
+
+/// The path of a file in the last of so many directories, each in the one before, below a directory of
+/// the root.
+fn file_below(alloc: Global, name: u8, depth: u32) -> Result<Vec<u8>, AllocError> {
+    let mut path = Vec::from_slice(alloc, &[b'/', name])?;
+    for _ in 0..depth {
+        path.extend_from_slice(b"/d")?;
+    }
+    path.extend_from_slice(b"/f")?;
+    Ok(path)
+}
+
+/// Makes each directory above a file, and says whether each was made.
+fn make_above<R: Wait>(rt: &R, alloc: Global, cache: &Dcache, pass: &mut Pass, file: &[u8]) -> bool
+    requires { Fits cache.now pass.old }
+    ensures { Fits cache.now pass.new }
+{
+    let mut all = true;
+    for end in 1..file.len() {
+        if file[end] == b'/' {
+            all &= is_done(rt, alloc, cache, pass, &mkdir(&file[..end]));
+        }
+    }
+    all
+}
+
+/// Races over a file so many directories below the one that is renamed. It tells how many changes were
+/// made and how many inodes live in the end, or `None` where an answer was wrong or a change wasn't
+/// made.
+fn race_below<R: Threads + Wait + Sync>(rt: &R, alloc: Global, depth: u32) -> Option<(u64, u64)>
+    requires sync { IsSync R.row }
+{
+    let path = file_below(alloc, b'p', depth).ok()?;
+    let path_then = file_below(alloc, b'q', depth).ok()?;
+    let (cache, mut pass) = Dcache::new(alloc, 64, 1024).ok()?;
+    let made = make_above(rt, alloc, &cache, &mut pass, path.as_slice());
+    let race = Race {
+        first: b"/p",
+        second: b"/q",
+        file: path.as_slice(),
+        file_then: path_then.as_slice(),
+    };
+    let (pass, right) = run(rt, alloc, &cache, pass, race);
+    let ended = cache.close(pass)?;
+    if made && right {
+        Some((ended.clock, ended.store.live()))
+    } else {
+        None
+    }
+}
+
+/// The file is sixteen and sixty-four directories below the one that is renamed.
+#[test]
+fn a_name_far_below_that_never_stands_is_never_found(rt: HostRuntime) -> Result<(), Fail> {
+    for depth in [16, 64] {
+        // The renamed directory and those below it, and four changes in each of forty rounds.
+        let ended = race_below(&rt, rt.alloc(), depth);
+        let depth = u64::from(depth);
+        assert!(rt; ended == Some((1 + depth + 40 * 4, 2 + depth)), "{depth}");
+    }
     Ok(())
 }

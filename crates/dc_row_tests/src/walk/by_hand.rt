@@ -19,7 +19,7 @@ use std::sync::Wait;
 use std::test::Fail;
 
 /// Begins a walk, and notes rows 0 and 1.
-fn note_two(shared: &Shared, pass: &mut Pass, path: &[u8]) -> Option<(Words, Words)>
+pub(super) fn note_two(shared: &Shared, pass: &mut Pass, path: &[u8]) -> Option<(Words, Words)>
     requires can { CanWalk shared.now pass.old × (3 < (share pass.old).rows) }
     ensures can { CanWalk shared.now pass.new × (3 < (share pass.new).rows) }
     ensures noted { IfSome result (λ words. (view pass.new).walk ≡ walk_with (Stat 1 path.now)
@@ -33,7 +33,7 @@ fn note_two(shared: &Shared, pass: &mut Pass, path: &[u8]) -> Option<(Words, Wor
 
 /// Notes row 3 for a walk that noted two, makes its pivot, and checks the three. It answers the words
 /// of row 3, the pivot, and what each check found.
-fn turn(
+pub(super) fn turn(
     shared: &Shared,
     pass: &mut Pass,
     path: &[u8],
@@ -114,7 +114,7 @@ fn move_away<R: Wait>(
 }
 
 /// Makes `/a` and `/a/d`, and fills rows 0 and 1 with them.
-fn make_two<R: Wait>(rt: &R, alloc: Global, shared: &Shared, pass: &mut Pass) -> bool
+pub(super) fn make_two<R: Wait>(rt: &R, alloc: Global, shared: &Shared, pass: &mut Pass) -> bool
     requires { CanWalk shared.now pass.old }
     ensures { CanWalk shared.now pass.new }
 {
