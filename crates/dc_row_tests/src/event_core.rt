@@ -8,7 +8,6 @@ use dc_row::{EMPTY_ROW, ROW_WORDS, Row, RowLabel, RowText, encode};
 use std::alloc::Global;
 use std::test::Fail;
 
-mod four;
 mod refusals;
 mod schedule;
 
@@ -98,8 +97,9 @@ fn is_last(core: &Core, actor: u64, reply: &Reply, at: u64) -> bool {
     }
 }
 
-/// Actor 1 makes `/a` and `/a/d`, and rows 0 and 1 say so.
-fn two_told(alloc: Global) -> Result<Core, Fail> {
+/// Actor 1 makes `/a` and `/a/d`, and rows 0 and 1 say so. Actor 0 begins to look for `/a/d/f` and
+/// reads both.
+fn half_walked(alloc: Global) -> Result<Core, Fail> {
     let mut core = Core::new(alloc, 1, 2, 16)?;
     change(&mut core, alloc, 1, mkdir(b"/a"))?;
     change(&mut core, alloc, 1, mkdir(b"/a/d"))?;
@@ -117,12 +117,6 @@ fn two_told(alloc: Global) -> Result<Core, Fail> {
         1,
         &named(2, b"d", Some((3, Kind::Dir)))?,
     )?;
-    Ok(core)
-}
-
-/// Actor 0 begins to look for `/a/d/f` and reads both rows.
-fn half_walked(alloc: Global) -> Result<Core, Fail> {
-    let mut core = two_told(alloc)?;
     step(&mut core, alloc, 0, Act::Begin(look(b"/a/d/f")))?;
     note(&mut core, alloc, 0, 0)?;
     note(&mut core, alloc, 0, 1)?;
