@@ -32,7 +32,7 @@ fn object(
 }
 
 /// A number of picoseconds, shown in nanoseconds with one digit behind the point.
-#[derive(Drop)]
+#[derive(Clone, Copy)]
 struct Nanoseconds(u64);
 
 impl fmt::Display for Nanoseconds {
