@@ -221,8 +221,9 @@ impl Drawing {
 
     /// Makes files that are asked through links, in the directories of the last level.
     fn linked(&mut self, firsts: &[Spot], above: &[Spot]) -> Result<(), Fault> {
-        let files = self.level(b"c ", above, self.shape.hot)?;
-        self.link(match self.shape.depth {
+        let Shape { depth, hot, .. } = self.shape;
+        let files = self.level(b"c ", above, hot)?;
+        self.link(match depth {
             0 | 1 => &files,
             2 => above,
             _ => firsts,
