@@ -181,14 +181,20 @@ fn command_of<'a>(alloc: Global, deed: &Deed) -> Result<Command<'a>, Error> {
     with(alloc, command, shape)
 }
 
-fn matches_in<'a>(alloc: Global, words: &'a [String]) -> Result<ArgMatches<'a>, Error> {
-    let mut command = Command::new(alloc, "dcbench")
-        .about(ABOUT)
-        .no_binary_name(true);
+/// A command with these commands below it.
+fn with_deeds<'a>(alloc: Global, command: Command<'a>) -> Result<Command<'a>, Error> {
+    let mut command = command;
     for deed in &DEEDS {
         command = command.subcommand(command_of(alloc, deed)?)?;
     }
-    command.try_get_matches_from(words)
+    Ok(command)
+}
+
+fn matches_in<'a>(alloc: Global, words: &'a [String]) -> Result<ArgMatches<'a>, Error> {
+    let command = Command::new(alloc, "dcbench")
+        .about(ABOUT)
+        .no_binary_name(true);
+    with_deeds(alloc, command)?.try_get_matches_from(words)
 }
 
 /// The number of an option, which has a default.
@@ -250,20 +256,29 @@ fn race_of(matches: &ArgMatches<'_>) -> RaceTask {
     }
 }
 
+fn change_of(matches: &ArgMatches<'_>) -> ChangeTask {
+    ChangeTask {
+        threads: number_of(matches, "threads"),
+        time: time_of(matches),
+        json: matches.get_flag("json"),
+    }
+}
+
+/// What a command and its options ask for.
+fn task_in<'a>(matches: &ArgMatches<'a>) -> Task<'a> {
+    let Some((name, found)) = matches.subcommand() else {
+        return Task::All;
+    };
+    match name {
+        "look" => Task::Look(look_of(found)),
+        "change" => Task::Change(change_of(found)),
+        "race" => Task::Race(race_of(found)),
+        _ => Task::Tree(shape_of(found, Miss::NameByName)),
+    }
+}
+
 /// What the words after the program's name ask for.
 pub fn task_of<'a>(alloc: Global, words: &'a [String]) -> Result<Task<'a>, Fault> {
     let matches = matches_in(alloc, words)?;
-    let Some((name, found)) = matches.subcommand() else {
-        return Ok(Task::All);
-    };
-    Ok(match name {
-        "look" => Task::Look(look_of(found)),
-        "change" => Task::Change(ChangeTask {
-            threads: number_of(found, "threads"),
-            time: time_of(found),
-            json: found.get_flag("json"),
-        }),
-        "race" => Task::Race(race_of(found)),
-        _ => Task::Tree(shape_of(found, Miss::NameByName)),
-    })
+    Ok(task_in(&matches))
 }

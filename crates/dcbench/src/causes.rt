@@ -17,7 +17,7 @@ pub struct Causes {
 }
 
 /// Counts so many more.
-fn add(count: &mut u64, more: u64) {
+pub fn add(count: &mut u64, more: u64) {
     *count = count.saturating_add(more);
 }
 

@@ -1,6 +1,7 @@
 //! Trees that are drawn: names of 1 to 20 bytes, and no bucket with more names than it has rows.
 
 use crate::fault::Fault;
+use crate::tree::with;
 use crate::work::{Shape, Work};
 use dc_names::{BUCKET_ROWS, hash};
 use rand_pcg::Pcg32;
@@ -43,19 +44,14 @@ struct Drawing {
 
 impl Drawing {
     fn new(alloc: Global, shape: Shape) -> Result<Drawing, Fault> {
-        let mut taken = Vec::new(alloc);
-        for _ in 0..shape.buckets {
-            taken.push(0)?;
-        }
-        let lines = Vec::new(alloc);
         Ok(Drawing {
             alloc,
             shape,
             rng: Pcg32::new(shape.depth, 54),
-            taken,
+            taken: vec![in alloc; 0; shape.buckets as usize]?,
             // The root has the number 1.
             next: 2,
-            lines,
+            lines: Vec::new(alloc),
         })
     }
 
@@ -222,13 +218,28 @@ impl Drawing {
         }
         Ok((firsts, above))
     }
-}
 
-/// A name with something behind it.
-fn with(alloc: Global, name: &[u8], ending: &str) -> Result<Vec<u8>, Fault> {
-    let mut text = Vec::from_slice(alloc, name)?;
-    text.extend_from_slice(ending.as_bytes())?;
-    Ok(text)
+    /// Makes files that are asked through links, in the directories of the last level.
+    fn linked(&mut self, firsts: &[Spot], above: &[Spot]) -> Result<(), Fault> {
+        let Shape { depth, hot, .. } = self.shape;
+        let files = self.level(b"c ", above, hot)?;
+        self.link(match depth {
+            0 | 1 => &files,
+            2 => above,
+            _ => firsts,
+        })?;
+        self.ask_through_links(&files)
+    }
+
+    /// Makes the whole tree.
+    fn draw(&mut self) -> Result<(), Fault> {
+        let (firsts, above) = self.directories()?;
+        if let Work::Links = self.shape.work {
+            return self.linked(&firsts, &above);
+        }
+        self.level(b"f ", &above, self.shape.hot)?;
+        Ok(())
+    }
 }
 
 /// How many letters spell a number at least.
@@ -244,17 +255,6 @@ fn letters_of(number: u64) -> u64 {
 /// The lines of a tree of this shape.
 pub fn draw(alloc: Global, shape: Shape) -> Result<Vec<u8>, Fault> {
     let mut drawing = Drawing::new(alloc, shape)?;
-    let (firsts, above) = drawing.directories()?;
-    let linked = matches!(shape.work, Work::Links);
-    let kind: &[u8] = if linked { b"c " } else { b"f " };
-    let files = drawing.level(kind, &above, shape.hot)?;
-    if linked {
-        drawing.link(match shape.depth {
-            0 | 1 => &files,
-            2 => &above,
-            _ => &firsts,
-        })?;
-        drawing.ask_through_links(&files)?;
-    }
+    drawing.draw()?;
     Ok(drawing.lines)
 }

@@ -16,7 +16,7 @@ use std::time::{Duration, Instant};
 const TURN: usize = 64;
 
 /// What all threads of a run share.
-#[derive(Drop)]
+#[derive(Clone, Copy)]
 pub struct Looks<'a> {
     pub alloc: Global,
     pub work: Work,

@@ -1,6 +1,7 @@
 //! Times the cache by its public calls alone, and races look-ups against changes.
 #![tactic(auto)]
 
+mod answers;
 mod args;
 mod causes;
 mod drawing;

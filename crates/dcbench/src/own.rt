@@ -4,6 +4,7 @@ ghost use Rattle.std.specs.Prelude.{IfSome};
 ghost use Rattle.dc_cache.specs.Passes.{IsChange};
 
 use crate::fault::Fault;
+use crate::tree::with;
 use crate::work::Work;
 use dc_cache::{Call, Flags, ROOT};
 use std::alloc::Global;
@@ -42,9 +43,7 @@ fn rename<'a>(old: &'a [u8], new: &'a [u8]) -> Call<'a>
 
 /// A path with some letters and the thread's number behind it.
 fn ending(alloc: Global, path: &[u8], letters: &str, thread: u64) -> Result<Vec<u8>, Fault> {
-    let mut text = Vec::from_slice(alloc, path)?;
-    text.extend_from_slice(format!(in alloc; "{letters}{thread}")?.as_bytes())?;
-    Ok(text)
+    with(alloc, path, &format!(in alloc; "{letters}{thread}")?)
 }
 
 impl Pair {

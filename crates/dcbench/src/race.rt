@@ -97,7 +97,7 @@ impl Course {
 }
 
 /// What all threads of a race share.
-#[derive(Drop)]
+#[derive(Clone, Copy)]
 pub struct Race<'a> {
     pub alloc: Global,
     pub sort: Sort,

@@ -1,5 +1,6 @@
 //! The rows of the tables, as text and as JSON.
 
+use crate::answers::Answers;
 use crate::tally::Tally;
 use crate::work::{Shape, Sort, Work};
 use serde_json::{Map, Value, put};
@@ -31,7 +32,7 @@ fn object(
 }
 
 /// A number of picoseconds, shown in nanoseconds with one digit behind the point.
-#[derive(Drop)]
+#[derive(Clone, Copy)]
 struct Nanoseconds(u64);
 
 impl fmt::Display for Nanoseconds {
@@ -52,6 +53,21 @@ pub struct LookRow {
     pub evicted: u64,
     /// How many rows are filled at the end.
     pub filled: u64,
+}
+
+impl LookRow {
+    /// How the row's look-ups were answered.
+    pub fn answers(&self) -> Answers {
+        let tally = &self.tally;
+        Answers {
+            without_lock: tally.by_fast(),
+            by_filled: tally.by_rows,
+            under_lock: tally.by_lock,
+            causes: tally.causes,
+            in_use: self.filled,
+            evictions: self.evicted,
+        }
+    }
 }
 
 /// What stands above the rows of look-ups.

@@ -1,6 +1,7 @@
 //! How a row of the tables is timed, on a cache made for it.
 
 ghost use Rattle.std.specs.Thread.{IsSync};
+ghost use Rattle.dc_cache.specs.Passes.{Fits};
 
 use crate::fault::Fault;
 use crate::gate::Gate;
@@ -9,7 +10,7 @@ use crate::report::{ChangeRow, LookRow};
 use crate::threads::{Job, spread};
 use crate::tree::{plant, warm};
 use crate::work::{Miss, Shape, Work};
-use dc_cache::{Dcache, PathText};
+use dc_cache::{Dcache, Pass, PathText};
 use std::alloc::Global;
 use std::rt::Clock;
 use std::sync::Wait;
@@ -20,7 +21,7 @@ use std::time::Duration;
 pub const INODES: u64 = 1_048_576;
 
 /// A tree and the paths that are looked up in it.
-#[derive(Drop)]
+#[derive(Clone, Copy)]
 pub struct Plan<'a> {
     pub shape: Shape,
     pub time: Duration,
@@ -28,6 +29,42 @@ pub struct Plan<'a> {
     pub files: &'a [&'a [u8]],
     pub paths: &'a [PathText<'a>],
     pub order: &'a [PathText<'a>],
+}
+
+/// Times look-ups on a cache whose tree is made.
+fn timed_row<R: Threads + Wait + Clock + Sync>(
+    rt: &R,
+    alloc: Global,
+    plan: &Plan<'_>,
+    threads: u64,
+    cache: &Dcache,
+    mut pass: Pass,
+) -> LookRow
+    requires sync { IsSync R.row }
+    requires pass { Fits cache.now pass }
+{
+    let gate = Gate::new(threads);
+    let before = cache.counts().evictions;
+    let job = Job::Look(Looks {
+        alloc,
+        work: plan.shape.work,
+        paths: plan.order,
+        files: plan.files,
+        threads,
+        time: plan.time,
+        miss: plan.shape.miss,
+        gate: &gate,
+    });
+    let other = cache.split(&mut pass);
+    let mut tally = spread(rt, cache, &job, other, 0, threads.saturating_sub(1));
+    tally.sort();
+    LookRow {
+        shape: plan.shape,
+        threads,
+        tally,
+        evicted: cache.counts().evictions.saturating_sub(before),
+        filled: cache.shrink(rt, &mut pass, u64::MAX),
+    }
 }
 
 /// Times one row of look-ups.
@@ -42,28 +79,7 @@ pub fn look_row<R: Threads + Wait + Clock + Sync>(
     let (cache, mut pass) = Dcache::with_buckets(alloc, plan.shape.buckets, INODES)?;
     plant(rt, alloc, &cache, &mut pass, plan.lines)?;
     warm(rt, alloc, &cache, &mut pass, plan.paths);
-    let gate = Gate::new(threads);
-    let before = cache.counts().evictions;
-    let job = Job::Look(Looks {
-        alloc,
-        work: plan.shape.work,
-        paths: plan.order,
-        files: plan.files,
-        threads,
-        time: plan.time,
-        miss: plan.shape.miss,
-        gate: &gate,
-    });
-    let other = cache.split(&mut pass);
-    let mut tally = spread(rt, &cache, &job, other, 0, threads.saturating_sub(1));
-    tally.sort();
-    Ok(LookRow {
-        shape: plan.shape,
-        threads,
-        tally,
-        evicted: cache.counts().evictions.saturating_sub(before),
-        filled: cache.shrink(rt, &mut pass, u64::MAX),
-    })
+    Ok(timed_row(rt, alloc, plan, threads, &cache, pass))
 }
 
 /// Times one row of changes.

@@ -2,7 +2,7 @@
 
 ghost use Rattle.std.specs.Thread.{IsSync};
 
-use crate::causes::Causes;
+use crate::answers::Answers;
 use crate::drawing::draw;
 use crate::fault::Fault;
 use crate::order::{ordered, texts_of};
@@ -47,24 +47,23 @@ fn text_of<R: Files + AllocGlobal>(
     }
 }
 
-/// Times rows of look-ups by these numbers of threads. Answers why look-ups took the lock, here and
-/// below.
+/// Times rows of look-ups by these numbers of threads. Answers how they were answered, here and below.
 fn look_rows<R: Threads + Wait + Clock + Sync + Print>(
     rt: &R,
     alloc: Global,
     plan: &Plan<'_>,
     json: bool,
     threads: &[u64],
-) -> Result<Causes, Fault>
+) -> Result<Answers, Fault>
     requires { IsSync R.row }
 {
-    let mut causes = Causes::default();
+    let mut answers = Answers::default();
     for threads in threads {
         let row = look_row(rt, alloc, plan, *threads)?;
         tell(rt, alloc, &row, json)?;
-        causes.take_in(&row.tally.causes);
+        answers.take_in(&row.answers());
     }
-    Ok(causes)
+    Ok(answers)
 }
 
 /// Times look-ups of these files of a tree.
@@ -75,7 +74,7 @@ fn look_files<R: Threads + Wait + Clock + Sync + Print>(
     lines: &[&[u8]],
     files: &[&[u8]],
     threads: &[u64],
-) -> Result<Causes, Fault>
+) -> Result<Answers, Fault>
     requires { IsSync R.row }
 {
     let texts = texts_of(alloc, task.shape, files)?;
@@ -101,7 +100,7 @@ fn look_by<R: Threads + Wait + Clock + Sync + Print + Files + AllocGlobal>(
     alloc: Global,
     task: &LookTask<'_>,
     threads: &[u64],
-) -> Result<Causes, Fault>
+) -> Result<Answers, Fault>
     requires { IsSync R.row }
 {
     let text = text_of(rt, alloc, task)?;
@@ -181,10 +180,10 @@ fn looks_at<R: Threads + Wait + Clock + Sync + Print + Files + AllocGlobal>(
     rt: &R,
     alloc: Global,
     depth: u64,
-) -> Result<Causes, Fault>
+) -> Result<Answers, Fault>
     requires { IsSync R.row }
 {
-    let mut causes = Causes::default();
+    let mut answers = Answers::default();
     for work in Work::ALL {
         let shape = Shape {
             work,
@@ -200,17 +199,17 @@ fn looks_at<R: Threads + Wait + Clock + Sync + Print + Files + AllocGlobal>(
             tree: None,
             json: false,
         };
-        causes.take_in(&look_by(rt, alloc, &task, &[1, 4])?);
+        answers.take_in(&look_by(rt, alloc, &task, &[1, 4])?);
     }
-    Ok(causes)
+    Ok(answers)
 }
 
 /// How many milliseconds each row of the table of everything is timed.
 const BRIEFLY: u64 = 300;
 
-/// Tells on standard error why look-ups took the lock.
-fn explain<R: Eprint>(rt: &R, causes: &Causes) {
-    let _ = eprintln!(rt; "{causes}");
+/// Tells on standard error how look-ups were answered.
+fn explain<R: Eprint>(rt: &R, answers: &Answers) {
+    let _ = eprintln!(rt; "{answers}");
 }
 
 /// The table of everything.
@@ -221,11 +220,10 @@ fn all<R: Threads + Wait + Clock + Sync + Print + Eprint + Files + AllocGlobal>(
     requires { IsSync R.row }
 {
     say(rt, LOOK_HEAD)?;
-    let mut causes = Causes::default();
+    let mut answers = Answers::default();
     for depth in [1, 4, 8] {
-        causes.take_in(&looks_at(rt, alloc, depth)?);
+        answers.take_in(&looks_at(rt, alloc, depth)?);
     }
-    explain(rt, &causes);
     say(rt, CHANGE_HEAD)?;
     let task = ChangeTask {
         threads: 4,
@@ -233,7 +231,9 @@ fn all<R: Threads + Wait + Clock + Sync + Print + Eprint + Files + AllocGlobal>(
         json: false,
     };
     change_by(rt, alloc, &task, &[1, 2, 4])?;
-    races(rt, alloc)
+    races(rt, alloc)?;
+    explain(rt, &answers);
+    Ok(())
 }
 
 /// Prints a head unless lines of JSON are wanted.
@@ -260,10 +260,10 @@ pub fn perform<R: Threads + Wait + Clock + Sync + Print + Eprint + Files + Alloc
         Task::All => all(rt, alloc),
         Task::Look(look) => {
             head(rt, LOOK_HEAD, look.json)?;
-            let causes = look_by(rt, alloc, look, &up_to(alloc, look.threads)?)?;
+            let answers = look_by(rt, alloc, look, &up_to(alloc, look.threads)?)?;
             // A line of JSON has them.
             if !look.json {
-                explain(rt, &causes);
+                explain(rt, &answers);
             }
             Ok(())
         }

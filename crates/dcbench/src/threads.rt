@@ -12,7 +12,7 @@ use std::sync::Wait;
 use std::thread::{Threads, join};
 
 /// What the threads do.
-#[derive(Drop)]
+#[derive(Clone, Copy)]
 pub enum Job<'a> {
     Look(Looks<'a>),
     Race(Race<'a>),

@@ -119,14 +119,19 @@ pub fn asked_in<'a>(alloc: Global, lines: &[&'a [u8]]) -> Result<Vec<&'a [u8]>, 
     Ok(asked)
 }
 
-/// A path with something behind it, and a number but for 0.
-fn ending_in(alloc: Global, path: &[u8], ending: &str, number: u64) -> Result<Vec<u8>, Fault> {
+/// A name or a path with something behind it.
+pub fn with(alloc: Global, path: &[u8], ending: &str) -> Result<Vec<u8>, Fault> {
     let mut text = Vec::from_slice(alloc, path)?;
     text.extend_from_slice(ending.as_bytes())?;
-    if number > 0 {
-        text.extend_from_slice(format!(in alloc; "{number}")?.as_bytes())?;
-    }
     Ok(text)
+}
+
+/// A path with something behind it, and a number but for 0.
+fn ending_in(alloc: Global, path: &[u8], ending: &str, number: u64) -> Result<Vec<u8>, Fault> {
+    match number {
+        0 => with(alloc, path, ending),
+        _ => with(alloc, path, &format!(in alloc; "{ending}{number}")?),
+    }
 }
 
 /// Each path with something behind it, `count` times over with a number from 0.
