@@ -1,0 +1,95 @@
+-- What a change takes away: what stood at the name that goes, or that another inode gets.
+use Rattle.std.specs.Prelude.{◌≡◌, ℕ, ◌==◌, ◌||◌, List, Bool, Option, Some, None, option_map, if◌then◌else◌, Result, Ok, Err}
+use Rattle.dc_names.specs.declared.refusal.Refusal.{Refusal}
+use Rattle.dc_plain.specs.Facts.{Target}
+use Rattle.dc_plain.specs.IsWellFormed.{IsWellFormed}
+use Rattle.dc_plain.specs.Operations.{same_inode}
+use Rattle.dc_plain.specs.Refusals.{walk_on}
+use Rattle.dc_plain.specs.Requests.{Request, Answer}
+use Rattle.dc_plain.specs.Requests.Answer.{Found, Done, Nothing, Bytes, Names, Counted, Refused}
+use Rattle.dc_plain.specs.Requests.Request.{Look, Readlink, Stat, List_names, Mkdir, Create, Hard_link, Symlink, Unlink, Rmdir, Rename}
+use Rattle.dc_plain.specs.Resolution.{is_directory}
+use Rattle.dc_plain.specs.Runs.{reply_of}
+use Rattle.dc_plain.specs.Trees.{Tree, names_of, target_at}
+use Rattle.dc_plain.specs.declared.call.Follow.TheVariants as follow
+use Rattle.dc_plain.specs.declared.call.Reply.{Reply}
+use Rattle.dc_plain.specs.declared.call.Stamped.{Stamped}
+use Rattle.dc_events.specs.Standing.{tree_of}
+use Rattle.dc_rows.specs.Outcomes.{Makes}
+use Rattle.dc_rows.specs.declared.fault.ChangeFault.{ChangeFault}
+use Rattle.dc_table.specs.Passes as seats
+use Rattle.dc_cache.specs.Answers.{Made}
+use Rattle.dc_cache.specs.Passes.{known, share}
+use Rattle.dc_cache.specs.declared.cache.Pass.{Pass}
+use Rattle.dc_cache.specs.declared.gone.Gone.{Gone}
+
+-- what a walk found, if anything
+abbrev pub found : Result Target Refusal → Option Target
+found (Ok place) = Some place
+found (Err refusal) = None
+
+-- what a path leads to, if anything; a last link isn't followed
+abbrev pub leads_to : Tree → ℕ → List ℕ → Option Target
+leads_to t base path = found (walk_on t base path follow.No)
+
+-- what stands where a name is moved to, unless that is the inode that is moved
+abbrev pub replaced : Option Target → Option Target → Option Target
+replaced None there = None
+replaced (Some moved) there = if same_inode moved there then None else there
+
+-- what the name leads to that a call takes: an unlink or a rmdir its path, a rename without exchange its new path
+abbrev pub taken_by : Tree → Request → Option Target
+taken_by t (Unlink base path) = leads_to t base path
+taken_by t (Rmdir base path) = leads_to t base path
+taken_by t (Rename base old new flags) = if flags.exchange then None else replaced (leads_to t base old) (leads_to t base new)
+taken_by t (Look base path how) = None
+taken_by t (Readlink base path) = None
+taken_by t (Stat base path) = None
+taken_by t (List_names base path) = None
+taken_by t (Mkdir base path) = None
+taken_by t (Create base path) = None
+taken_by t (Hard_link base old new) = None
+taken_by t (Symlink base text path) = None
+
+-- whether an inode goes with one of its names: a directory does, and another one that has one name
+abbrev pub goes_with_a_name : Tree → Target → Bool
+goes_with_a_name t place = is_directory place || names_of t place.0 == 1
+
+-- what goes if the call isn't refused
+abbrev pub going_by : Tree → Request → Option Gone
+going_by t call = option_map (λ place. record { number = place.0; kind = place.1; last = goes_with_a_name t place }) (taken_by t call)
+
+-- nothing goes by a call that is refused
+abbrev pub unless_refused : Answer → Option Gone → Option Gone
+unless_refused (Refused number) gone = None
+unless_refused (Found number kind) gone = gone
+unless_refused (Done number) gone = gone
+unless_refused Nothing gone = gone
+unless_refused (Bytes bytes) gone = gone
+unless_refused (Names names) gone = gone
+unless_refused (Counted number kind count) gone = gone
+
+-- what a call takes away from a tree
+abbrev pub gone_of : ℕ → Tree → Request → Option Gone
+gone_of limit t call = unless_refused (reply_of limit t call) (going_by t call)
+
+-- what a change took away that was made after this history; nothing where it wasn't made
+abbrev pub gone_by : ℕ → List Request → Request → Result Stamped ChangeFault → Option Gone
+gone_by limit history call (Ok stamped) = gone_of limit (tree_of limit history) call
+gone_by limit history call (Err fault) = None
+
+-- an answer as its reply with its point
+abbrev pub parted : Result Stamped ChangeFault → Result (Reply × ℕ) ChangeFault
+parted (Ok stamped) = Ok (stamped.reply, stamped.at)
+parted (Err fault) = Err fault
+
+-- a change was made after some history, or wasn't, and what it took away from the tree of that history was told
+pub record TakesAway (p q : Pass) (call : Request) (result : Result Stamped ChangeFault) (gone : Option Gone) : Type 0 where
+  pub made : Made p q call result
+  pub history : List Request
+  pub makes : Makes history (known q).got p.seat q.seat call (parted result)
+  pub told : gone ≡ gone_by (share p).limit history call result
+
+-- in a tree that calls can make, this inode lives and is of that kind
+abbrev pub LivesIfWell : Tree → Target → Type 0
+LivesIfWell t place = IsWellFormed t → target_at t place.0 ≡ Some place
