@@ -5,11 +5,10 @@ use Rattle.dc_plain.specs.Facts.{Target}
 use Rattle.dc_plain.specs.IsWellFormed.{IsWellFormed}
 use Rattle.dc_plain.specs.Operations.{same_inode}
 use Rattle.dc_plain.specs.Refusals.{walk_on}
-use Rattle.dc_plain.specs.Requests.{Request, Answer}
+use Rattle.dc_plain.specs.Requests.{Request, Answer, answer_of}
 use Rattle.dc_plain.specs.Requests.Answer.{Found, Done, Nothing, Bytes, Names, Counted, Refused}
 use Rattle.dc_plain.specs.Requests.Request.{Look, Readlink, Stat, List_names, Mkdir, Create, Hard_link, Symlink, Unlink, Rmdir, Rename}
 use Rattle.dc_plain.specs.Resolution.{is_directory}
-use Rattle.dc_plain.specs.Runs.{reply_of}
 use Rattle.dc_plain.specs.Trees.{Tree, names_of, target_at}
 use Rattle.dc_plain.specs.declared.call.Follow.TheVariants as follow
 use Rattle.dc_plain.specs.declared.call.Reply.{Reply}
@@ -17,7 +16,6 @@ use Rattle.dc_plain.specs.declared.call.Stamped.{Stamped}
 use Rattle.dc_events.specs.Standing.{tree_of}
 use Rattle.dc_rows.specs.Outcomes.{Makes}
 use Rattle.dc_rows.specs.declared.fault.ChangeFault.{ChangeFault}
-use Rattle.dc_table.specs.Passes as seats
 use Rattle.dc_cache.specs.Answers.{Made}
 use Rattle.dc_cache.specs.Passes.{known, share}
 use Rattle.dc_cache.specs.declared.cache.Pass.{Pass}
@@ -55,40 +53,36 @@ taken_by t (Symlink base text path) = None
 abbrev pub goes_with_a_name : Tree → Target → Bool
 goes_with_a_name t place = is_directory place || names_of t place.0 == 1
 
--- what goes if the call isn't refused
-abbrev pub going_by : Tree → Request → Option Gone
-going_by t call = option_map (λ place. record { number = place.0; kind = place.1; last = goes_with_a_name t place }) (taken_by t call)
+-- what a call takes away from a tree, unless it is refused
+abbrev pub gone_of : Tree → Request → Option Gone
+gone_of t call = option_map (λ place. record { number = place.0; kind = place.1; last = goes_with_a_name t place }) (taken_by t call)
 
 -- nothing goes by a call that is refused
 abbrev pub unless_refused : Answer → Option Gone → Option Gone
-unless_refused (Refused number) gone = None
-unless_refused (Found number kind) gone = gone
-unless_refused (Done number) gone = gone
-unless_refused Nothing gone = gone
-unless_refused (Bytes bytes) gone = gone
-unless_refused (Names names) gone = gone
-unless_refused (Counted number kind count) gone = gone
+unless_refused (Refused number) lost = None
+unless_refused (Found number kind) lost = lost
+unless_refused (Done number) lost = lost
+unless_refused Nothing lost = lost
+unless_refused (Bytes bytes) lost = lost
+unless_refused (Names names) lost = lost
+unless_refused (Counted number kind count) lost = lost
 
--- what a call takes away from a tree
-abbrev pub gone_of : ℕ → Tree → Request → Option Gone
-gone_of limit t call = unless_refused (reply_of limit t call) (going_by t call)
-
--- what a change took away that was made after this history; nothing where it wasn't made
-abbrev pub gone_by : ℕ → List Request → Request → Result Stamped ChangeFault → Option Gone
-gone_by limit history call (Ok stamped) = gone_of limit (tree_of limit history) call
-gone_by limit history call (Err fault) = None
+-- nor by a change that isn't made
+abbrev pub if_made : Result Stamped ChangeFault → Option Gone → Option Gone
+if_made (Ok stamped) lost = unless_refused (answer_of stamped.reply) lost
+if_made (Err fault) lost = None
 
 -- an answer as its reply with its point
 abbrev pub parted : Result Stamped ChangeFault → Result (Reply × ℕ) ChangeFault
 parted (Ok stamped) = Ok (stamped.reply, stamped.at)
 parted (Err fault) = Err fault
 
--- a change was made after some history, or wasn't, and what it took away from the tree of that history was told
-pub record TakesAway (p q : Pass) (call : Request) (result : Result Stamped ChangeFault) (gone : Option Gone) : Type 0 where
+-- a change was made after some history, or wasn't, and what is told is what it took away from the tree of that history
+pub record TakesAway (p q : Pass) (call : Request) (result : Result Stamped ChangeFault) (told : Option Gone) : Type 0 where
   pub made : Made p q call result
   pub history : List Request
   pub makes : Makes history (known q).got p.seat q.seat call (parted result)
-  pub told : gone ≡ gone_by (share p).limit history call result
+  pub gone : told ≡ if_made result (gone_of (tree_of (share p).limit history) call)
 
 -- in a tree that calls can make, this inode lives and is of that kind
 abbrev pub LivesIfWell : Tree → Target → Type 0

@@ -1,7 +1,7 @@
 //! What a change takes away.
 
 ghost use Rattle.std.specs.Prelude.{◌≡◌};
-ghost use Rattle.dc_cache.specs.Losses.{goes_with_a_name, going_by, leads_to, taken_by, LivesIfWell};
+ghost use Rattle.dc_cache.specs.Losses.{goes_with_a_name, gone_of, leads_to, taken_by, LivesIfWell};
 ghost use Rattle.dc_plain.specs.Requests.{request_of};
 
 use dc_names::Kind;
@@ -72,7 +72,7 @@ fn is_last(store: &SlabStore, number: u64, kind: Kind) -> bool
 
 /// What a change would take away, as it stands before the change.
 pub(crate) fn going(store: &SlabStore, call: &Call<'_>) -> Option<Gone>
-    ensures { result ≡ going_by store.now (request_of call.now) }
+    ensures { result ≡ gone_of store.now (request_of call.now) }
 {
     paths_lead_to_the_living();
     let (number, kind) = taken(store, call)?;
