@@ -5,12 +5,14 @@ use Rattle.dc_names.specs.declared.kind.Kind.{Kind}
 use Rattle.dc_names.specs.declared.kind.Kind.TheVariants.{Dir, File, Link}
 use Rattle.dc_names.specs.declared.refusal.Refusal.{Refusal}
 use Rattle.dc_plain.specs.declared.call.Follow.TheVariants as follow
+use Rattle.dc_plain.specs.declared.call.Reply.{Reply}
+use Rattle.dc_plain.specs.declared.call.Reply.TheVariants as replies
 use Rattle.dc_plain.specs.Facts.{Target}
 use Rattle.dc_plain.specs.IsWellFormed.{IsWellFormed, Lives}
 use Rattle.dc_plain.specs.LivingLaws.{WalksLeadToTheLiving}
 use Rattle.dc_plain.specs.Operations.{operation, settled, left_alone, same_inode}
 use Rattle.dc_plain.specs.Refusals.{◌>>=◌, walk_on}
-use Rattle.dc_plain.specs.Requests.{Request, Answer}
+use Rattle.dc_plain.specs.Requests.{Request, Answer, answer_of}
 use Rattle.dc_plain.specs.Requests.Answer.{Found, Done, Nothing, Bytes, Names, Counted, Refused}
 use Rattle.dc_plain.specs.Requests.Request.{Look, Readlink, Stat, List_names, Mkdir, Create, Hard_link, Symlink, Unlink, Rmdir, Rename}
 use Rattle.dc_plain.specs.Reads.{count_at}
@@ -35,6 +37,16 @@ by_walk t (Err refusal) = refl
 
 pub found_by : (t : Tree) (base : ℕ) (path : List ℕ) (answer : Answer) → operation 0 t (Look base path follow.No) ≡ (answer, t) → found_in answer ≡ leads_to t base path
 found_by t base path answer e = sym (by_walk t (walk_on t base path follow.No) ∙ ap (λ (done : Answer × Tree). found_in done.0) e)
+
+-- a reply that finds nothing
+pub not_found : (reply : Reply) → ((n : ℕ) (k : Kind) → reply ≡ replies.Found n k → ⊥) → found_in (answer_of reply) ≡ None
+not_found (replies.Found n k) other = absurd (other n k refl)
+not_found (replies.Done number) other = refl
+not_found replies.Unit other = refl
+not_found (replies.Text bytes) other = refl
+not_found (replies.Names names) other = refl
+not_found (replies.Stat number kind count) other = refl
+not_found (replies.Refused number) other = refl
 
 walked : (r : Result Target Refusal) (place : Target) → found r ≡ Some place → r ≡ Ok place
 walked (Ok other) place e = let same : other ≡ place = cc in ap Ok same
@@ -65,7 +77,7 @@ taken_live living t (Create base path) place e = absurd cc
 taken_live living t (Hard_link base old new) place e = absurd cc
 taken_live living t (Symlink base text path) place e = absurd cc
 
-named : (t : Tree) (n : ℕ) (k : Kind) (o : Option Inode) → inode_of t n ≡ o → option_map (λ inode. (n, kind_of inode)) o ≡ Some (n, k) → k ≢ Dir → ((inode : Inode) → inode_of t n ≡ Some inode → Lives t n inode) → 1 ≤ names_of t n
+named : (t : Tree) (n : ℕ) (k : Kind) (o : Option Inode) → inode_of t n ≡ o → option_map {U = Target} (λ inode. (n, kind_of inode)) o ≡ Some (n, k) → k ≢ Dir → ((inode : Inode) → inode_of t n ≡ Some inode → Lives t n inode) → 1 ≤ names_of t n
 named t n k None e is apart lives = absurd cc
 named t n k (Some Directory) e is apart lives = let same : (n, Dir) ≡ (n, k) = cc in absurd (apart (sym (ap (λ (p : Target). p.1) same)))
 named t n k (Some Regular) e is apart lives = (lives Regular e).reached.0
