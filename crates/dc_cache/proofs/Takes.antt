@@ -6,11 +6,9 @@ use Rattle.dc_plain.specs.Trees.{Tree}
 use Rattle.dc_plain.specs.declared.call.Reply.{Reply}
 use Rattle.dc_plain.specs.declared.call.Stamped.{Stamped}
 use Rattle.dc_events.specs.Standing.{tree_of}
-use Rattle.dc_events.specs.Views.{View}
-use Rattle.dc_rows.specs.Changes.{Failed}
 use Rattle.dc_rows.specs.Outcomes.{Makes, RowsAfter}
 use Rattle.dc_rows.specs.declared.fault.ChangeFault.{ChangeFault}
-use Rattle.dc_table.specs.Changes.{NothingNew, Recorded}
+use Rattle.dc_table.specs.Changes.{NothingNew}
 use Rattle.dc_table.specs.Passes.{known, share, view}
 use Rattle.dc_table.specs.Passes as seats
 use Rattle.dc_table.specs.Plays.{Took, rows_as}

@@ -30,12 +30,12 @@ found (Err refusal) = None
 abbrev pub leads_to : Tree → ℕ → List ℕ → Option Target
 leads_to t base path = found (walk_on t base path follow.No)
 
--- what stands where a name is moved to, unless that is the inode that is moved
+-- what stands where an inode is moved to, unless it is that inode
 abbrev pub replaced : Option Target → Option Target → Option Target
 replaced None there = None
 replaced (Some moved) there = if same_inode moved there then None else there
 
--- what the name leads to that a call takes: an unlink or a rmdir its path, a rename without exchange its new path
+-- what the name leads to that a call takes: that of an unlink or a rmdir, and the new one of a rename without exchange
 abbrev pub taken_by : Tree → Request → Option Target
 taken_by t (Unlink base path) = leads_to t base path
 taken_by t (Rmdir base path) = leads_to t base path
