@@ -1,2 +1,4 @@
 pub mod Tellings
 pub mod ReadLinks
+pub mod Taken
+pub mod Takes

@@ -4,3 +4,4 @@ pub mod Passes
 pub mod Answers
 pub mod Fillings
 pub mod Links
+pub mod Losses

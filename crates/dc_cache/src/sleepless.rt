@@ -2,6 +2,7 @@
 
 ghost use Rattle.std.specs.Prelude.{◌≡◌, ◌*◌, ◌+◌, ◌≤◌, ◌↔◌, [], true, false, Err, None, IsOk, IfOk, IfErr, IfSome, IfNone, IsSome};
 ghost use Rattle.dc_cache.specs.Answers.{Answered, IfFast, Loaded, Made, Told};
+ghost use Rattle.dc_cache.specs.Losses.{TakesAway};
 ghost use Rattle.dc_cache.specs.Passes.{buckets_of, known, view, share, FitsSleepless, Missed, Shrinks};
 ghost use Rattle.dc_events.specs.Rows.{most};
 ghost use Rattle.dc_names.specs.Tables.{fit_a_table};
@@ -207,7 +208,8 @@ impl Sleepless {
         requires pass { FitsSleepless self.now pass.old }
         requires change { IsChange call.now }
         ensures same { FitsSleepless self.now pass.new × (share pass.new ≡ share pass.old) }
-        ensures made { IfSome result (λ r. Made pass.old pass.new (request_of call.now) r.0) }
+        ensures made { IfSome result (λ r.
+            TakesAway pass.old pass.new (request_of call.now) r.0 r.1) }
         ensures within { IfSome result (λ _. (view pass.new).book.seen ≤ most) }
         ensures held { IfNone result (Missed pass.old pass.new) }
     {

@@ -3,6 +3,7 @@
 
 ghost use Rattle.std.specs.Prelude.{◌≡◌, ◌≤◌, Some, IfSome, IfNone};
 ghost use Rattle.dc_cache.specs.Answers.{Answered, Made, Told};
+ghost use Rattle.dc_cache.specs.Losses.{if_made, parted, TakesAway};
 ghost use Rattle.dc_cache.specs.Passes.{view, share, FitsTable, Missed, Shrinks};
 ghost use Rattle.dc_events.specs.Rows.{most};
 ghost use Rattle.dc_names.specs.Paths.{fault_of};
@@ -101,6 +102,24 @@ pub(crate) fn try_change(
     }
 }
 
+/// What a change came to, with what it took away: nothing if it was refused or isn't made.
+fn told(
+    made: Result<(Reply, u64), ChangeFault>,
+    gone: Option<Gone>,
+) -> (Result<Stamped, ChangeFault>, Option<Gone>)
+    ensures made { parted result.0 ≡ made }
+    ensures gone { result.1 ≡ if_made result.0 gone }
+{
+    match made {
+        Ok((Reply::Refused(number), at)) => {
+            let reply = Reply::Refused(number);
+            (Ok(Stamped { reply, at }), None)
+        }
+        Ok((reply, at)) => (Ok(Stamped { reply, at }), gone),
+        Err(fault) => (Err(fault), None),
+    }
+}
+
 /// Makes a change, and tells what its name lost, as it stood under the same hold of the lock.
 pub(crate) fn try_change_telling(
     shared: &Shared,
@@ -111,23 +130,17 @@ pub(crate) fn try_change_telling(
     requires pass { FitsTable shared.now pass.old }
     requires change { IsChange call.now }
     ensures same { FitsTable shared.now pass.new × (share pass.new ≡ share pass.old) }
-    ensures made { IfSome result (λ r. Made pass.old pass.new (request_of call.now) r.0) }
+    ensures made { IfSome result (λ r.
+        TakesAway pass.old pass.new (request_of call.now) r.0 r.1) }
     ensures within { IfSome result (λ _. (view pass.new).book.seen ≤ most) }
     ensures held { IfNone result (Missed pass.old pass.new) }
 {
     match Guard::try_lock(shared, &mut pass.seat) {
         Ok(guard) => {
             let gone = going(guard.store(), call);
-            let (back, result) = guard.change(alloc, call);
+            let (back, made) = guard.change(alloc, call);
             let _seat = back;
-            Some(match result {
-                Ok((Reply::Refused(number), at)) => {
-                    let reply = Reply::Refused(number);
-                    (Ok(Stamped { reply, at }), None)
-                }
-                Ok((reply, at)) => (Ok(Stamped { reply, at }), gone),
-                Err(fault) => (Err(fault), None),
-            })
+            Some(told(made, gone))
         }
         Err(_seat) => None,
     }

@@ -11,6 +11,7 @@ use Rattle.dc_rows.specs.declared.fault.ChangeFault.{ChangeFault}
 use Rattle.dc_walk.specs.declared.answer.Fast as walk
 use Rattle.dc_cache.specs.Answers.{Answered, IfFast, Loaded, Made, Told}
 use Rattle.dc_cache.specs.Calls.{Request, Stamped}
+use Rattle.dc_cache.specs.Losses.{TakesAway}
 use Rattle.dc_cache.specs.Passes.{known, view, Missed, SameCache, Shrinks}
 use Rattle.dc_cache.specs.declared.cache.Pass.{Pass}
 use Rattle.dc_cache.specs.declared.gone.Gone as cache
@@ -54,7 +55,7 @@ abbrev pub Taken : Type 0
 Taken = Change × Option cache.Gone
 
 abbrev pub MayTake : Request → Pass → Pass → Option Taken → Type 0
-MayTake call p q tried = MatchOption tried (Missed p q) (λ taken. Made p q call taken.0)
+MayTake call p q tried = MatchOption tried (Missed p q) (λ taken. TakesAway p q call taken.0 taken.1)
 
 -- a read whose answer takes memory
 abbrev pub Read : Type 0

@@ -4,6 +4,7 @@ ghost use Rattle.std.specs.Prelude.{◌≡◌, ◌-◌, ◌^◌, ◌≤◌, ◌�
 ghost use Rattle.std.specs.Arc.{arc_value};
 ghost use Rattle.dc_cache.specs.Answers.{Answered, IfFast, Loaded, Made, Told};
 ghost use Rattle.dc_cache.specs.Calls.{look, stat, readlink, list, request_of};
+ghost use Rattle.dc_cache.specs.Losses.{TakesAway};
 ghost use Rattle.dc_cache.specs.Passes.{view, FitsSleepless, IsChange, Missed, Shrinks};
 ghost use Rattle.dc_hold.specs.Allowed.{IsFirst, IsSplit};
 ghost use Rattle.dc_hold.specs.Fitting.{fits_prop};
@@ -176,7 +177,7 @@ impl Hold {
     ) -> Option<(Result<Stamped, ChangeFault>, Option<Gone>)>
         requires change { IsChange call.now }
         ensures made { IfSome result (λ r.
-            Made self.old.pass self.new.pass (request_of call.now) r.0) }
+            TakesAway self.old.pass self.new.pass (request_of call.now) r.0 r.1) }
         ensures held { IfNone result (Missed self.old.pass self.new.pass) }
     {
         self.common

@@ -4,7 +4,7 @@ use Rattle.std.specs.Borrow.{MutBor}
 use Rattle.dc_names.specs.declared.NoMemory.{NoMemory}
 use Rattle.dc_plain.specs.Facts.{Key}
 use Rattle.dc_plain.specs.Requests.{Request, answer_of}
-use Rattle.dc_plain.specs.Runs.{tree_after, Touches}
+use Rattle.dc_plain.specs.Runs.{reply_of, tree_after, Touches}
 use Rattle.dc_plain.specs.declared.call.Reply.{Reply}
 use Rattle.dc_index.specs.Slots.{slot_of}
 use Rattle.dc_index.specs.Slots.Slot.{Holds as Held}
@@ -35,12 +35,13 @@ RowsAfter limit history s t call (Ok made) = let tree = tree_of limit history in
 RowsAfter limit history s t call (Err faults.NoMemory) = let tree = tree_of limit history in Turns (Retold tree) (Touches limit tree call) s t
 RowsAfter limit history s t call (Err faults.Spent) = t ≡ s
 
--- a change was recorded with its reply, or none is and why not; the rows were these before, and are those that the pass has left
+-- a change was recorded with its reply, which it has on the tree after this history, or none is and why not; the rows were these before, and are those that the pass has left
 pub record Makes (history : List Request) (s : RowState) (p q : Pass) (call : Request) (result : Result (Reply × ℕ) ChangeFault) : Type 0 where
   pub done : IfOk result (λ made. Recorded (view p) (view q) call (answer_of made.0) made.1)
   pub fault : IfErr result (Failed (share p).limit (view p) (view q) call)
   pub within : (view q).book.seen ≤ most
   pub at : IfOk result (λ made. made.1 ≡ length history)
+  pub replied : IfOk result (λ made. answer_of made.0 ≡ reply_of (share p).limit (tree_of (share p).limit history) call)
   pub rows : RowsAfter (share p).limit history s (known q).left call result
 
 -- the same by a guard's pass, and by a pass that got the lock for it

@@ -1,5 +1,6 @@
-use Rattle.std.proofs.Common.{◌≡◌, ℕ, ◌∙◌, ap, subst, subst₂, rules}
+use Rattle.std.proofs.Common.{◌≡◌, ℕ, ◌∙◌, sym, ap, subst, subst₂, rules}
 use Rattle.dc_plain.specs.Requests.{request_of, answer_of}
+use Rattle.dc_plain.specs.Operations.{operation}
 use Rattle.dc_plain.specs.Runs.{tree_after, Touches}
 use Rattle.dc_plain.specs.Trees.{Tree}
 use Rattle.dc_table.specs.Changes.{tree_now}
@@ -13,12 +14,14 @@ use Rattle.dc_rows.proofs.guard.Guard.change.Goals as goal
 
 pub returns-in-Err-clause-made : goal.returns-in-Err-clause-made
 returns-in-Err-clause-made c = let g = c.args.self in let call = request_of c.args.call.now in let limit = (share (seat_of g)).limit in let tree = tree_now (seat_of g) in
-    let same : tree_after limit tree call ≡ tree = subst₂ (λ (n : ℕ) (t : Tree). tree_after n t call ≡ t) (ap (λ (y : Guarded). y.max_inodes) c.deref-3.ensures ∙ g.rests.same_limit) (ap (λ (y : Guarded). y.store) c.deref-2.ensures ∙ g.rests.tree)
-    (ap (λ x. x.1) c.in-Err.ensures.declined.operation) in record {
+    let settled : operation limit tree call ≡ (answer_of c.in-Err.reply, tree) = subst₂ (λ (n : ℕ) (t : Tree). operation n t call ≡ (answer_of c.in-Err.reply, t)) (ap (λ (y : Guarded). y.max_inodes) c.deref-3.ensures ∙ g.rests.same_limit) (ap (λ (y : Guarded). y.store) c.deref-2.ensures ∙ g.rests.tree)
+    c.in-Err.ensures.declined.operation in
+    let same : tree_after limit tree call ≡ tree = ap (λ x. x.1) settled in record {
       done = search rules;
       fault = search rules;
       within = search rules;
       at = ap (λ (y : Guarded). y.clock) c.deref.ensures ∙ g.rests.clock;
+      replied = sym (ap (λ x. x.0) settled);
       rows = rows_stay (Retold (tree_after limit tree call)) (Touches limit tree call) (rows_of g) (known c.answer.result.now).left g.rests.rest.fit.agree c.answer.ensures.freed.left (untouched limit tree call same);
     }
 
@@ -29,6 +32,7 @@ returns-in-Ok-altered-clause-made c = let g = c.args.self in let call = request_
       fault = search rules;
       within = search rules;
       at = ap (λ (y : Guarded). y.clock) c.deref.ensures ∙ g.rests.clock;
+      replied = c.in-Ok-altered.ensures.ok.replied;
       rows = retold_as store (tree_after limit tree call) keys (rows_of g) after (known c.give-pass.result.now).left
           (a.ensures.home.tree ∙ altered_tree (seat_of g) a.new.holder.pass.now call (answer_of c.in-Ok-altered.reply) c.in-Ok-altered.ensures.ok) c.give-pass.ensures.freed.left
           (subst (λ (x : Guarded). Turns (Retold store) keys (rows_held g.holder x) after) c.deref_mut.ensures.value a.ensures.rows);
