@@ -60,7 +60,7 @@ pub nothing_again : {u v w : View} → NothingNew u v → NothingNew v w → Not
 nothing_again a b = let x = a.later in let y = b.later in record { own = b.own ∙ a.own; joined = b.joined ∙ a.joined; later = omega arith }
 
 pub untried_again : {k l m : Known} → HasNotTried k l → HasNotTried l m → HasNotTried k m
-untried_again a b = record { tries = b.tries ∙ a.tries; got = b.got ∙ a.got; left = b.left ∙ a.left }
+untried_again a b = record { tries = b.tries ∙ a.tries; got = b.got ∙ a.got; left = b.left ∙ a.left; past = b.past ∙ a.past }
 
 pub between_again : {locks : Bool} {u v w : View} → Between locks u v → Between locks v w → Between locks u w
 between_again a b = record {
@@ -75,7 +75,7 @@ stays_so locks f = record {
   same = record { reader = refl; pass = refl; used = refl; look = refl; same_pass = record { table = refl; id = refl; same_share = refl } };
   told = record { entry = λ d label found told. told; text = λ n bytes told. told };
   walk = record { call = refl; first_load = refl; nothing = nothing_still (now_in f); book = λ free. refl };
-  untried = λ free. record { tries = refl; got = refl; left = refl };
+  untried = λ free. record { tries = refl; got = refl; left = refl; past = refl };
   good = λ is. is;
 }
 
