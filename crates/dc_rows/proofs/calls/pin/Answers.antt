@@ -5,7 +5,7 @@ use Rattle.dc_rows.proofs.Pinning.{gets_pins}
 use Rattle.dc_rows.proofs.calls.pin.Goals as goal
 
 pub returns-clause-pinned : goal.returns-clause-pinned
-returns-clause-pinned c = let now = known c.give.result.now in record {
+returns-clause-pinned g c = let now = known c.give.result.now in record {
   once = search rules;
   row = search rules;
   rows = search rules;
