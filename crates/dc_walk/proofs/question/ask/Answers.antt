@@ -3,7 +3,7 @@ use Rattle.dc_plain.specs.KeysShown.{key_shown}
 use Rattle.dc_walk.specs.Becomings.{goes_so}
 use Rattle.dc_walk.specs.Findings.{outcome_in, said_in}
 use Rattle.dc_walk.proofs.Questions.{needed_now, needed_still, untold_still, unlooked, same_between, stops, looked_cause, answered_becomes}
-use Rattle.dc_walk.proofs.Pinned.{refused_pinned, answered_pinned, stopped_pinned}
+use Rattle.dc_walk.proofs.Turns.{refused_pinned, answered_pinned, stopped_pinned}
 use Rattle.dc_walk.proofs.question.ask.Goals as goal
 
 pub returns-in_default-clause-becomes : goal.returns-in_default-clause-becomes

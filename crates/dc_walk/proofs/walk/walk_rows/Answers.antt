@@ -5,7 +5,7 @@ use Rattle.dc_table.specs.Holders.{table_of}
 use Rattle.dc_table.specs.Passes.{view}
 use Rattle.dc_walk.proofs.Ended.{started, serves_so, may_so, went_so, stopped_so}
 use Rattle.dc_walk.proofs.Questions.{none_is}
-use Rattle.dc_walk.proofs.Pinned.{begun_pinned, ended_pinned}
+use Rattle.dc_walk.proofs.Turns.{begun_pinned, ended_pinned}
 use Rattle.dc_walk.proofs.walk.walk_rows.Goals as goal
 
 pub walk-walked-requires : goal.walk-walked-requires
