@@ -36,4 +36,4 @@ returns-in-Ok-ask_rows-clause-pins g c = λ locks before is. let had = c.have.en
 
 pub returns-in-Err-clause-pins : goal.returns-in-Err-clause-pins
 returns-in-Err-clause-pins g c = λ locks before is. let had = c.have.ensures.had in let e = c.in-Err.ensures in
-    stopped_pinned before c.args.rows.now c.have.new.rows c.ask_rows.new.rows c.in-Ok.lane c.requires.fresh had.used (c.in-Ok.ensures.pins locks) e.untried is e.fails.used _ c.head.ensures _
+    stopped_pinned before c.args.rows.now c.have.new.rows c.ask_rows.new.rows c.in-Ok.lane c.requires.fresh had.used (c.in-Ok.ensures.pins locks) e.untried is e.fails.used _ c.head-rows.ensures _
