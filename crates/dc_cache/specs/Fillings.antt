@@ -17,7 +17,7 @@ pub fills_none : (f : Filler) → Fills f f
 fills_none f = record {
   pass = refl;
   keeps = record {
-    only = record { same = record { table = refl; id = refl; same_share = refl }; untried = record { tries = refl; got = refl; left = refl }; holder = f.guard.holder.has_lock; only = refl };
+    only = record { same = record { table = refl; id = refl; same_share = refl }; untried = record { tries = refl; got = refl; left = refl; past = refl }; holder = f.guard.holder.has_lock; only = refl };
     tree = record { tree = refl; clock = refl; same_limit = refl };
   };
 }
@@ -28,7 +28,7 @@ fills_more f g h a b = record {
   keeps = record {
     only = record {
       same = record { table = b.keeps.only.same.table ∙ a.keeps.only.same.table; id = b.keeps.only.same.id ∙ a.keeps.only.same.id; same_share = b.keeps.only.same.same_share ∙ a.keeps.only.same.same_share };
-      untried = record { tries = b.keeps.only.untried.tries ∙ a.keeps.only.untried.tries; got = b.keeps.only.untried.got ∙ a.keeps.only.untried.got; left = b.keeps.only.untried.left ∙ a.keeps.only.untried.left };
+      untried = record { tries = b.keeps.only.untried.tries ∙ a.keeps.only.untried.tries; got = b.keeps.only.untried.got ∙ a.keeps.only.untried.got; left = b.keeps.only.untried.left ∙ a.keeps.only.untried.left; past = b.keeps.only.untried.past ∙ a.keeps.only.untried.past };
       holder = b.keeps.only.holder;
       only = b.keeps.only.only ∙ ap (λ v. with_words v (words_of (seat_of h.guard))) a.keeps.only.only;
     };

@@ -56,7 +56,7 @@ impl Dcache {
         ensures same { Fits self.now pass.new × (share pass.new ≡ share pass.old) }
         ensures tried { Tried (Look base path.entry.bytes.now follow) (view pass.old)
             (view pass.new) result }
-        ensures pins { GivesBack (rows_in pass.new.room) (known pass.new) }
+        ensures pins { GivesBack (rows_in pass.new.room) (known pass.old) (known pass.new) }
     {
         let look = dc_walk::Look { base, path, follow };
         walk_counted(

@@ -17,7 +17,7 @@ use Rattle.dc_shrink.specs.Uses.{KeepsUse, SetsUse}
 use Rattle.dc_events.specs.Rows.{row_words}
 use Rattle.dc_table.specs.RowStates.{RowState}
 use Rattle.dc_rows.specs.Filling.{Emptied}
-use Rattle.dc_rows.specs.RowChanges.{SameRow, KeepsWords, OnlyRow, IsEmpty, UnpinsRow, UnpinsAll, IsChosen, HasGot, MayFill, Gets, PinsOnce, IsFilled}
+use Rattle.dc_rows.specs.RowChanges.{SameRow, KeepsWords, OnlyRow, IsEmpty, UnpinsRow, UnpinsAll, IsChosen, HasGot, MayFill, Gets, PinsOnce, IsFilled, PinsAnswered}
 use Rattle.dc_rows.proofs.Lists.{filter_past, without_twice, without_first, pins_dropped, pins_dropped_here, pins_with, pins_with_here}
 use Rattle.dc_rows.proofs.SameRows.{same_row, same_then, empty_still, empties_row, row_dropped}
 
@@ -184,3 +184,15 @@ module _ (key : Key) (s t u : RowState) (row : ℕ) (got : HasGot key 0 s t row)
   gets_pin (Ok (Some r)) same is = subst (λ (k : ℕ). HasGot key 1 s u k) (sym same) (pinned_too is)
   gets_pin (Ok None) same is = unpinned_still is
   gets_pin (Err fault) same is = unpinned_still is
+
+none_came : (key : Key) (s t : RowState) → MayFill key s t → (r : ℕ) → pins_of t.used r ≡ pins_of s.used r
+none_came key s t m r = elim (cases_eq r m.row) [
+  | inl same ↦ subst (λ (k : ℕ). pins_of t.used k ≡ pins_of s.used k) (sym same) m.pins
+  | inr ne ↦ (m.only.others r ne).pins
+]
+
+-- which pins have come where a key gets a row
+pub gets_pins : (key : Key) (s t : RowState) (result : Result (Option ℕ) NoMemory) → Gets key 1 s t result → PinsAnswered s t result
+gets_pins key s t (Ok (Some row)) got = record { one = got.pins; others = λ r ne. (got.only.others r ne).pins }
+gets_pins key s t (Ok None) got = none_came key s t got
+gets_pins key s t (Err fault) got = none_came key s t got

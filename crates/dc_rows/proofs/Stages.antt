@@ -39,7 +39,7 @@ shut_words p q row r is e = words_wrote p q (base_of row) r e ∙ ap (set (words
 pub then_only : (p q r : Pass) → OnlyWrites p q → OnlyWrites q r → OnlyWrites p r
 then_only p q r a b = record {
   same = record { table = b.same.table ∙ a.same.table; id = b.same.id ∙ a.same.id; same_share = b.same.same_share ∙ a.same.same_share };
-  untried = record { tries = b.untried.tries ∙ a.untried.tries; got = b.untried.got ∙ a.untried.got; left = b.untried.left ∙ a.untried.left };
+  untried = record { tries = b.untried.tries ∙ a.untried.tries; got = b.untried.got ∙ a.untried.got; left = b.untried.left ∙ a.untried.left; past = b.untried.past ∙ a.untried.past };
   holder = b.holder;
   only = b.only ∙ ap (λ (v : View). with_words v (words_of r)) a.only;
 }

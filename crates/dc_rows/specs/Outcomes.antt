@@ -12,10 +12,11 @@ use Rattle.dc_events.specs.Rows.{most}
 use Rattle.dc_events.specs.Standing.{tree_of}
 use Rattle.dc_table.specs.Changes.{Recorded}
 use Rattle.dc_table.specs.Passes.{Pass, known, view, share, IsSamePass, IsIdle}
+use Rattle.dc_table.specs.Shares.{Known, HadOnce}
 use Rattle.dc_table.specs.RowStates.{RowState}
 use Rattle.dc_rows.specs.Changes.{Failed}
 use Rattle.dc_rows.specs.Guards.{seat_of, kept_by, rows_of}
-use Rattle.dc_rows.specs.RowChanges.{EmptiesLast, Gets}
+use Rattle.dc_rows.specs.RowChanges.{EmptiesLast, Gets, PinsAnswered, UnpinsAll}
 use Rattle.dc_rows.specs.Refills.{Retold, Turns}
 use Rattle.dc_rows.specs.declared.fault.ChangeFault.{ChangeFault}
 use Rattle.dc_rows.specs.declared.fault.ChangeFault.TheVariants as faults
@@ -61,7 +62,14 @@ pub record Fills (key : Key) (g h : Guard) (result : Result (Option ℕ) NoMemor
   pub row : IfOk result (λ found. IfSome found (λ row. slot_of (kept_by h).index row ≡ Held key))
   pub rows : Gets key 0 (rows_of g) (rows_of h) result
 
--- a row of the table has got the key, and one pin more, from the rows that the pass got to those that it left; or none has
-pub record Pins (key : Key) (q : Pass) (result : Result (Option ℕ) NoMemory) : Type 0 where
+-- under one hold a row of the table has got the key, and one pin more, from the rows that the pass got to those that it left; or none has
+pub record Pins (key : Key) (p q : Pass) (result : Result (Option ℕ) NoMemory) : Type 0 where
+  pub once : HadOnce (known p) (known q)
   pub row : IfOk result (λ found. IfSome found (λ row. row < (share q).rows))
   pub rows : Gets key 1 (known q).got (known q).left result
+  pub pins : PinsAnswered (known q).got (known q).left result
+
+-- under one hold each of these rows has lost a pin each time that it stands among them, and no other row has
+pub record UnpinsOnce (rows : List ℕ) (k l : Known) : Type 0 where
+  pub once : HadOnce k l
+  pub rows_left : UnpinsAll rows l.got l.left

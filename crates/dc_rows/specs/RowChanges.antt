@@ -96,6 +96,21 @@ Gets key more s t (Ok (Some row)) = HasGot key more s t row
 Gets key more s t (Ok None) = MayFill key s t
 Gets key more s t (Err fault) = MayFill key s t
 
+-- one pin has come to the row, and no other has come or gone
+pub record PinsOnly (row : ℕ) (s t : RowState) : Type 0 where
+  pub one : pins_of t.used row ≡ pins_of s.used row + 1
+  pub others : (r : ℕ) → r ≢ row → pins_of t.used r ≡ pins_of s.used r
+
+-- no pin has come or gone
+abbrev pub SamePins : RowState → RowState → Type 0
+SamePins s t = (row : ℕ) → pins_of t.used row ≡ pins_of s.used row
+
+-- one pin has come to the row that is answered, if any, and no other has come or gone
+abbrev pub PinsAnswered : RowState → RowState → Result (Option ℕ) NoMemory → Type 0
+PinsAnswered s t (Ok (Some row)) = PinsOnly row s t
+PinsAnswered s t (Ok None) = SamePins s t
+PinsAnswered s t (Err fault) = SamePins s t
+
 -- one row's pins where a row is answered: one more; else all is as it was
 abbrev pub PinsOnce : ℕ → Listing → Listing → Result (Option ℕ) NoMemory → Type 0
 PinsOnce row was s (Ok (Some pinned)) = s ≡ pinned_once was row

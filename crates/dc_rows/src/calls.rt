@@ -3,8 +3,7 @@
 ghost use Rattle.dc_ops.specs.Asked.{IsChange};
 ghost use Rattle.dc_plain.specs.KeysShown.{key_shown};
 ghost use Rattle.dc_plain.specs.Requests.{request_of};
-ghost use Rattle.dc_rows.specs.Outcomes.{MakesAlone, Pins, Shrinks};
-ghost use Rattle.dc_rows.specs.RowChanges.{UnpinsAll};
+ghost use Rattle.dc_rows.specs.Outcomes.{MakesAlone, Pins, Shrinks, UnpinsOnce};
 ghost use Rattle.dc_table.specs.Changes.{NothingNew, Rested};
 ghost use Rattle.dc_table.specs.Passes.{known, view, Fits, IsSamePass, IsIdle};
 
@@ -70,7 +69,7 @@ pub fn pin<R: Wait>(
     requires pass { Fits shared.now pass.old × IsIdle pass.old }
     ensures same { IsSamePass pass.old pass.new × IsIdle pass.new }
     ensures rested { Rested (view pass.old) (view pass.new) }
-    ensures pinned { Pins (key_shown key.now) pass.new result }
+    ensures pinned { Pins (key_shown key.now) pass.old pass.new result }
 {
     let mut guard = Guard::lock(shared, rt, pass);
     let row = guard.pin(alloc, key);
@@ -85,7 +84,7 @@ pub fn unpin_all<R: Wait>(shared: &Shared, rt: &R, pass: &mut Pass, rows: &[u64]
     requires pass { Fits shared.now pass.old × IsIdle pass.old }
     ensures same { IsSamePass pass.old pass.new × IsIdle pass.new }
     ensures rested { Rested (view pass.old) (view pass.new) }
-    ensures rows { let k = known pass.new in UnpinsAll rows.now k.got k.left }
+    ensures rows { UnpinsOnce rows.now (known pass.old) (known pass.new) }
 {
     let mut guard = Guard::lock(shared, rt, pass);
     guard.unpin_all(rows);

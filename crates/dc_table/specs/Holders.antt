@@ -5,7 +5,7 @@ use Rattle.dc_events.specs.Views.{View}
 use Rattle.dc_events.specs.Rows.{base_of, count}
 use Rattle.dc_events.specs.Effects.{wrote, committed, answered}
 use Rattle.dc_table.specs.RowStates.{RowState}
-use Rattle.dc_table.specs.Shares.{HasNotTried, tried}
+use Rattle.dc_table.specs.Shares.{HasNotTried, HadOnce, tried}
 use Rattle.dc_table.specs.Passes.{Pass, known, view, share, IsSamePass, IsIdle, CanAnswer}
 use Rattle.dc_table.specs.Plays.{Took, Home, rows_as}
 use Rattle.dc_table.specs.declared.table.Guarded.{Guarded}
@@ -72,3 +72,4 @@ pub record Freed (h : Holder) (x : Guarded) (q : Pass) : Type 0 where
   pub same_tries : (known q).tries ≡ (known (pass_of h)).tries
   pub same_got : (known q).got ≡ (known (pass_of h)).got
   pub left : (known q).left ≡ rows_held h x
+  pub once : HadOnce (known (pass_of h)) (known q)

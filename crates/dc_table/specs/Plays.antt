@@ -56,7 +56,7 @@ committed_as call st m r m' = let k = known_at m in m' ≡ (sheet_of (with_view 
 
 -- what the holder knows when it has given the lock back with a value
 abbrev pub handed : Known → View → Guarded → Known
-handed k v x = record k { view = v; left = rows_as k.view.hold.words x }
+handed k v x = let left = rows_as k.view.hold.words x in record k { view = v; left = left; past = record { got = k.got; left = left } ∷ k.past }
 
 abbrev pub gave_as : Step (Maybe Boxed) → Place → ℕ → Place → Type 0
 gave_as st m r m' = let k = known_at m in (x : Boxed) → m.1 ≡ (0, Some x) ∷ [] → m' ≡ (sheet_of (handed k (gave k.view) x.value), [])

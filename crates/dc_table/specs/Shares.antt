@@ -1,6 +1,6 @@
 -- What a pass knows: its view, the sizes of its table, its share, and what it did with the lock. All shares add up to one.
-use Rattle.std.specs.Prelude.{◌≡◌, ℕ, ◌+◌, ◌*◌, ◌-◌, ◌^◌, ◌<◌, ◌≤◌, false, List, [], max, refl}
-use Rattle.std.specs.Coded.{Coded, code_by, coded×, coded_ℕ}
+use Rattle.std.specs.Prelude.{◌≡◌, ℕ, ◌+◌, ◌*◌, ◌-◌, ◌^◌, ◌<◌, ◌≤◌, false, List, [], ◌∷◌, max, refl}
+use Rattle.std.specs.Coded.{Coded, code_by, coded×, coded_list, coded_ℕ}
 use Rattle.std.specs.FinMap as map
 use mathlib.Core.Option.{some}
 use lib.ListN.{get_elem?}
@@ -20,21 +20,30 @@ pub record Share : Type 0 where
   pub parts : ℕ
   pub halvings : ℕ
 
--- with how often the pass has tried for the lock, the rows as it last got them with the lock, and as it last handed them back
+-- a hold of the lock: the rows as they were got with it, and as they were handed back
+pub record LockHold : Type 0 where
+  pub got : RowState
+  pub left : RowState
+
+-- with how often the pass has tried for the lock, the rows as it last got them with the lock and as it last handed them back, and its holds that are over, the last first
 pub record Known : Type 0 where
   pub view : View
   pub share : Share
   pub tries : ℕ
   pub got : RowState
   pub left : RowState
+  pub past : List LockHold
+
+abbrev pub hold_coded : Coded LockHold
+hold_coded = code_by (RowState × RowState) (coded× coded_rows coded_rows) (λ x. (x.got, x.left)) (λ p. record { got = p.0; left = p.1 }) (λ _. refl)
 
 abbrev pub share_coded : Coded Share
 share_coded = code_by (ℕ × (ℕ × (ℕ × ℕ))) (coded× coded_ℕ (coded× coded_ℕ (coded× coded_ℕ coded_ℕ)))
     (λ x. (x.limit, (x.rows, (x.parts, x.halvings)))) (λ p. record { limit = p.0; rows = p.1.0; parts = p.1.1.0; halvings = p.1.1.1 }) (λ _. refl)
 
 abbrev pub known_coded : Coded Known
-known_coded = code_by (View × (Share × (ℕ × (RowState × RowState)))) (coded× coded_view (coded× share_coded (coded× coded_ℕ (coded× coded_rows coded_rows))))
-    (λ x. (x.view, (x.share, (x.tries, (x.got, x.left))))) (λ p. record { view = p.0; share = p.1.0; tries = p.1.1.0; got = p.1.1.1.0; left = p.1.1.1.1 }) (λ _. refl)
+known_coded = code_by (View × (Share × (ℕ × (RowState × (RowState × List LockHold))))) (coded× coded_view (coded× share_coded (coded× coded_ℕ (coded× coded_rows (coded× coded_rows (coded_list hold_coded))))))
+    (λ x. (x.view, (x.share, (x.tries, (x.got, (x.left, x.past)))))) (λ p. record { view = p.0; share = p.1.0; tries = p.1.1.0; got = p.1.1.1.0; left = p.1.1.1.1.0; past = p.1.1.1.1.1 }) (λ _. refl)
 
 abbrev pub with_view : Known → View → Known
 with_view k v = record k { view = v }
@@ -44,6 +53,15 @@ pub record HasNotTried (k l : Known) : Type 0 where
   pub tries : l.tries ≡ k.tries
   pub got : l.got ≡ k.got
   pub left : l.left ≡ k.left
+  pub past : l.past ≡ k.past
+
+-- the holds of who has just given the lock back, with these before
+abbrev pub one_more : Known → List LockHold → List LockHold
+one_more k past = record { got = k.got; left = k.left } ∷ past
+
+-- who knows l, and knew k, has had the lock once since, and given it back
+abbrev pub HadOnce : Known → Known → Type 0
+HadOnce k l = l.past ≡ one_more l k.past
 
 -- one try more
 abbrev pub tried : Known → Known
@@ -70,7 +88,7 @@ no_rows = record { words = []; slots = []; used = listing 0 [] map.empty }
 
 -- nobody who did, saw or tried anything, with this share
 abbrev pub unused : Share → Known
-unused s = record { view = nobody; share = s; tries = 0; got = no_rows; left = no_rows }
+unused s = record { view = nobody; share = s; tries = 0; got = no_rows; left = no_rows; past = [] }
 
 -- the first pass of a table has the whole
 abbrev pub first_known : ℕ → ℕ → Known

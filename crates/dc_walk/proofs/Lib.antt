@@ -12,3 +12,4 @@ pub mod Checks
 pub mod Unasked
 pub mod Runs
 pub mod Blocks
+pub mod Turns

@@ -125,7 +125,7 @@ pub unlooked : {locks : Bool} (f : Rows) → f.why ≡ None → IsGood locks f �
 unlooked f fresh good = subst (λ o. IsFinding f (if is_some o then BUCKET_ROWS else 0)) fresh good.finding
 
 -- a row that was used as the last answers
-pub answered_becomes : (locks : Bool) {f g : Rows} (s : SameRows f g) {words : List ℕ} (key : Key) → HasNotTried (known f.pass.now) (known g.pass.now) → GoesOn (now_in f) (now_in g) → Answers f key g words → g.why ≡ None → Becomes locks f g
+pub answered_becomes : (locks : Bool) {f g : Rows} (s : SameRows f g) {row : ℕ} {words : List ℕ} (key : Key) → HasNotTried (known f.pass.now) (known g.pass.now) → GoesOn (now_in f) (now_in g) → Answers f key g row words → g.why ≡ None → Becomes locks f g
 answered_becomes locks {f = f} {g = g} s key untried on a why = record {
   same = s;
   told = subst (λ facts. Extends (said_in f) (told_by facts)) (sym (ap facts_of a.uses ∙ map-append (λ u. u.fact) (uses_in f) (a.use_of ∷ []))) (told_more (facts_of (uses_in f)) a.use_of.fact);

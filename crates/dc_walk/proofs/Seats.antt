@@ -12,7 +12,7 @@ pub same_passes : {p q r : Pass} → IsSamePass p q → IsSamePass q r → IsSam
 same_passes a b = record { table = b.table ∙ a.table; id = b.id ∙ a.id; same_share = b.same_share ∙ a.same_share }
 
 pub untried_still : {k : Known} → HasNotTried k k
-untried_still = record { tries = refl; got = refl; left = refl }
+untried_still = record { tries = refl; got = refl; left = refl; past = refl }
 
 -- one who stays out of the lock, and goes on so
 pub stays_again : {p q r : Pass} → StaysOut p q → StaysOut q r → StaysOut p r

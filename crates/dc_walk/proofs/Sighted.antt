@@ -96,7 +96,7 @@ module _ {f g : Rows} where
 
       pub answers_so : {told : List ℕ} (fact : Fact) (u : Use) → uses_in g ≡ uses_in f ++ u ∷ [] → AllSpelled g.used.now.items → AllInside (share f.pass.now).rows g.used.now.items → AllHeld g.filter g.used.now.items → length g.used.now.items ≤ MOST_USED → u.row ≡ row → u.count ≡ count → u.place ≡ f.made → u.fact ≡ fact → Spells (count ∷ words) (Some fact)
           → key_of fact ≡ key → k < BUCKET_ROWS → outcome_in f (said_in f) ≡ None → IsUntold (said_in f) key.number key.label
-          → IsStanding g.used.now.items key told → Answers f key g told
+          → IsStanding g.used.now.items key told → Answers f key g row told
       answers_so fact u uses spelled inside held few row_is count_is place fact_is spells about early none new standing =
           let many = is.made in
           let said : Spells (u.count ∷ words) (Some u.fact) = subst (λ (z : ℕ × Fact). Spells (z.0 ∷ words) (Some z.1)) (λ i. (sym count_is i, sym fact_is i)) spells in
@@ -106,6 +106,7 @@ module _ {f g : Rows} where
                 uses made_so is.call;
             use_of = u;
             uses = uses;
+            of_row = row_is;
             standing = standing;
           }
 

@@ -1,14 +1,16 @@
 -- What questions make of a walk over rows, whose source may take the lock or not.
-use Rattle.std.specs.Prelude.{◌≡◌, ℕ, [], Bool, false, None, IfSome, is_some, if◌then◌else◌}
+use Rattle.std.specs.Prelude.{◌≡◌, ℕ, [], List, Bool, false, true, None, IfSome, is_some, if◌then◌else◌}
 use Rattle.std.proofs.Common.{arith, refl, ◌∙◌}
 use Rattle.dc_plain.specs.Facts.{Key, Label, told_by}
 use Rattle.dc_plain.specs.Tellers.{Extends}
 use Rattle.dc_resolve.specs.Needs.{IsNeeded, IsUntold}
 use Rattle.dc_events.specs.Views.{View}
 use Rattle.dc_table.specs.Changes.{NothingNew}
-use Rattle.dc_table.specs.Shares.{HasNotTried, Known}
+use Rattle.dc_table.specs.Passes.{known}
+use Rattle.dc_table.specs.Shares.{HasNotTried, Known, LockHold}
 use Rattle.dc_walk.specs.Causes.{HasCause}
 use Rattle.dc_walk.specs.Sources.{IsUntried}
+use Rattle.dc_walk.specs.Unpins.{PinsInTurn, rows_used, with_spare}
 use Rattle.dc_walk.specs.Findings.{SameRows, IsFinding, now_in, outcome_in, said_in, buckets_of}
 use Rattle.dc_names.specs.declared.limits.TheConstants.{BUCKET_ROWS}
 use Rattle.dc_walk.specs.declared.rows.Rows.{Rows}
@@ -37,11 +39,21 @@ pub record Becomes (locks : Bool) (f g : Rows) : Type 0 where
   pub untried : IsUntried locks f.pass.now g.pass.now
   pub good : IsGood locks f → IsGood locks g
 
+-- the holds since these pinned the rows that it used, and the one that it had and doesn't use, which is none while it goes on
+pub record HasPinned (before : List LockHold) (f : Rows) : Type 0 where
+  pub pinned : PinsInTurn before (known f.pass.now).past (with_spare (rows_used f.used.now.items) f.spare)
+  pub spare : f.why ≡ None → f.spare ≡ None
+
+-- with the lock, it is so still
+abbrev pub KeepsPinned : Bool → Rows → Rows → Type 0
+KeepsPinned locks f g = locks ≡ true → (before : List LockHold) → HasPinned before f → HasPinned before g
+
 -- rows were had, and none of them is looked at yet
 pub record Had (locks : Bool) (f g : Rows) : Type 0 where
   pub becomes : Becomes locks f g
   pub used : g.used.now ≡ f.used.now
   pub why : g.why ≡ f.why
+  pub spare : g.spare ≡ f.spare
 
 pub record MayAskRows (locks : Bool) (f : Rows) (n : ℕ) (label : Label) : Type 0 where
   pub good : IsGood locks f
@@ -60,7 +72,7 @@ pub nothing_again : {u v w : View} → NothingNew u v → NothingNew v w → Not
 nothing_again a b = let x = a.later in let y = b.later in record { own = b.own ∙ a.own; joined = b.joined ∙ a.joined; later = omega arith }
 
 pub untried_again : {k l m : Known} → HasNotTried k l → HasNotTried l m → HasNotTried k m
-untried_again a b = record { tries = b.tries ∙ a.tries; got = b.got ∙ a.got; left = b.left ∙ a.left }
+untried_again a b = record { tries = b.tries ∙ a.tries; got = b.got ∙ a.got; left = b.left ∙ a.left; past = b.past ∙ a.past }
 
 pub between_again : {locks : Bool} {u v w : View} → Between locks u v → Between locks v w → Between locks u w
 between_again a b = record {
@@ -75,7 +87,7 @@ stays_so locks f = record {
   same = record { reader = refl; pass = refl; used = refl; look = refl; same_pass = record { table = refl; id = refl; same_share = refl } };
   told = record { entry = λ d label found told. told; text = λ n bytes told. told };
   walk = record { call = refl; first_load = refl; nothing = nothing_still (now_in f); book = λ free. refl };
-  untried = λ free. record { tries = refl; got = refl; left = refl };
+  untried = λ free. record { tries = refl; got = refl; left = refl; past = refl };
   good = λ is. is;
 }
 

@@ -1,7 +1,8 @@
--- What a walk that pinned rows gives back.
-use Rattle.std.specs.Prelude.{ℕ, ◌++◌, ◌∷◌, List, [], Option, Some, None, map}
-use Rattle.dc_rows.specs.RowChanges.{UnpinsAll}
-use Rattle.dc_table.specs.Shares.{Known}
+-- What a walk that pinned rows took, and gives back.
+use Rattle.std.specs.Prelude.{◌≡◌, ◌⊎◌, ℕ, ◌++◌, ◌∷◌, List, [], Option, Some, None, Result, Ok, Err, map}
+use Rattle.dc_rows.specs.RowChanges.{PinsOnly, SamePins}
+use Rattle.dc_rows.specs.Outcomes.{UnpinsOnce}
+use Rattle.dc_table.specs.Shares.{Known, LockHold}
 use Rattle.dc_walk.specs.declared.used.Room.{Room}
 use Rattle.dc_walk.specs.declared.used.Used.{Used}
 
@@ -18,12 +19,31 @@ abbrev pub with_spare : List ℕ → Option ℕ → List ℕ
 with_spare rows None = rows
 with_spare rows (Some row) = rows ++ row ∷ []
 
--- under the last hold of the lock each of these rows has lost a pin each time that it stands among them, and no other row has
-abbrev pub IsUnpinned : List ℕ → Known → Type 0
-IsUnpinned [] k = Unit {0}
-IsUnpinned (row ∷ rows) k = UnpinsAll (row ∷ rows) k.got k.left
+-- the row that a walk had and didn't use, where it gave up
+abbrev pub spare_of : {A B : Type 0} → Result A (B × Option ℕ) → Option ℕ
+spare_of (Ok went) = None
+spare_of (Err stopped) = stopped.1
 
--- so it was with the rows that a walk used, and with one more at most
-pub record GivesBack (rows : List ℕ) (k : Known) : Type 0 where
+-- under these holds, the last first, these rows got a pin each, one after the other; under one that had no row no pin came or went
+abbrev pub EachPinned : List LockHold → List ℕ → Type 0
+EachPinned [] rows = rows ≡ []
+EachPinned (h ∷ holds) rows = (SamePins h.got h.left × EachPinned holds rows)
+    ⊎ ((front : List ℕ) × (row : ℕ) × (rows ≡ front ++ row ∷ []) × PinsOnly row h.got h.left × EachPinned holds front)
+
+-- it was so under the holds that have come to those of before
+pub record PinsInTurn (before now : List LockHold) (rows : List ℕ) : Type 0 where
+  pub holds : List LockHold
+  pub more : now ≡ holds ++ before
+  pub each : EachPinned holds rows
+
+-- under one more hold each of these rows has lost a pin each time that it stands among them, and no other row has; no rows take no hold
+abbrev pub IsUnpinned : List ℕ → Known → Known → Type 0
+IsUnpinned [] k l = l.past ≡ k.past
+IsUnpinned (row ∷ rows) k l = UnpinsOnce (row ∷ rows) k l
+
+-- the holds since k pinned the rows that a walk used, and one more at most, one pin each; the last of them took these pins back, and there was no other
+pub record GivesBack (rows : List ℕ) (k l : Known) : Type 0 where
   pub spare : Option ℕ
-  pub unpinned : IsUnpinned (with_spare rows spare) k
+  pub between : Known
+  pub pinned : PinsInTurn k.past between.past (with_spare rows spare)
+  pub unpinned : IsUnpinned (with_spare rows spare) between l

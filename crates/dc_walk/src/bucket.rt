@@ -10,7 +10,7 @@ ghost use Rattle.dc_walk.specs.Asking.{GoesOn};
 ghost use Rattle.dc_walk.specs.Causes.{Looked};
 ghost use Rattle.dc_walk.specs.Filters.{key_hash};
 ghost use Rattle.dc_walk.specs.Findings.{SameRows, IsFinding, now_in, outcome_in, said_in};
-ghost use Rattle.dc_walk.specs.Sights.{Answers, Fails};
+ghost use Rattle.dc_walk.specs.Sights.{AnswersIn, Fails};
 ghost use Rattle.dc_names.specs.declared.limits.TheConstants.{BUCKET_ROWS};
 ghost use Rattle.dc_walk.specs.declared.TheConstants.{MOST_USED};
 
@@ -40,8 +40,9 @@ pub(crate) fn ask_rows(
     ensures same { SameRows rows.old rows.new }
     ensures untried { HasNotTried (known rows.old.pass.now) (known rows.new.pass.now) }
     ensures why { rows.new.why ≡ rows.old.why }
+    ensures spare { rows.new.spare ≡ rows.old.spare }
     ensures on { GoesOn (now_in rows.old) (now_in rows.new) }
-    ensures tells { IfOk result (Answers rows.old (key_shown key.entry) rows.new) }
+    ensures tells { IfOk result (AnswersIn rows.old (key_shown key.entry) rows.new lane) }
     ensures fails { OnErr result (Fails rows.old (key_shown key.entry) rows.new lane.many) }
     ensures looked { IfErr result (λ odd.
         Looked (now_in rows.new) lane.first (key_shown key.entry) odd lane.many) }

@@ -31,7 +31,8 @@ fn unpin<R: Wait>(shared: &Shared, rt: &R, pass: &mut Pass, used: &[Used], spare
     requires few { length used.now ≤ MOST_USED }
     ensures same { IsSamePass pass.old pass.new × IsIdle pass.new }
     ensures rests { Rests true (view pass.old) (view pass.new) }
-    ensures unpinned { IsUnpinned (with_spare (rows_used used.now) spare) (known pass.new) }
+    ensures unpinned { IsUnpinned (with_spare (rows_used used.now) spare) (known pass.old)
+        (known pass.new) }
 {
     let mut rows: ArrayVec<u64, MOST_PINNED> = ArrayVec::new();
     for one in used {
@@ -60,7 +61,7 @@ pub fn walk_counted<R: Wait>(
     requires can { CanWalk shared.now pass.old }
     ensures same { IsSamePass pass.old pass.new × IsIdle pass.new }
     ensures tried { Tried (look_shown look.entry) (view pass.old) (view pass.new) result }
-    ensures pins { GivesBack (rows_in room.new) (known pass.new) }
+    ensures pins { GivesBack (rows_in room.new) (known pass.old) (known pass.new) }
 {
     let source = Pinning { shared, rt, alloc };
     let (fast, spare) = walk_by(&source, shared.reader(), pass, &mut room.used, look);

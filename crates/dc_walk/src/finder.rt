@@ -3,7 +3,7 @@
 ghost use Rattle.std.specs.Prelude.{◌≡◌, is_some};
 ghost use Rattle.std.proofs.Common.{refl, ◌∙◌};
 ghost use Rattle.dc_table.specs.Holders.{table_of};
-ghost use Rattle.dc_walk.specs.Becomings.{Becomes, MayAskRows, stays_so, goes_so, keeps_so};
+ghost use Rattle.dc_walk.specs.Becomings.{Becomes, KeepsPinned, MayAskRows, stays_so, goes_so, keeps_so};
 ghost use Rattle.dc_walk.specs.Findings.{said_in};
 
 use crate::link::LinkText;
@@ -28,7 +28,8 @@ impl<'a, S: Source> Finder for Walker<'a, S> {
 
     ghost has_stopped = { λ f. is_some f.rows.why };
 
-    ghost becomes = { λ f g. (g.source ≡ f.source) × Becomes S.locks f.rows g.rows };
+    ghost becomes = { λ f g. (g.source ≡ f.source) × Becomes S.locks f.rows g.rows
+        × KeepsPinned S.locks f.rows g.rows };
 
     ghost may_ask = { λ f n label. S.serves f.source.now (table_of f.rows.reader)
         × MayAskRows S.locks f.rows n label };
@@ -58,9 +59,10 @@ impl<'a, S: Source> Finder for Walker<'a, S> {
         Ok(LinkText::of(&text))
     }
 
-    ghost stays = { λ f. (refl, stays_so S.locks f.rows) };
+    ghost stays = { λ f. (refl, stays_so S.locks f.rows, λ locks before is. is) };
 
-    ghost goes_on = { λ f g h a b. (b.0 ∙ a.0, goes_so S.locks f.rows g.rows h.rows a.1 b.1) };
+    ghost goes_on = { λ f g h a b. (b.0 ∙ a.0, goes_so S.locks f.rows g.rows h.rows a.1 b.1,
+        λ locks before is. b.2 locks before (a.2 locks before is)) };
 
     ghost keeps = { λ f g b. keeps_so S.locks f.rows g.rows b.1 };
 }

@@ -8,11 +8,11 @@ ghost use Rattle.dc_plain.specs.KeysShown.{key_shown};
 ghost use Rattle.dc_resolve.specs.Asked.{label_of};
 ghost use Rattle.dc_table.specs.Holders.{table_of};
 ghost use Rattle.dc_table.specs.Passes.{share};
-ghost use Rattle.dc_walk.specs.Becomings.{Becomes, IsGood, MayAskRows, MayAskNew, Had};
+ghost use Rattle.dc_walk.specs.Becomings.{Becomes, IsGood, KeepsPinned, MayAskRows, MayAskNew, Had};
 ghost use Rattle.dc_walk.specs.Causes.{TellsWhy};
 ghost use Rattle.dc_walk.specs.Filters.{key_hash};
 ghost use Rattle.dc_walk.specs.Finds.{IsStanding};
-ghost use Rattle.dc_walk.specs.Sources.{Serves};
+ghost use Rattle.dc_walk.specs.Sources.{PinsIts, Serves};
 
 use crate::bucket::ask_rows;
 use crate::rows::Rows;
@@ -70,6 +70,7 @@ fn have<S: Source>(
     requires good { IsGood S.locks rows.old × (rows.old.why ≡ None) }
     requires hash { hash ≡ key_hash (key_shown key) }
     ensures had { Had S.locks rows.old rows.new }
+    ensures pins { PinsIts S.locks rows.old.pass.now rows.new.pass.now result }
     ensures rows { IfOk result
         (Serves S.locks (share rows.new.pass.now).rows (key_shown key.entry)) }
     ensures refused { OnErr result (S.locks ≡ true) }
@@ -91,6 +92,7 @@ fn ask<S: Source>(
     requires hash { hash ≡ key_hash (key_shown key) }
     requires may { MayAskNew S.locks rows.old (key_shown key) }
     ensures becomes { Becomes S.locks rows.old rows.new }
+    ensures pins { KeepsPinned S.locks rows.old rows.new }
     ensures told { IfOk result (IsStanding rows.new.used.now.items (key_shown key.entry)) }
     ensures same { OnOk result (rows.new.why ≡ None) }
     ensures stopped { OnErr result (is_some rows.new.why ≡ true) }
@@ -130,6 +132,7 @@ pub(crate) fn told<S: Source>(
     requires hash { hash ≡ key_hash (key_shown key) }
     requires may { MayAskRows S.locks rows.old (key_shown key).number (key_shown key).label }
     ensures becomes { Becomes S.locks rows.old rows.new }
+    ensures pins { KeepsPinned S.locks rows.old rows.new }
     ensures told { IfOk result (IsStanding rows.new.used.now.items (key_shown key.entry)) }
     ensures same { OnOk result (is_some rows.new.why ≡ is_some rows.old.why) }
     ensures stopped { OnErr result (is_some rows.new.why ≡ true) }

@@ -43,6 +43,7 @@ pub(crate) fn look_at(rows: &mut Rows<'_>, row: u64, key: Key<'_>, hash: u64, be
     ensures same { SameRows rows.old rows.new }
     ensures untried { HasNotTried (known rows.old.pass.now) (known rows.new.pass.now) }
     ensures why { rows.new.why ≡ rows.old.why }
+    ensures spare { rows.new.spare ≡ rows.old.spare }
     ensures on { GoesOn (now_in rows.old) (now_in rows.new) }
     ensures saw { Saw rows.old (key_shown key.entry) rows.new row (before + 1) result }
 {

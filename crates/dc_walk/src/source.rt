@@ -7,7 +7,7 @@ ghost use Rattle.dc_table.specs.Holders.{table_of};
 ghost use Rattle.dc_table.specs.declared.shared.Shared.{Shared};
 ghost use Rattle.dc_walk.specs.Filters.{key_hash};
 ghost use Rattle.dc_walk.specs.Findings.{CanWalk};
-ghost use Rattle.dc_walk.specs.Sources.{IsUntried, Rests, Serves};
+ghost use Rattle.dc_walk.specs.Sources.{IsHead, IsUntried, PinsIts, Rests, Serves};
 
 use dc_index::bucket_at;
 use dc_names::{BUCKET_ROWS, NoMemory};
@@ -24,7 +24,9 @@ pub(crate) struct Lane {
 impl Lane {
     /// Its first row, if it has one.
     #[inline(always)]
-    pub(crate) fn head(self) -> Option<u64> {
+    pub(crate) fn head(self) -> Option<u64>
+        ensures { IsHead self result }
+    {
         if self.many > 0 {
             Some(self.first)
         } else {
@@ -55,6 +57,7 @@ pub(crate) trait Source {
         ensures same { IsSamePass pass.old pass.new × IsIdle pass.new }
         ensures untried { IsUntried locks pass.old pass.new }
         ensures rests { Rests locks (view pass.old) (view pass.new) }
+        ensures pins { PinsIts locks pass.old pass.new result }
         ensures rows { IfOk result (Serves locks (share pass.new).rows (key_shown key.entry)) }
         ensures refused { OnErr result (locks ≡ true) };
 }

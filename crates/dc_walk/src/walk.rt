@@ -1,12 +1,13 @@
 //! A look-up by the rows of a source.
 
-ghost use Rattle.std.specs.Prelude.{◌≡◌, [], map, IfOk, IfErr};
+ghost use Rattle.std.specs.Prelude.{◌≡◌, [], map, true, IfOk, IfErr};
 ghost use Rattle.dc_plain.specs.Requests.{answer_of};
 ghost use Rattle.dc_table.specs.Holders.{table_of};
-ghost use Rattle.dc_table.specs.Passes.{view, share, IsSamePass, IsIdle};
+ghost use Rattle.dc_table.specs.Passes.{known, view, share, IsSamePass, IsIdle};
 ghost use Rattle.dc_walk.specs.Findings.{CanWalk, buckets_of, view_in};
 ghost use Rattle.dc_walk.specs.Finds.{use_shown, AllInside};
 ghost use Rattle.dc_walk.specs.Sources.{IsUntried};
+ghost use Rattle.dc_walk.specs.Unpins.{PinsInTurn, rows_used, with_spare, spare_of};
 ghost use Rattle.dc_walk.specs.Walks.{Went, Stopped, Walks};
 
 use crate::MOST_USED;
@@ -44,6 +45,8 @@ pub(crate) fn walk_rows<'x, S: Source>(
         (view_in r.1 pass.new look.entry) (map use_shown used.new.items) (answer_of r.0)) }
     ensures stopped { IfErr result (λ e. Stopped S.locks look.entry (buckets_of pass.old)
         (view pass.old) (view pass.new) e.0) }
+    ensures pins { S.locks ≡ true → PinsInTurn (known pass.old).past (known pass.new).past
+        (with_spare (rows_used used.new.items) (spare_of result)) }
 {
     let rows = Rows {
         reader,
@@ -84,6 +87,8 @@ pub(crate) fn walk_by<S: Source>(
     ensures untried { IsUntried S.locks pass.old pass.new }
     ensures walks { Walks S.locks look.entry (buckets_of pass.old) (view pass.old) (view pass.new)
         result.0 }
+    ensures pins { S.locks ≡ true → PinsInTurn (known pass.old).past (known pass.new).past
+        (with_spare (rows_used used.new.items) result.1) }
 {
     // Rows of an earlier walk would be taken for this one's, and their pins back.
     used.clear();

@@ -1,4 +1,4 @@
-use Rattle.std.proofs.Common.{arith, ◌+◌, ◌<◌, refl, sym, ◌∙◌, subst}
+use Rattle.std.proofs.Common.{rules, arith, ◌+◌, ◌<◌, refl, sym, ◌∙◌, subst}
 use Rattle.arrayvec.specs.ArrayVec.{array_vec_len}
 use Rattle.dc_plain.specs.KeysShown.{key_shown}
 use Rattle.dc_table.specs.Passes.{share}
@@ -20,6 +20,7 @@ loop-k-init c = record {
   same = same_still c.args.rows.now;
   untried = untried_still;
   why = refl;
+  spare = refl;
   used = refl;
   on = on_still;
   finding = c.requires.finding;
@@ -40,6 +41,9 @@ look_at-requires-clause-needed c = still_needed c.loop-k.invariant.same c.loop-k
 pub look_at-requires-clause-untold : goal.look_at-requires-clause-untold
 look_at-requires-clause-untold c = subst (λ used. IsUntold (told_in used.items) c.args.key.number (key_shown c.args.key).label) (sym c.loop-k.invariant.used) c.requires.untold
 
+pub returns-in-Tells-clause-tells : goal.returns-in-Tells-clause-tells
+returns-in-Tells-clause-tells c = record { place = c.loop-k.k; within = c.loop-k-test.true; answers = search rules }
+
 pub loop-k-preserved : goal.loop-k-preserved
 loop-k-preserved c =
     let i = c.loop-k.invariant in let e = c.look_at.ensures in
@@ -54,6 +58,7 @@ loop-k-preserved c =
       same = same_again i.same e.same;
       untried = untried_again i.untried e.untried;
       why = e.why ∙ i.why;
+      spare = e.spare ∙ i.spare;
       used = more.0.used ∙ i.used;
       on = on_again i.on e.on;
       finding = more.0.finding;

@@ -12,6 +12,7 @@ invariant-loop-k l = record {
   same : SameRows l.fn.rows l.rows;
   untried : HasNotTried (known l.fn.rows.pass.now) (known l.rows.pass.now);
   why : l.rows.why ≡ l.fn.rows.why;
+  spare : l.rows.spare ≡ l.fn.rows.spare;
   used : l.rows.used.now ≡ l.fn.rows.used.now;
   on : GoesOn (now_in l.fn.rows) (now_in l.rows);
   finding : IsFinding l.rows l.k;

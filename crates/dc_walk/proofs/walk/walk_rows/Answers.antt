@@ -5,6 +5,7 @@ use Rattle.dc_table.specs.Holders.{table_of}
 use Rattle.dc_table.specs.Passes.{view}
 use Rattle.dc_walk.proofs.Ended.{started, serves_so, may_so, went_so, stopped_so}
 use Rattle.dc_walk.proofs.Questions.{none_is}
+use Rattle.dc_walk.proofs.Turns.{begun_pinned, ended_pinned}
 use Rattle.dc_walk.proofs.walk.walk_rows.Goals as goal
 
 pub walk-walked-requires : goal.walk-walked-requires
@@ -24,3 +25,15 @@ pub returns-in-Some-clause-stopped : goal.returns-in-Some-clause-stopped
 returns-in-Some-clause-stopped g c = let e = c.in-Stopped.ensures in let v = view c.args.pass.now in
     stopped_so _ _ v refl e.becomes.1 (started _ _ v c.requires.can refl refl refl c.requires.empty) _ (c.pass-1.given.1 (sym e.becomes.1.same.pass)) _ (ap (λ used. used.items) (c.used-1.given.1 (sym e.becomes.1.same.used)))
     c.in-Some.why c.in-Some.is
+
+pub returns-in-Found-clause-pins : goal.returns-in-Found-clause-pins
+returns-in-Found-clause-pins g c = λ locks. let e = c.in-Found.ensures in let is = e.becomes.2 locks _ (begun_pinned _ refl c.requires.empty) in
+    ended_pinned _ _ _ (c.pass-1.given.1 (sym e.becomes.1.same.pass)) _ (ap (λ used. used.items) (c.used-1.given.1 (sym e.becomes.1.same.used))) _ (is.spare (none_is _ e.stopped)) is
+
+pub returns-in-Refused-clause-pins : goal.returns-in-Refused-clause-pins
+returns-in-Refused-clause-pins g c = λ locks. let e = c.in-Refused.ensures in let is = e.becomes.2 locks _ (begun_pinned _ refl c.requires.empty) in
+    ended_pinned _ _ _ (c.pass-1.given.1 (sym e.becomes.1.same.pass)) _ (ap (λ used. used.items) (c.used-1.given.1 (sym e.becomes.1.same.used))) _ (is.spare (none_is _ e.stopped)) is
+
+pub returns-in-Some-clause-pins : goal.returns-in-Some-clause-pins
+returns-in-Some-clause-pins g c = λ locks. let e = c.in-Stopped.ensures in let is = e.becomes.2 locks _ (begun_pinned _ refl c.requires.empty) in
+    ended_pinned _ _ _ (c.pass-1.given.1 (sym e.becomes.1.same.pass)) _ (ap (λ used. used.items) (c.used-1.given.1 (sym e.becomes.1.same.used))) _ refl is
