@@ -61,8 +61,11 @@ impl<'a, S: Source> Finder for Walker<'a, S> {
 
     ghost stays = { λ f. (refl, stays_so S.locks f.rows, λ locks before is. is) };
 
-    ghost goes_on = { λ f g h a b. (b.0 ∙ a.0, goes_so S.locks f.rows g.rows h.rows a.1 b.1,
-        λ locks before is. b.2 locks before (a.2 locks before is)) };
+    ghost goes_on = { λ f g h a b. (
+      b.0 ∙ a.0,
+      goes_so S.locks f.rows g.rows h.rows a.1 b.1,
+      λ locks before is. b.2 locks before (a.2 locks before is),
+    ) };
 
     ghost keeps = { λ f g b. keeps_so S.locks f.rows g.rows b.1 };
 }
