@@ -1,13 +1,9 @@
-//! Tests of the names, the plain tree, walks, stores, plans and lines, of what no clause there says.
-//! They stand in a crate of their own, so that those below are proved once.
+//! Tests of the plain tree, walks, stores and plans, of what no clause there says. They stand in a crate
+//! of their own, so that those below are proved once.
 #![tactic(auto)]
 
 #[cfg(test)]
 mod calls;
-#[cfg(test)]
-mod lang;
-#[cfg(test)]
-mod names;
 #[cfg(test)]
 mod ops;
 #[cfg(test)]
