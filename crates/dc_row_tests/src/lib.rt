@@ -1,5 +1,5 @@
 //! Tests of the rooms of rows, by their public items: the words of a row, which row is used last and
-//! which has a key, the events, the shared table, its rows and the look-ups over it.
+//! which has a key, the events, the shared table and its rows.
 #![tactic(auto)]
 
 #[cfg(test)]
@@ -16,5 +16,3 @@ mod rows;
 mod shrink;
 #[cfg(test)]
 mod table;
-#[cfg(test)]
-mod walk;

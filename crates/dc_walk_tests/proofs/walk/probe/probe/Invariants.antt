@@ -6,7 +6,7 @@ use Rattle.dc_table.specs.Holders.{table_of}
 use Rattle.dc_table.specs.Passes.{view, Fits, StaysOut}
 use Rattle.dc_walk.specs.Probes.{probed}
 use Rattle.dc_walk.proofs.Probed.{read_of}
-use Rattle.dc_row_tests.proofs.walk.probe.probe.Given as goal
+use Rattle.dc_walk_tests.proofs.walk.probe.probe.Given as goal
 
 abbrev pub invariant-loop-i : goal.invariant-loop-i
 invariant-loop-i l = record {

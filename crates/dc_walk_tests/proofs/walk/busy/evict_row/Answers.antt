@@ -3,7 +3,7 @@ use Rattle.dc_shrink.specs.Listings.{Listing}
 use Rattle.dc_shrink.specs.Uses.{SetsUse}
 use Rattle.dc_rows.proofs.Placed.{keyed_within, keyed_open, placed_empty}
 use Rattle.dc_rows.proofs.Stages.{rest_on}
-use Rattle.dc_row_tests.proofs.walk.busy.evict_row.Goals as goal
+use Rattle.dc_walk_tests.proofs.walk.busy.evict_row.Goals as goal
 
 pub returns-clause-rest : goal.returns-clause-rest
 returns-clause-rest c = let k = c.args.kept.now in rest_on c.args.holder.now.pass.now c.empty-met.new.holder.pass.now c.empty-met.ensures.pass _ _ _

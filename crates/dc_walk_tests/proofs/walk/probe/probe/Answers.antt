@@ -5,7 +5,7 @@ use Rattle.dc_table.specs.Passes.{view}
 use Rattle.dc_walk.specs.Probes.{probed}
 use Rattle.dc_walk.proofs.Probed.{can_read, next_read, read_whole}
 use Rattle.dc_walk.proofs.Seats.{fits_still, row_still, stays_again}
-use Rattle.dc_row_tests.proofs.walk.probe.probe.Goals as goal
+use Rattle.dc_walk_tests.proofs.walk.probe.probe.Goals as goal
 
 pub read_word-requires : goal.read_word-requires
 read_word-requires c = let i = c.loop-i.invariant in record {

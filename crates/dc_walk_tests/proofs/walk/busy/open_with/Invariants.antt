@@ -2,7 +2,7 @@ use Rattle.std.proofs.Common.{◌≡◌}
 use Rattle.dc_rows.specs.Changes.{OnlyWrites}
 use Rattle.dc_rows.specs.Rows.{Writing}
 use Rattle.dc_table.specs.Changes.{words_of}
-use Rattle.dc_row_tests.proofs.walk.busy.open_with.Given as goal
+use Rattle.dc_walk_tests.proofs.walk.busy.open_with.Given as goal
 
 abbrev pub invariant-loop-i : goal.invariant-loop-i
 invariant-loop-i l = record {

@@ -1,9 +1,9 @@
 use Rattle.std.proofs.Common.{arith, rules, get_or, drop}
 use Rattle.dc_table.specs.Passes.{view}
 use Rattle.dc_walk.specs.Probes.{note_of}
-use Rattle.dc_row_tests.proofs.ByHand.{by_hand, after_check, can_third}
+use Rattle.dc_walk_tests.proofs.ByHand.{by_hand, after_check, can_third}
 use Rattle.dc_walk.proofs.Probed.{rest_size}
-use Rattle.dc_row_tests.proofs.walk.by_hand.turn.Goals as goal
+use Rattle.dc_walk_tests.proofs.walk.by_hand.turn.Goals as goal
 
 pub check-third-requires : goal.check-third-requires
 check-third-requires c =
