@@ -11,8 +11,8 @@
  * has happened then. The blocking forms at the end of this file (gb_look, gb_mkdir, ..) try again, and sleep meanwhile.
  *
  * A path is so many bytes, and needs no zero byte at its end. `base` is the number of the directory where a relative
- * path starts. Names have up to 255 bytes, paths up to 4,095, and at most 8 links are followed. No pointer may be null,
- * also if nothing is to be read or written behind it.
+ * path starts. Names have up to 255 bytes, paths up to 4,095, and as many links are followed as on Linux. No pointer may
+ * be null, also if nothing is to be read or written behind it.
  *
  * What is proved. The library is proved as it is written, in Rattle. Each function is safe and ends, if its caller
  * keeps the rules below, and it answers what the proved call of its name does: whatever the schedule of the threads,
@@ -79,7 +79,7 @@ enum { GB_FOLLOW = 0, GB_NO_FOLLOW = 1, GB_DIRECTORY = 2 };
 enum { GB_NO_REPLACE = 1, GB_EXCHANGE = 2 };
 
 /* Why gb_look_fast answered GB_AGAIN: no row tells of a name that is asked for; a row was being changed; a row that was
- * used has changed since; a name of more than 32 bytes, which no row holds; no row has the text of a link. */
+ * used has changed since; more rows would be used than can be noted; no row has the text of a link. */
 enum {
     GB_WHY_NONE = 0,
     GB_WHY_MISS = 1,
@@ -109,7 +109,7 @@ struct gb_gone {
 
 /* Makes a cache and opens its first pass. `buckets`, of four rows each, is a power of two from 1 to 1,048,576. `inodes`
  * is how many may live at once, the root among them, from 1 to 1,048,576. With twice as many rows as names that are
- * looked up 4 look-ups in 100 find no row, with four times as many 4 in 1,000. A row weighs 125 bytes, and 90 more once
+ * looked up 4 look-ups in 100 find no row, with four times as many 4 in 1,000. A row weighs 350 bytes, and 90 more once
  * it is filled.
  * It takes a pass that is blank. That no other thread has its address yet is the caller's to see to.
  * Proved: it is safe and ends, it makes the cache of these sizes, and `blank` is its first pass then.
@@ -135,8 +135,8 @@ int gb_pass_join(struct gb_pass *pass, struct gb_pass *other);
  * Answers 0, GB_BAD_PASS. */
 int gb_close(struct gb_pass *pass);
 
-/* Looks a path up by the rows alone. It takes no lock and no memory, never waits, and makes at most 8,449 loads, all of
- * which is proved, as is the reason that `why` gives if it answers GB_AGAIN. gb_try_look answers then.
+/* Looks a path up by the rows alone. It takes no lock and no memory, never waits, and makes a bounded number of loads,
+ * all of which is proved, as is the reason that `why` gives if it answers GB_AGAIN. gb_try_look answers then.
  * Answers 0 with number and kind, a refusal, GB_AGAIN, GB_BAD_PASS, GB_BAD_ARGUMENT. */
 int gb_look_fast(struct gb_pass *pass, uint64_t base, const char *path, size_t len, uint32_t follow,
                  struct gb_found *found);

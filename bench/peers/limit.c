@@ -1,7 +1,7 @@
 /* The limit: a walk by hand over rows of the cache's layout, which checks what the cache checks and proves nothing.
  *
- * Word 0 is the clock, word 1 the lock, and row r has the words from 2 + 8r on: its count, its header (tag 1, the
- * length from bit 8, the kind from bit 24), the number of its directory, the target's number or 0, and the name in four
+ * Word 0 is the clock, word 1 the lock, and row r has the words from 2 + 36r on: its count, its header (tag 1, the
+ * length from bit 8, the kind from bit 24), the number of its directory, the target's number or 0, and the name in 32
  * words. A bucket has four rows. Each load and each store is sequentially consistent.
  *
  * Behind the rows stands a table of all names, which is read and changed by who has the lock. A change makes the counts
@@ -17,7 +17,7 @@
 #include <sys/syscall.h>
 #include <unistd.h>
 
-enum { BUCKETS = 1024, BUCKET_ROWS = 4, ROW = 8, NAME_WORDS = 4, MOST_NOTES = 256, ENTRY = 1, ROOT = 1 };
+enum { BUCKETS = 1024, BUCKET_ROWS = 4, ROW = 36, NAME_WORDS = 32, MOST_NOTES = 256, ENTRY = 1, ROOT = 1 };
 enum { NONE, DIRECTORY, PLAIN_FILE };
 enum { HEADS = 1 << 17, WALKS = 8, TRIES = 20, MOST_DOUBLINGS = 9 };
 
@@ -78,7 +78,7 @@ static inline uint64_t hash_number(uint64_t number)
     return hash;
 }
 
-/* A name of at most 32 bytes in four words, the first byte lowest. */
+/* A name in 32 words, the first byte lowest. */
 static inline void pack(const char *name, size_t length, uint64_t packed[NAME_WORDS])
 {
     memset(packed, 0, NAME_WORDS * sizeof *packed);

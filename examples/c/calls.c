@@ -7,7 +7,7 @@
 #include <stdio.h>
 #include <string.h>
 
-enum { ROOT = 1, INODES = 8, LONGEST_NAME = 255, LONGEST_PATH = 4095 };
+enum { ROOT = 1, INODES = 8, LONGEST_NAME = 255, LONGEST_PATH = 4095, MOST_NOTED = 256 };
 
 static struct gb_pass pass, blank;
 static struct gb_found found;
@@ -210,17 +210,36 @@ static void look_all(void)
     is("look_fast", "a wrong follow", gb_look_fast(&pass, ROOT, "/d", 2, UINT32_MAX, &found), GB_BAD_ARGUMENT);
 }
 
-/* Answers of the rows, which the look-ups before have filled; a name of 33 bytes has none. */
+/* Answers of the rows, which the look-ups before have filled, also of the longest name. */
 static void look_by_rows(void)
 {
-    static const char name[] = "/abcdefghijklmnopqrstuvwxyz0123456";
+    static char name[LONGEST_NAME];
     int answer;
+    memset(name, 'n', sizeof name);
     for (int i = 0; i < 2 && (answer = look_fast(&pass, "/d", 2)) == GB_AGAIN; i++)
         is("look", "/d", look(&pass, "/d", 2), 0);
     is_found("look_fast", answer, 2, GB_DIR, 4);
-    is("look_fast", "a long name", look_fast(&pass, name, strlen(name)), GB_AGAIN);
+    is("look_fast", "the longest name", look_fast(&pass, name, sizeof name), GB_AGAIN);
+    is("look_fast", "why", found.why, GB_WHY_MISS);
+    is("look", "the longest name", look(&pass, name, sizeof name), ENOENT);
+    is("look_fast", "the longest name in a row", look_fast(&pass, name, sizeof name), ENOENT);
+}
+
+/* A path of as many names as a walk can note, and one of a name more. */
+static void try_a_deep_path(void)
+{
+    static char path[2 * (MOST_NOTED + 1)];
+    is("cache_new", "of a deep path", gb_cache_new(1024, MOST_NOTED + 2, &pass), 0);
+    for (size_t length = 2; length <= sizeof path; length += 2) {
+        memcpy(path + length - 2, "/a", 2);
+        is("mkdir", "a deep path", mkdir(&pass, path, length), 0);
+    }
+    is("look", "a deeper path", look(&pass, path, sizeof path), 0);
+    is("look_fast", "a deeper path", look_fast(&pass, path, sizeof path), GB_AGAIN);
     is("look_fast", "why", found.why, GB_WHY_LONG);
-    is("look", "a long name", look(&pass, name, strlen(name)), ENOENT);
+    is("look", "a deep path", look(&pass, path, sizeof path - 2), 0);
+    is("look_fast", "a deep path", look_fast(&pass, path, sizeof path - 2), 0);
+    is("close", "of a deep path", gb_close(&pass), 0);
 }
 
 static void read_all(void)
@@ -364,6 +383,7 @@ int main(void)
 {
     try_sizes();
     try_texts_and_passes();
+    try_a_deep_path();
     make_all();
     look_all();
     look_by_rows();

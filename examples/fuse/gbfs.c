@@ -438,7 +438,7 @@ static int fs_write(const char *path, const char *bytes, size_t count, off_t at,
 
 static void tell(void)
 {
-    fprintf(stderr, "look-ups: %ld without the lock; with it %ld to fill rows, %ld of long names, %ld beside a change\n",
+    fprintf(stderr, "look-ups: %ld without the lock; with it %ld to fill rows, %ld of long paths, %ld beside a change\n",
             by_rows, by_lock[GB_WHY_MISS] + by_lock[GB_WHY_LINK], by_lock[GB_WHY_LONG],
             by_lock[GB_WHY_BUSY] + by_lock[GB_WHY_CHANGED]);
     fprintf(stderr, "changes: %ld; inodes: %ld\n", changes, bodies_count());

@@ -67,7 +67,7 @@ pub enum Why {
     Busy,
     /// A row that was used has changed since.
     Changed,
-    /// A name is longer than 32 bytes, which no row holds.
+    /// More rows would be used than can be noted.
     Long,
     /// No row has the text of a link.
     Link,

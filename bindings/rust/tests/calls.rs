@@ -91,9 +91,25 @@ fn refusals() -> Result<(), Error> {
         Some(36)
     );
     assert_eq!(
-        pass.look_fast(ROOT, &[b'n'; 33], Follow::Yes),
-        Err(Error::Again(Why::Long))
+        pass.look_fast(ROOT, &[b'n'; 255], Follow::Yes),
+        Err(Error::Again(Why::Miss))
     );
+    Ok(())
+}
+
+#[test]
+fn one_name_more_than_can_be_noted() -> Result<(), Error> {
+    let mut pass = Cache::new(1_024, 300)?.pass()?;
+    let path = b"/a".repeat(257);
+    for names in 1..=257 {
+        pass.mkdir(ROOT, &path[..2 * names])?;
+    }
+    pass.look(ROOT, &path, Follow::Yes)?;
+    let long = Err(Error::Again(Why::Long));
+    assert_eq!(pass.look_fast(ROOT, &path, Follow::Yes), long);
+    let deep = &path[..2 * 256];
+    pass.look(ROOT, deep, Follow::Yes)?;
+    assert_eq!(pass.look_fast(ROOT, deep, Follow::Yes)?.kind, Kind::Dir);
     Ok(())
 }
 

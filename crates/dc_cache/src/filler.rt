@@ -68,6 +68,10 @@ impl Finder for Filler<'_> {
 
     ghost may_ask = { λ f number label. Unit {0} };
 
+    ghost may_spend = { λ f n. Unit {0} };
+
+    ghost link_bytes = { 0 };
+
     fn find(&mut self, dir: u64, part: Part<'_>) -> Result<Option<(u64, Kind)>, Stop> {
         let label = match part {
             Part::Normal(name) => Label::Name(name),
@@ -110,4 +114,6 @@ impl Finder for Filler<'_> {
     ghost goes_on = { fills_more };
 
     ghost keeps = { fills_keep };
+
+    ghost spends_less = { λ f a b may. may };
 }

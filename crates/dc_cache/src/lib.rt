@@ -98,7 +98,7 @@
 //! Faults are no answers: nothing is recorded. `MakeFault` comes from `new` and `with_buckets` alone.
 //! `ChangeFault::Spent` says that the tree was altered 2^62 times. `Why` is the cause of an `Again`:
 //! `Miss` and `Link` if no row has the name or the link's text, `Busy` and `Changed` if a change came
-//! between, `Long` if a name is longer than a row has room for or more than 256 rows would be used,
+//! between, `Long` if more than 256 rows would be used (no name is too long for a row),
 //! `Memory` from `look_counted`. After `Busy` and `Changed` a second `look_fast` may well answer; after
 //! the others only `look`, or a `try_look`, which fills the rows.
 #![tactic(auto)]

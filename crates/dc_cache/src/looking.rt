@@ -7,9 +7,8 @@ ghost use Rattle.dc_names.specs.Paths.{fault_of};
 ghost use Rattle.dc_plain.specs.Facts.{told_by};
 ghost use Rattle.dc_plain.specs.Requests.Request.{Look};
 ghost use Rattle.dc_table.specs.Shares.{HasNotTried};
-ghost use Rattle.dc_walk.specs.Fasts.{Keeps, IfAgain, IsLongAgain, Tried};
+ghost use Rattle.dc_walk.specs.Fasts.{Keeps, IfAgain, Tried};
 ghost use Rattle.dc_walk.specs.Looks.{outcome_by};
-ghost use Rattle.dc_walk.specs.Long.{has_long_name};
 ghost use Rattle.dc_walk.specs.Unpins.{rows_in, GivesBack};
 ghost use Rattle.dc_walk.specs.declared.TheConstants.{MOST_LOADS};
 
@@ -31,7 +30,6 @@ impl Dcache {
         ensures keeps { Keeps base path.entry.bytes.now follow (buckets_of pass.old)
             (view pass.old) (view pass.new) result }
         ensures asks { IfAgain result (outcome_by base path.entry.bytes.now follow (told_by []) ≡ None) }
-        ensures long { has_long_name path.entry.bytes.now ≡ true → IsLongAgain result }
         ensures untried { HasNotTried (known pass.old) (known pass.new) }
         ensures loads { (view pass.new).loads ≤ (view pass.old).loads + MOST_LOADS }
     {

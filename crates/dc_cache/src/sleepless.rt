@@ -15,9 +15,8 @@ ghost use Rattle.dc_plain.specs.Requests.Request.{Look, Stat, Readlink, List_nam
 ghost use Rattle.dc_table.specs.Changes.{NothingNew};
 ghost use Rattle.dc_table.specs.Ends.{Ends};
 ghost use Rattle.dc_table.specs.Shares.{HasNotTried, IsWhole, first_known, kept_half, new_half, both};
-ghost use Rattle.dc_walk.specs.Fasts.{Keeps, IfAgain, IsLongAgain};
+ghost use Rattle.dc_walk.specs.Fasts.{Keeps, IfAgain};
 ghost use Rattle.dc_walk.specs.Looks.{outcome_by};
-ghost use Rattle.dc_walk.specs.Long.{has_long_name};
 ghost use Rattle.dc_walk.specs.declared.TheConstants.{MOST_LOADS};
 
 use crate::cache::{Ended, NotYet, Pass, Sleepless};
@@ -118,7 +117,6 @@ impl Sleepless {
         ensures keeps { Keeps base path.entry.bytes.now follow (buckets_of pass.old)
             (view pass.old) (view pass.new) result }
         ensures asks { IfAgain result (outcome_by base path.entry.bytes.now follow (told_by []) ≡ None) }
-        ensures long { has_long_name path.entry.bytes.now ≡ true → IsLongAgain result }
         ensures untried { HasNotTried (known pass.old) (known pass.new) }
         ensures loads { (view pass.new).loads ≤ (view pass.old).loads + MOST_LOADS }
     {

@@ -1,5 +1,6 @@
 -- What the words of a row spell, by the row that was decoded from them.
-use Rattle.std.proofs.Common.{◌≡◌, ◌↔◌, ℕ, ◌+◌, ◌%◌, ◌<◌, Bool, false, true≢false, ap, List, Option, Some, None, option_map, Result, Ok, Err, IfOk, IfSome, IsTrue, sym, ◌∙◌, subst, arith}
+use Rattle.std.proofs.Common.{◌≡◌, ◌↔◌, ℕ, zero, suc, ◌+◌, ◌%◌, ◌<◌, ◌≤◌, ◌∷◌, length, take, drop, get_or, refl, Bool, false, true≢false, ap, List, Option, Some, None, option_map, Result, Ok, Err, IfOk, IfSome, IsTrue, sym, ◌∙◌, subst, arith}
+use Rattle.std.proofs.Math.Seq.{drop-cons}
 use mathlib.Core.Logic.{dite}
 use native.Mathlib.Decide.{ℕ_discrete}
 use Rattle.dc_row.specs.Rows.{row_shown}
@@ -9,7 +10,7 @@ use Rattle.dc_plain.specs.Facts.{key_of}
 use Rattle.dc_plain.specs.Requests.{Request}
 use Rattle.dc_plain.specs.Runs.{Touches}
 use Rattle.dc_row.specs.Spelling.{Spells, TellsRow}
-use Rattle.dc_events.specs.Rows.{count, row_words}
+use Rattle.dc_events.specs.Rows.{count, row_words, words_from}
 use Rattle.dc_core.specs.Machine.{State}
 use Rattle.dc_core.specs.Refusals.{IsEven, IsTouched}
 
@@ -69,3 +70,8 @@ blank_row ws (Some r) spelled tells = (λ e. subst (Spells ws) (inside e) spelle
 -- the rows so far, and one more
 pub next_row : (Test : ℕ → Type 0) (n : ℕ) → ((r : ℕ) → r < n → Test r → ⊥) → (Test n → ⊥) → (r : ℕ) → r < n + 1 → Test r → ⊥
 next_row Test n before here r less t = dite (ℕ_discrete r n) (λ e. here (subst Test e t)) (λ ne. before r (omega arith) t)
+
+-- so many words that stand next to one another
+pub words_between : (words : List ℕ) (k n : ℕ) → k + n ≤ length words → take n (drop k words) ≡ words_from words k n
+words_between words k zero l = refl
+words_between words k (suc n) l = ap (take (suc n)) (drop-cons words k 0 (omega arith)) ∙ ap (λ (ws : List ℕ). get_or words k 0 ∷ ws) (words_between words (suc k) n (omega arith))

@@ -1,13 +1,11 @@
 -- A new table keeps the rule.
 use Rattle.std.proofs.Common.{◌≡◌, ℕ, zero, suc, ◌*◌, ◌<◌, List, [], ◌∷◌, length, get_or, replicate, None, refl, sym, ap, ap₂, ◌∙◌, subst, inl, arith, true≢false, zero-add, le-ltb, cond}
-use Rattle.std.specs.Prelude.{slice_index}
 use Rattle.std.proofs.lemmas.List.{length-replicate}
-use Rattle.dc_names.specs.Words as words
 use mathlib.Core.Option.{some, some-injective, some-ne-none}
 use lib.ListN.{get_elem?}
 use Rattle.dc_plain.specs.Trees.{empty_tree}
-use Rattle.dc_row.specs.Spelling.{Spells, fields_of, word_at}
-use Rattle.dc_row.specs.declared.TheConstants.{ROW_WORDS}
+use Rattle.dc_row.specs.Spelling.{Spells}
+use Rattle.dc_row.specs.declared.TheConstants.{ROW_WORDS, EMPTY_ROW}
 use Rattle.dc_events.specs.Views.{View}
 use Rattle.dc_events.specs.Rows.{base_of, count, words_from, row_words, opening_words}
 use Rattle.dc_events.specs.Rule.{ViewFits, StrandFits, Rule, RowFits, total, view_hits, once_below}
@@ -28,30 +26,18 @@ all_zero : (words : List ℕ) → ((j : ℕ) → get_or words j 0 ≡ 0) → (k 
 all_zero words is k zero = refl
 all_zero words is k (suc n) = ap₂ (λ x xs. x ∷ xs) (is k) (all_zero words is (suc k) n)
 
--- eight zeros spell no fact
-spells_none : Spells (replicate 8 0) None
-unfolding words.word_of
-spells_none = record { size = refl; allowed = refl; bytes = λ i. omega arith; spelled = spelled }
-  where
-    spelled : (i : ℕ) → 0 < i → i < ROW_WORDS → slice_index (replicate 8 0) i ≡ word_at (fields_of None) i
-    spelled zero low high = absurd (omega arith)
-    spelled (suc zero) low high = refl
-    spelled (suc (suc zero)) low high = refl
-    spelled (suc (suc (suc zero))) low high = refl
-    spelled (suc (suc (suc (suc zero)))) low high = refl
-    spelled (suc (suc (suc (suc (suc zero))))) low high = refl
-    spelled (suc (suc (suc (suc (suc (suc zero)))))) low high = refl
-    spelled (suc (suc (suc (suc (suc (suc (suc zero))))))) low high = refl
-    spelled (suc (suc (suc (suc (suc (suc (suc (suc i)))))))) low high = absurd (omega arith)
+-- zeros spell no fact
+abbrev IsNothing : Type 0
+IsNothing = Spells EMPTY_ROW None
 
-row_is_empty : (rows row : ℕ) → Spells (row_words (opening_words rows) row) None
-row_is_empty rows row = subst (λ ws. Spells ws None) (sym (all_zero (opening_words rows) (zero_word rows) (base_of row) ROW_WORDS)) spells_none
+row_is_empty : IsNothing → (rows row : ℕ) → Spells (row_words (opening_words rows) row) None
+row_is_empty none rows row = subst (λ ws. Spells ws None) (sym (all_zero (opening_words rows) (zero_word rows) (base_of row) ROW_WORDS)) none
 
-row_fits : (rows row : ℕ) → RowFits empty_tree (opening_words rows) row
-row_fits rows row = let z : count (opening_words rows) row ≡ 0 = zero_word rows (base_of row) in record {
+row_fits : IsNothing → (rows row : ℕ) → RowFits empty_tree (opening_words rows) row
+row_fits none rows row = let z : count (opening_words rows) row ≡ 0 = zero_word rows (base_of row) in record {
   below = omega arith;
-  told = λ _. record { fact = None; spells = row_is_empty rows row; holds = tt };
-  spent = λ _. row_is_empty rows row;
+  told = λ _. record { fact = None; spells = row_is_empty none rows row; holds = tt };
+  spent = λ _. row_is_empty none rows row;
 }
 
 is_nobody : (n j : ℕ) (v : View) → get_elem? (replicate n nobody) j ≡ some v → nobody ≡ v
@@ -74,13 +60,13 @@ no_hits : (p n : ℕ) → total (view_hits p) (replicate n nobody) ≡ 0
 no_hits p zero = refl
 no_hits p (suc n) = zero-add (total (view_hits p) (replicate n nobody)) ∙ no_hits p n
 
-pub opening_rule : (limit rows actors : ℕ) → Rule limit rows (opening_words rows) (replicate actors nobody) []
-opening_rule limit rows actors = record {
+pub opening_rule : IsNothing → (limit rows actors : ℕ) → Rule limit rows (opening_words rows) (replicate actors nobody) []
+opening_rule none limit rows actors = record {
   holder = 0;
   clock = refl;
   early = omega arith;
   wide = let l : length {A = ℕ} (replicate (rows * ROW_WORDS) 0) ≡ rows * ROW_WORDS = length-replicate (rows * ROW_WORDS) 0 in omega arith;
-  row = λ i _. row_fits rows i;
+  row = λ i _. row_fits none rows i;
   lock = inl (refl, λ row _. let z : count (opening_words rows) row ≡ 0 = zero_word rows (base_of row) in omega arith);
   held = λ j v e has. absurd (true≢false (sym has ∙ ap (λ (u : View). u.hold.holds) (sym (is_nobody actors j v e))));
   fits = λ j v e. subst (ViewFits limit rows (opening_words rows) []) (is_nobody actors j v e) (nobody_fits limit rows);

@@ -6,7 +6,7 @@ use dc_plain::{
     answers_from_true_facts_are_replies, opening_tree_is_well_formed,
     operations_keep_trees_well_formed, same_tree_tells_whether_trees_are_one, untouched_facts_stay,
 };
-use dc_row::words_have_the_fact_they_spell;
+use dc_row::{empty_row_spells_nothing, words_have_the_fact_they_spell};
 
 /// Each event of a table, by any actor, keeps the rule.
 pub fn events_keep_the_rule()
@@ -35,7 +35,9 @@ pub fn passes_keep_the_rule()
 /// A new table has the rule.
 pub fn new_tables_have_the_rule()
     ensures { NewTablesHaveTheRule }
-{}
+{
+    empty_row_spells_nothing();
+}
 
 /// The records of actors under the rule are those of a run of one thread.
 pub fn records_are_legal()

@@ -6,9 +6,8 @@ pub const NAME_MAX: usize = 255;
 /// The most bytes that a path has: PATH_MAX of Linux without the final zero, which POSIX.1-2017 counts.
 pub const PATH_MAX: usize = 4095;
 
-/// The most links that one resolution follows: the least that POSIX.1-2017 lets SYMLOOP_MAX be
-/// (_POSIX_SYMLOOP_MAX). Linux follows 40.
-pub const MOST_LINKS: u64 = 8;
+/// The most links that one resolution follows, as on Linux. POSIX.1-2017 lets SYMLOOP_MAX be 8 at least.
+pub const MOST_LINKS: u64 = 40;
 
 /// The most names that a file or a link has (POSIX.1-2017: LINK_MAX, 8 at least), as in ext4.
 pub const MOST_NAMES: u64 = 65_000;

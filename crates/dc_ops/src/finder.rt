@@ -54,6 +54,10 @@ impl<'a, S: Store> Finder for StoreFinder<'a, S> {
 
     ghost may_ask = { λ finder number label. Unit {0} };
 
+    ghost may_spend = { λ f n. Unit {0} };
+
+    ghost link_bytes = { 0 };
+
     fn find(&mut self, dir: u64, part: Part<'_>) -> Result<Option<Target>, Stop> {
         match part {
             Part::Normal(name) => Ok(entry(self.store, dir, name)),
@@ -76,4 +80,6 @@ impl<'a, S: Store> Finder for StoreFinder<'a, S> {
     ghost goes_on = { λ f g h p q. one_after (S.tree f.store.now) (S.tree g.store.now) (S.tree h.store.now) p q };
 
     ghost keeps = { λ f g p. same_tells (S.tree f.store.now) (S.tree g.store.now) p };
+
+    ghost spends_less = { λ f a b may. may };
 }

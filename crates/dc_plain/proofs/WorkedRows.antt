@@ -1,8 +1,10 @@
 -- Worked rows of one thread, computed by the definitions.
-use Rattle.std.proofs.Common.{◌≡◌, [], ◌∷◌, ◌++◌, refl, codes, replicate}
+use Rattle.std.proofs.Common.{◌≡◌, ℕ, zero, suc, ◌+◌, List, [], ◌∷◌, ◌++◌, refl, codes, replicate}
 use Rattle.dc_names.specs.declared.kind.Kind.TheVariants.{Dir, File, Link}
+use Rattle.dc_names.specs.declared.limits.TheConstants.{MOST_LINKS}
 use Rattle.dc_plain.specs.declared.call.Follow.TheVariants as follow
 use Rattle.dc_plain.specs.Trees.{empty_tree}
+use Rattle.dc_plain.specs.Requests.{Request, Answer}
 use Rattle.dc_plain.specs.Requests.Request.{Look, Readlink, Stat, List_names, Mkdir, Create, Hard_link, Symlink, Unlink, Rmdir, Rename}
 use Rattle.dc_plain.specs.Requests.Answer.{Found, Done, Nothing, Bytes, Names, Counted, Refused}
 use Rattle.dc_plain.specs.Resolution.{resolve}
@@ -72,24 +74,30 @@ link_to_itself : replies_of 16 empty_tree (
 unfolding resolve
 link_to_itself = refl
 
--- eight links, and nine
-eight_links_and_nine : replies_of 65536 empty_tree (
-    Create 1 (codes "/f")
-    ∷ Symlink 1 (codes "f") (codes "/l8")
-    ∷ Symlink 1 (codes "l8") (codes "/l7")
-    ∷ Symlink 1 (codes "l7") (codes "/l6")
-    ∷ Symlink 1 (codes "l6") (codes "/l5")
-    ∷ Symlink 1 (codes "l5") (codes "/l4")
-    ∷ Symlink 1 (codes "l4") (codes "/l3")
-    ∷ Symlink 1 (codes "l3") (codes "/l2")
-    ∷ Symlink 1 (codes "l2") (codes "/l1")
-    ∷ Symlink 1 (codes "l1") (codes "/l0")
-    ∷ Look 1 (codes "/l1") follow.Yes
-    ∷ Look 1 (codes "/l0") follow.Yes
+-- a name of one byte
+abbrev named : ℕ → List ℕ
+named n = (100 + n) ∷ []
+
+-- so many links in the root, each made after the one that it leads to
+abbrev chain : ℕ → List Request
+chain zero = []
+chain (suc n) = Symlink 1 (named (suc n)) (47 ∷ named n) ∷ chain n
+
+-- so many inodes made, from a number on
+abbrev made : ℕ → ℕ → List Answer
+made first zero = []
+made first (suc n) = Done first ∷ made (suc first) n
+
+-- as many links as are followed, and one more
+most_links_and_one_more : replies_of 65536 empty_tree (
+    Create 1 (47 ∷ named (MOST_LINKS + 1))
+    ∷ chain (MOST_LINKS + 1)
+    ++ Look 1 (47 ∷ named 1) follow.Yes
+    ∷ Look 1 (47 ∷ named 0) follow.Yes
     ∷ [])
-    ≡ Done 2 ∷ Done 3 ∷ Done 4 ∷ Done 5 ∷ Done 6 ∷ Done 7 ∷ Done 8 ∷ Done 9 ∷ Done 10 ∷ Done 11 ∷ Found 2 File ∷ Refused 40 ∷ []
+    ≡ made 2 (MOST_LINKS + 2) ++ Found 2 File ∷ Refused 40 ∷ []
 unfolding resolve
-eight_links_and_nine = refl
+most_links_and_one_more = refl
 
 -- a rename onto another name of the same file
 rename_onto_same_file : replies_of 65536 empty_tree (

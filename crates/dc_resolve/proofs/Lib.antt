@@ -6,4 +6,5 @@ pub mod Passing
 pub mod Following
 pub mod Needed
 pub mod Splits
+pub mod Spending
 pub mod Walking

@@ -1,19 +1,26 @@
 -- Questions that an outcome needs.
-use Rattle.std.proofs.Common.{◌≡◌, ℕ, ◌<◌, List, [], ◌∷◌, ◌++◌, ◌&&◌, ◌||◌, ◌-◌, ◌==◌, not, if◌then◌else◌, Bool, true, false, Option, Some, None, IsTrue, refl, ap, sym, ◌∙◌}
+use Rattle.std.proofs.Common.{◌≡◌, ℕ, ◌<◌, List, [], ◌∷◌, ◌++◌, ◌&&◌, ◌||◌, ◌-◌, ◌==◌, not, if◌then◌else◌, Bool, true, false, Option, Some, None, option_map, IsTrue, Result, Ok, Err, IfOk, refl, ap, sym, ◌∙◌}
 use Rattle.std.proofs.lemmas.Bool.{and_parts}
 use Rattle.std.proofs.lemmas.List.{append-nil}
 use Rattle.dc_names.specs.Bytes.{is_empty}
-use Rattle.dc_names.specs.Paths.{Part, parts_of, begins_with_slash, has_end_slash}
+use Rattle.dc_names.specs.Paths.{Part, Path, parts_of, path_in, begins_with_slash, has_end_slash}
 use Rattle.dc_names.specs.Paths.Part.{Name, Dot, DotDot}
+use Rattle.dc_names.specs.declared.kind.Kind.TheVariants.{Dir}
+use Rattle.dc_names.specs.declared.limits.TheConstants.{MOST_LINKS}
 use Rattle.dc_plain.specs.declared.call.Follow.{Follow}
 use Rattle.dc_plain.specs.Facts.{Target, Teller}
-use Rattle.dc_plain.specs.Facts.Label.{Text}
+use Rattle.dc_plain.specs.Facts.Label.{Parent, Text}
+use Rattle.dc_plain.specs.Places.{start, with_start}
 use Rattle.dc_plain.specs.Resolution.{Outcome, at_part, is_directory, keeps_link, met_by, over_parts, resolve, root}
 use Rattle.dc_plain.specs.Tellers.{Extends}
 use Rattle.dc_resolve.specs.Asked.{label_of}
 use Rattle.dc_resolve.specs.Needs.{asks, IsUntold, MayAsk, MayAskFirst, MayAskOver, MayAskThrough}
+use Rattle.dc_resolve.specs.Ends.{resolve_by}
+use Rattle.dc_resolve.specs.Resolves.{resolve_at, ResolvesTo}
+use Rattle.dc_resolve.specs.Walks.{following, LeadsTo}
 use Rattle.dc_resolve.specs.declared.finder.Finder.{Ghosts}
-use Rattle.dc_resolve.specs.Walks.{following}
+use Rattle.dc_resolve.specs.declared.finder.Stop.{Stop}
+use Rattle.dc_resolve.specs.declared.outcome.End.{End}
 use Rattle.dc_resolve.proofs.Following.{resolve_is, unfollowed, with_told}
 use Rattle.dc_resolve.proofs.Going.{told_still}
 use Rattle.dc_resolve.proofs.Passing.{last_of, not_kept, CameTo, CameToLink}
@@ -31,6 +38,23 @@ unmet teller at DotDot asked none =
 
 unmet_first : (teller : Teller) (how : Follow) (follow_link : Target → ℕ → List Part → Bool → Option Outcome) (at : Target) (part : Part) (rest : List Part) (slash : Bool) → at_part teller at part ≡ None → over_parts teller how follow_link at (part ∷ rest) slash ≡ None
 unmet_first teller how follow_link at part rest slash none = rw none refl
+
+start_by : (rooted : Bool) (base : ℕ) {before later : Option (Option Target)} {found : Option Target} → ((up : Option Target) → before ≡ Some up → later ≡ Some up)
+    → (if rooted then Some (Some root) else option_map (option_map (λ up. (base, Dir))) before) ≡ Some found → (if rooted then Some (Some root) else option_map (option_map (λ up. (base, Dir))) later) ≡ Some found
+start_by true base more is = is
+start_by false base {before = None} more is = absurd cc
+start_by false base {before = Some up} more is = ap (option_map (option_map (λ up. (base, Dir)))) (more up refl) ∙ is
+
+-- a start that was told stays
+start_still : (base : ℕ) (path : Path) {first teller : Teller} {found : Option Target} → Extends first teller → start first base path ≡ Some found → start teller base path ≡ Some found
+start_still base path more is = start_by (path.absolute || base == 1) base (more.entry base Parent) is
+
+-- where the parts of some bytes lead from there
+pub ends_by : {first said : Teller} (how : Follow) (base : ℕ) (text bytes : List ℕ) (slash : Bool) {place : Target} (result : Result End Stop) → Extends first said → start first base (path_in text) ≡ Some (Some place)
+    → IfOk result (LeadsTo said how MOST_LINKS place (parts_of bytes) slash) → IfOk result (ResolvesTo said base text bytes slash how)
+ends_by how base text bytes slash (Err e) keeps is leads = tt
+ends_by how base text bytes slash (Ok end) keeps is leads = λ teller told.
+    ap (λ o. with_start o (λ at. resolve teller how MOST_LINKS at (parts_of bytes) slash)) (start_still base (path_in text) (told_still keeps told) is) ∙ leads.ends teller told
 
 module _ {F T : Type 0} (g : Ghosts F T) where
   -- what has no outcome without another
@@ -93,3 +117,12 @@ module _ {F T : Type 0} (g : Ghosts F T) where
             ∙ (λ i. resolve teller how (links - 1) (sym begins i) (parts_of (sym same i) ++ below) ((ap (λ b. slash || b && has_end_slash text) may.1 ∙ sym slashed) i))
             ∙ need teller more none,
       )
+
+  -- what is asked from where a path begins
+  pub may_by : {finder started : F} (how : Follow) (base : ℕ) (text bytes : List ℕ) (slash : Bool) {place : Target}
+      → ((a b c : F) → g.becomes a b → g.becomes b c → g.becomes a c) → ((a b : F) → g.becomes a b → Extends (g.said a) (g.said b))
+      → MayAsk g finder (resolve_by base text bytes slash how) → g.becomes finder started → start (g.said started) base (path_in text) ≡ Some (Some place) → MayAsk g started (resolve_at how place bytes slash)
+  may_by {finder = finder} {started = started} how base text bytes slash goes_on keeps may on is later next n label need =
+      may later (goes_on finder started later on next) n label λ teller told none.
+      ap (λ o. with_start o (λ at. resolve teller how MOST_LINKS at (parts_of bytes) slash)) (start_still base (path_in text) (told_still (keeps started later next) told) is)
+      ∙ need teller told none

@@ -3,6 +3,7 @@ pub mod Asked
 pub mod Fronts
 pub mod Steps
 pub mod Walks
+pub mod Spends
 pub mod Ends
 pub mod Finders
 pub mod Needs

@@ -29,6 +29,10 @@ impl Finder for Unasked {
 
     ghost may_ask = { λ f number label. f.stopped ≡ true };
 
+    ghost may_spend = { λ f n. Unit {0} };
+
+    ghost link_bytes = { 0 };
+
     fn find(&mut self, _dir: u64, _part: Part<'_>) -> Result<Option<(u64, Kind)>, Stop> {
         Err(Stop)
     }
@@ -42,6 +46,8 @@ impl Finder for Unasked {
     ghost goes_on = { λ f g h p q. after_both f.stopped g.stopped h.stopped p q };
 
     ghost keeps = { λ f g p. nothing_stays f.stopped g.stopped p };
+
+    ghost spends_less = { λ f a b may. may };
 }
 
 /// Where a path leads that needs no fact, as `/..`. A walk asks only for what it needs, so nobody is

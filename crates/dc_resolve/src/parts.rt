@@ -6,6 +6,7 @@ ghost use Rattle.dc_names.specs.Bytes.{has_parts, is_empty};
 ghost use Rattle.dc_names.specs.Paths.{parts_of};
 ghost use Rattle.dc_resolve.specs.Finders.{KeepsAnswering};
 ghost use Rattle.dc_resolve.specs.Needs.{MayAskFirst};
+ghost use Rattle.dc_resolve.specs.Spends.{met_bytes, names_bytes, MaySpend, Spends};
 ghost use Rattle.dc_resolve.specs.Steps.{TakesFirst};
 
 use crate::outcome::Reached;
@@ -48,7 +49,10 @@ pub(crate) fn ask_first<'b, F: Finder>(
 ) -> Result<Option<(Reached, &'b [u8])>, Stop>
     requires valid { IsTrue (has_parts bytes.now) }
     requires may { MayAskFirst (F.may_ask finder.old) place (parts_of bytes.now) }
+    requires spend { MaySpend F.Finder finder.old (names_bytes (parts_of bytes.now)) }
     ensures taken { IfOk result (λ met. TakesFirst (F.said finder.new) place bytes.entry.now met) }
+    ensures left { IfOk result (λ met. Spends F.Finder finder.old finder.new
+        (names_bytes (parts_of bytes.entry.now)) (met_bytes met)) }
     ensures kept { KeepsAnswering F.Finder finder.old finder.new result }
 {
     let Some((part, after, hash)) = first_part_hashed(place.0, bytes) else {

@@ -1,6 +1,7 @@
 //! Where the last part of a path is to be looked up.
 
-ghost use Rattle.std.specs.Prelude.{◌≡◌};
+ghost use Rattle.std.specs.Prelude.{◌≡◌, ◌+◌, ◌*◌, length};
+ghost use Rattle.dc_names.specs.declared.limits.TheConstants.{MOST_LINKS};
 ghost use Rattle.dc_resolve.specs.Ends.{Answers, place_by, placed_shown, stopped_after};
 ghost use Rattle.dc_resolve.specs.Needs.{MayAsk};
 
@@ -28,6 +29,9 @@ pub enum Placed<'p> {
 #[must_use]
 pub fn place<'p, F: Finder>(finder: &mut F, base: u64, path: PathText<'p>) -> Placed<'p>
     requires may { MayAsk F.Finder finder.old (place_by base path.bytes.now) }
+    // Two bytes are those of the dot-dot by which the starting directory is asked for.
+    requires spend { F.may_spend finder.old
+        (2 + length path.bytes.now + MOST_LINKS * F.link_bytes) }
     // Whatever else may be learnt later, the answer stays.
     ensures answer { Answers (F.said finder.new) (place_by base path.entry.bytes.now)
         (placed_shown result) }

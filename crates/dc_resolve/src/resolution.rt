@@ -1,6 +1,6 @@
 //! A whole resolution: part after part, link after link.
 
-ghost use Rattle.std.specs.Prelude.{◌≡◌, ◌≤◌, ◌||◌, ◌&&◌, ◌==◌, [], false, Some, IfOk, IsTrue, if◌then◌else◌};
+ghost use Rattle.std.specs.Prelude.{◌≡◌, ◌≤◌, ◌+◌, ◌*◌, ◌||◌, ◌&&◌, ◌==◌, [], false, Some, IfOk, IsTrue, if◌then◌else◌};
 ghost use Rattle.dc_names.specs.Bytes.{has_parts};
 ghost use Rattle.dc_names.specs.Paths.{begins_with_slash, has_end_slash, parts_of, path_in};
 ghost use Rattle.dc_plain.specs.Facts.{Teller};
@@ -12,6 +12,7 @@ ghost use Rattle.dc_resolve.specs.Ends.{resolve_by};
 ghost use Rattle.dc_resolve.specs.Finders.{KeepsAnswering};
 ghost use Rattle.dc_resolve.specs.Needs.{MayAsk, MayAskOver, MayAskThrough};
 ghost use Rattle.dc_resolve.specs.Resolves.{resolve_at, ResolvesTo};
+ghost use Rattle.dc_resolve.specs.Spends.{way_bytes, LeavesLinks, MaySpend, Spends};
 ghost use Rattle.dc_resolve.specs.Walks.{IfThrough, LeadsOver, LeadsThrough, LeadsTo};
 
 use crate::outcome::{End, Reached, Way};
@@ -43,6 +44,7 @@ fn at_end(place: Target, links: u64, is_last: bool, slash: bool, follow: Follow)
     ensures leads { (said : Teller) →
         LeadsOver said follow links slash place [] is_last result }
     ensures through { IfThrough result (λ left. (is_last ≡ false) × (left ≤ links)) }
+    ensures left { IfThrough result (λ left. left ≡ links) }
 {
     if is_last {
         Way::Ended(ending(follow, place, slash))
@@ -67,10 +69,13 @@ fn walk_bytes<F: Finder>(
 ) -> Result<Way, Stop>
     requires valid { IsTrue (has_parts bytes.now) }
     requires may { MayAskOver F.Finder finder.old follow links slash start bytes.now is_last }
+    requires spend { MaySpend F.Finder finder.old (way_bytes F.Finder bytes.now links) }
     ensures leads { IfOk result (LeadsOver (F.said finder.new) follow links slash
         start bytes.entry.now is_last) }
     ensures through { IfOk result (λ way.
         IfThrough way (λ left. (is_last ≡ false) × (left ≤ links))) }
+    ensures left { IfOk result (LeavesLinks F.Finder finder.old finder.new
+        (way_bytes F.Finder bytes.entry.now links)) }
     ensures kept { KeepsAnswering F.Finder finder.old finder.new result }
 {
     let mut place = start;
@@ -120,10 +125,12 @@ fn walk_link<F: Finder>(
 ) -> Result<Way, Stop>
     requires link { IsSaidLink (F.said finder.old) link }
     requires may { MayAskThrough F.Finder finder.old follow links slash at link is_last }
+    requires spend { MaySpend F.Finder finder.old (links * F.link_bytes) }
     ensures leads { IfOk result (LeadsThrough (F.said finder.new) follow links slash
         at link is_last) }
     ensures through { IfOk result (λ way.
         IfThrough way (λ left. (is_last ≡ false) × (left ≤ links))) }
+    ensures left { IfOk result (LeavesLinks F.Finder finder.old finder.new (links * F.link_bytes)) }
     ensures kept { KeepsAnswering F.Finder finder.old finder.new result }
 {
     if is_kept(follow, is_last, slash) {
@@ -151,6 +158,7 @@ fn resolve<F: Finder>(
 ) -> Result<End, Stop>
     requires valid { IsTrue (has_parts parts.now) }
     requires may { MayAsk F.Finder finder.old (resolve_at follow place parts.now slash) }
+    requires spend { MaySpend F.Finder finder.old (way_bytes F.Finder parts.now MOST_LINKS) }
     ensures leads { IfOk result (LeadsTo (F.said finder.new) follow MOST_LINKS
         place (parts_of parts.entry.now) slash) }
     ensures kept { KeepsAnswering F.Finder finder.old finder.new result }
@@ -166,10 +174,12 @@ fn resolve<F: Finder>(
 // Inlined: it has one caller, and mostly tests one byte.
 #[inline(always)]
 fn start<F: Finder>(finder: &mut F, base: u64, path: PathText<'_>) -> Result<Option<Target>, Stop>
-    requires { (begins_with_slash path.bytes.now || base == 1) ≡ false →
+    requires may { (begins_with_slash path.bytes.now || base == 1) ≡ false →
         F.may_ask finder.old base Parent }
+    requires spend { MaySpend F.Finder finder.old 2 }
     ensures start { IfOk result (λ found.
         start (F.said finder.new) base (path_in path.entry.bytes.now) ≡ Some found) }
+    ensures left { IfOk result (λ found. Spends F.Finder finder.old finder.new 2 0) }
     ensures kept { KeepsAnswering F.Finder finder.old finder.new result }
 {
     if path.is_absolute() || base == ROOT.0 {
@@ -195,6 +205,7 @@ pub(crate) fn resolve_from<F: Finder>(
     requires valid { IsTrue (has_parts parts.now) }
     requires may { MayAsk F.Finder finder.old
         (resolve_by base path.bytes.now parts.now slash follow) }
+    requires spend { MaySpend F.Finder finder.old (2 + way_bytes F.Finder parts.now MOST_LINKS) }
     ensures ends { IfOk result (ResolvesTo (F.said finder.new) base
         path.entry.bytes.now parts.entry.now slash follow) }
     ensures kept { KeepsAnswering F.Finder finder.old finder.new result }

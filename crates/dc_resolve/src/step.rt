@@ -1,6 +1,6 @@
 //! One part on, and where a resolution ends.
 
-ghost use Rattle.std.specs.Prelude.{◌≡◌, ◌&&◌, not, Some, IfOk, IsTrue};
+ghost use Rattle.std.specs.Prelude.{◌≡◌, ◌&&◌, not, Some, IfOk, IsTrue, length};
 ghost use Rattle.dc_names.specs.Hash.{hash_of};
 ghost use Rattle.dc_names.specs.Names.{part_shown};
 ghost use Rattle.dc_names.specs.Paths.{bytes_of};
@@ -9,6 +9,7 @@ ghost use Rattle.dc_plain.specs.Resolution.{ending, keeps_link, met_by};
 ghost use Rattle.dc_resolve.specs.Asked.{label_of};
 ghost use Rattle.dc_resolve.specs.Finders.{KeepsAnswering};
 ghost use Rattle.dc_resolve.specs.Needs.{asks};
+ghost use Rattle.dc_resolve.specs.Spends.{MaySpend, Spends};
 ghost use Rattle.dc_resolve.specs.Steps.{met_shown, end_shown, Leads, IfMeets, IsSaidMet};
 
 use crate::outcome::{End, Reached};
@@ -43,8 +44,11 @@ pub(crate) fn step_on<F: Finder>(
     requires hash { hash ≡ hash_of place.0 (bytes_of (part_shown part)) }
     requires may { IsTrue (asks place (part_shown part)) →
         F.may_ask finder.old place.0 (label_of (part_shown part)) }
+    requires spend { MaySpend F.Finder finder.old (length (bytes_of (part_shown part))) }
     ensures leads { IfOk result (Leads (F.said finder.new) place (part_shown part.entry)) }
     ensures link { IfOk result (IsSaidMet (F.said finder.new)) }
+    ensures left { IfOk result (λ reached. Spends F.Finder finder.old finder.new
+        (length (bytes_of (part_shown part.entry))) 0) }
     ensures kept { KeepsAnswering F.Finder finder.old finder.new result }
 {
     // The part is looked at first (measured): what it is was just found out.

@@ -1,6 +1,7 @@
 //! Where a path leads.
 
-ghost use Rattle.std.specs.Prelude.{◌≡◌};
+ghost use Rattle.std.specs.Prelude.{◌≡◌, ◌+◌, ◌*◌, length};
+ghost use Rattle.dc_names.specs.declared.limits.TheConstants.{MOST_LINKS};
 ghost use Rattle.dc_resolve.specs.Ends.{Answers, outcome_shown, stopped_after, walk_by};
 ghost use Rattle.dc_resolve.specs.Needs.{MayAsk};
 
@@ -29,6 +30,9 @@ pub enum Walked {
 #[must_use]
 pub fn walk<F: Finder>(finder: &mut F, base: u64, path: PathText<'_>, follow: Follow) -> Walked
     requires may { MayAsk F.Finder finder.old (walk_by base path.bytes.now follow) }
+    // Two bytes are those of the dot-dot by which the starting directory is asked for.
+    requires spend { F.may_spend finder.old
+        (2 + length path.bytes.now + MOST_LINKS * F.link_bytes) }
     // Whatever else may be learnt later, the outcome stays.
     ensures answer { Answers (F.said finder.new) (walk_by base path.entry.bytes.now follow)
         (outcome_shown result) }

@@ -7,7 +7,7 @@ use Rattle.dc_plain.specs.Facts.Label.{Entry, Parent}
 use Rattle.dc_plain.specs.Facts.Fact.{Leads, Reads}
 use Rattle.dc_row.specs.Decoding.{byte_in, bytes_from, fact_by, target_by, SpelledIsRead}
 use Rattle.dc_row.specs.Spelling.{Spells, fields_of, has_spelling, kind_code, target_number, text_word}
-use Rattle.dc_row.specs.declared.TheConstants.{ROW_WORDS, ROW_TEXT}
+use Rattle.dc_row.specs.declared.TheConstants.{ROW_WORDS, ROW_ROOM}
 use Rattle.dc_row.proofs.Labels.{entry_is, parent_is}
 use Rattle.dc_row.proofs.Packed.{bytes_in-word_of, get_or-padded}
 use Rattle.dc_row.proofs.Read.{head_is, length_is, part_at, part_bytes, part_short, small, tag_is, text_fits}
@@ -21,7 +21,7 @@ from_is byte (x ∷ xs) k is =
     let rest = from_is byte xs (suc k) (λ i l. let next : suc k + i ≡ k + suc i = omega arith in ap byte next ∙ is (suc i) (omega arith)) in
     λ i. first i ∷ rest i
 
-pub byte_so : {words : List ℕ} {fact : Option Fact} → Spells words fact → (i : ℕ) → i < ROW_TEXT → byte_in words i ≡ get_or (fields_of fact).text i 0
+pub byte_so : {words : List ℕ} {fact : Option Fact} → Spells words fact → (i : ℕ) → i < ROW_ROOM → byte_in words i ≡ get_or (fields_of fact).text i 0
 byte_so {words} {fact} s i within =
     let text = (fields_of fact).text in
     let part = take 8 (drop (8 * (i / 8)) text) in
@@ -37,10 +37,10 @@ text_so {words} {fact} s =
     let fits = text_fits s in
     ap (λ (n : ℕ). bytes_from (byte_in words) 0 n) (length_is s) ∙ from_is (byte_in words) (fields_of fact).text 0 (λ i l. let zeroed : 0 + i ≡ i = omega arith in ap (byte_in words) zeroed ∙ byte_so s i (omega arith))
 
-kind_is : {words : List ℕ} {fact : Option Fact} → Spells words fact → get_or words 1 0 / 16777216 % 256 ≡ (fields_of fact).kind
+pub kind_is : {words : List ℕ} {fact : Option Fact} → Spells words fact → get_or words 1 0 / 16777216 % 256 ≡ (fields_of fact).kind
 kind_is {words} {fact} s = let few = small fact s.allowed in rw (head_is s) (omega arith)
 
-target_so : (target : Option Target) → target_by (kind_code target) (target_number target) ≡ target
+pub target_so : (target : Option Target) → target_by (kind_code target) (target_number target) ≡ target
 target_so None = refl
 target_so (Some (n, Dir)) = refl
 target_so (Some (n, File)) = refl

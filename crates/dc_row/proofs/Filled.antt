@@ -4,11 +4,11 @@ use Rattle.std.proofs.Math.Seq.{take-append_seam}
 use Rattle.std.proofs.lemmas.Grind.{common_steps}
 use Rattle.std.proofs.lemmas.List.{drop-replicate}
 use Rattle.dc_row.specs.Rooms.{IsPadded, padded}
-use Rattle.dc_row.specs.declared.TheConstants.{ROW_TEXT}
+use Rattle.dc_row.specs.declared.TheConstants.{ROW_ROOM, ROW_TEXT}
 
-pub filled : (bytes part : List ℕ) → part ≡ bytes → length bytes ≤ ROW_TEXT → IsPadded (record { room = part ++ drop (length bytes) (replicate ROW_TEXT 0); len = length bytes })
+pub filled : (bytes part : List ℕ) → part ≡ bytes → length bytes ≤ ROW_TEXT → IsPadded (record { room = part ++ drop (length bytes) (replicate ROW_ROOM 0); len = length bytes })
 filled bytes part is fits =
-    let left : drop {A = ℕ} (length bytes) (replicate ROW_TEXT 0) ≡ replicate (ROW_TEXT - length bytes) 0 = drop-replicate _ _ _ in
+    let left : drop {A = ℕ} (length bytes) (replicate ROW_ROOM 0) ≡ replicate (ROW_ROOM - length bytes) 0 = drop-replicate _ _ _ in
     rw is (record {
       fits = fits;
       size = rw left (grind (arith, common_steps));

@@ -11,3 +11,4 @@ pub mod Lanes
 pub mod Empty
 pub mod Lasts
 pub mod Entries
+pub mod Firsts

@@ -1,27 +1,28 @@
--- The text of a link whose bytes stand in a room.
-use Rattle.std.proofs.Common.{◌≡◌, ◌≢◌, ℕ, zero, suc, ◌+◌, ◌-◌, ◌*◌, ◌/◌, ◌%◌, ◌^◌, ◌<◌, ◌≤◌, List, length, get_or, get_or-take, take, drop, Option, Some, true, refl, subst, sym, ap, ◌∙◌, arith, inl, inr}
+-- The text of a link by the words of its row.
+use Rattle.std.proofs.Common.{◌≡◌, ◌≢◌, ◌↔◌, ℕ, zero, suc, ◌+◌, ◌-◌, ◌*◌, ◌/◌, ◌%◌, ◌^◌, ◌<◌, ◌≤◌, List, ◌++◌, length, length-take-le, get_or, get_or-take, take, drop, Option, Some, true, refl, subst, sym, ap, ◌∙◌, arith, inl, inr}
 use Rattle.std.specs.Int.{sum_through, byte_worth}
 use Rattle.std.proofs.lemmas.Bool.{and_from, cases_eq, cases_lt, ne_eqb, not_from_false}
 use Rattle.std.proofs.lemmas.Bool.Decides.{nat_tests}
 use Rattle.std.proofs.lemmas.Grind.{common_steps}
-use Rattle.std.proofs.lemmas.List.{get_or_past}
+use Rattle.std.proofs.lemmas.List.{get_or_append_left, get_or-append_right, get_or_past}
 use Rattle.std.proofs.lemmas.Nat.{from_le_bytes-to_le_bytes_8}
 use Rattle.dc_names.specs.Laws.{NoPieceIsLonger}
 use Rattle.dc_names.specs.Words.{AreBytes, word_of, bytes_in}
 use Rattle.dc_plain.specs.Facts.{Fact}
 use Rattle.dc_plain.specs.Facts.Fact.{Reads}
-use Rattle.dc_row.specs.Decoding.{IsRoomOf}
-use Rattle.dc_row.specs.Rooms.{EndsAt, padded}
+use Rattle.dc_row.specs.Decoding.{EndsAt, HasBytes, IsRoomOf, byte_in, bytes_from}
+use Rattle.dc_row.specs.Rooms.{padded}
 use Rattle.dc_row.specs.Spelling.{Spells, SpellsText, IsSpelled, fields, fields_of, is_path, text_word, word_at}
-use Rattle.dc_row.specs.declared.TheConstants.{ROW_WORDS, ROW_TEXT}
+use Rattle.dc_row.specs.declared.TheConstants.{ROW_WORDS, ROW_TEXT, ROW_ROOM}
 use Rattle.dc_row.proofs.Compared.{all_same}
 use Rattle.dc_row.proofs.Decoded.{byte_so}
 use Rattle.dc_row.proofs.Packed.{get_or-padded}
+use Rattle.dc_row.proofs.Lanes.{byte_small, bytes_size}
 use Rattle.dc_row.proofs.Paths.{path_from, path_parts}
-use Rattle.dc_row.proofs.Read.{both, front_is, head_is, part_at, part_short, take_bytes, text_fits}
+use Rattle.dc_row.proofs.Read.{both, front_is, head_is, part_at, part_short, text_fits}
 use Rattle.dc_row.proofs.Written.{word_at-text}
 
-room_at : {words room : List ℕ} {fact : Option Fact} → Spells words fact → IsRoomOf words room → (i : ℕ) → i < ROW_TEXT → get_or room i 0 ≡ get_or (fields_of fact).text i 0
+room_at : {words room : List ℕ} {fact : Option Fact} → Spells words fact → IsRoomOf words room → (i : ℕ) → i < ROW_ROOM → get_or room i 0 ≡ get_or (fields_of fact).text i 0
 room_at s r i within = r.bytes i within ∙ byte_so s i within
 
 pub front_of_room : {words room : List ℕ} {fact : Option Fact} → Spells words fact → IsRoomOf words room → take (length (fields_of fact).text) room ≡ (fields_of fact).text
@@ -32,12 +33,12 @@ front_of_room {room = room} {fact = fact} s r =
 pub room_padded : {words room text : List ℕ} {n : ℕ} → Spells words (Some (Reads n text)) → IsRoomOf words room → padded text ≡ room
 room_padded {room = room} {text = text} s r =
     let fits = text_fits s in let size = r.size in
-    let same : length (padded text) ≡ ROW_TEXT = grind (arith, common_steps) in
-    all_same (padded text) room (same ∙ sym size) (λ k h. get_or-padded text (ROW_TEXT - length text) k ∙ sym (room_at s r k (omega arith)))
+    let same : length (padded text) ≡ ROW_ROOM = grind (arith, common_steps) in
+    all_same (padded text) room (same ∙ sym size) (λ k h. get_or-padded text (ROW_ROOM - length text) k ∙ sym (room_at s r k (omega arith)))
 
-pub room_ends : {words room text : List ℕ} {n : ℕ} → Spells words (Some (Reads n text)) → IsRoomOf words room → EndsAt room (length text)
-room_ends {room = room} {text = text} s r = λ i within.
-    let at = room_at s r i within in (
+pub text_ends : {words text : List ℕ} {n : ℕ} → Spells words (Some (Reads n text)) → EndsAt words (length text)
+text_ends {text = text} s = λ i within.
+    let at = byte_so s i within in (
       λ h e. (path_parts text (both _ _ (both _ _ s.allowed).0).1).1 i h (sym at ∙ e),
       λ some. elim (cases_lt i (length text)) [ inl h ↦ h | inr past ↦ absurd (some (at ∙ get_or_past text i 0 past)) ],
     )
@@ -47,76 +48,131 @@ word_same : (xs : List ℕ) (word : ℕ) → word < 2 ^ 64 → ((i : ℕ) → ge
 unfolding word_of bytes_in
 word_same xs word small same = sym (from_le_bytes-to_le_bytes_8 word small) ∙ sym (λ j. sum_through (λ i. byte_worth i (same i j)) 7)
 
--- what the words and their room have, if they have a text of this length
-pub record HasText (words room : List ℕ) (len : ℕ) : Type 0 where
+-- one word more in a room
+pub one_more_word : (words room part past : List ℕ) (i : ℕ) → 4 ≤ i → part ≡ bytes_in (get_or words i 0) → 8 * (i - 4) ≤ length room → ((k : ℕ) → k < 8 * (i - 4) → get_or room k 0 ≡ byte_in words k) → (k : ℕ) → k < 8 * (i + 1 - 4) → get_or (take (8 * (i - 4)) room ++ (part ++ past)) k 0 ≡ byte_in words k
+one_more_word words room part past i late is fits before k lt =
+    let at = 8 * (i - 4) in
+    let size : length (take at room) ≡ at = length-take-le at room fits in
+    let eight : length part ≡ 8 = ap length is ∙ bytes_size (get_or words i 0) in
+    elim (cases_lt k at) [
+      | inl low ↦ get_or_append_left (take at room) (part ++ past) 0 k (omega arith) ∙ get_or-take at room k 0 low ∙ before k low
+      | inr here ↦
+          let word : i ≡ 4 + k / 8 = omega arith in
+          let byte : k - at ≡ k % 8 = omega arith in
+          get_or-append_right (take at room) (part ++ past) at k 0 size here ∙ get_or_append_left part past 0 (k - at) (omega arith) ∙ ap (λ (bs : List ℕ). get_or bs (k - at) 0) is ∙ (λ j. get_or (bytes_in (get_or words (word j) 0)) (byte j) 0)
+    ]
+
+-- the part of a text in one word
+pub word_ends : (words part : List ℕ) (len i n : ℕ) → part ≡ bytes_in (get_or words i 0) → 4 ≤ i → i < ROW_WORDS → ((k : ℕ) → k < 8 → (k < n) ↔ (8 * (i - 4) + k < len)) → EndsAt words len → HasBytes part n
+word_ends words part len i n is late within parts ends = λ k low.
+    let at = 8 * (i - 4) + k in
+    let word : 4 + at / 8 ≡ i = omega arith in
+    let byte : at % 8 ≡ k = omega arith in
+    let same : byte_in words at ≡ get_or part k 0 = (λ j. get_or (bytes_in (get_or words (word j) 0)) (byte j) 0) ∙ ap (λ (bs : List ℕ). get_or bs k 0) (sym is) in
+    let told = ends at (omega arith) in
+    let part = parts k low in
+    (λ lt e. told.0 (part.0 lt) (same ∙ e), λ some. part.1 (told.1 (λ e. some (sym same ∙ e))))
+
+-- the words before one, and that one
+pub one_more_end : (words part : List ℕ) (len i n : ℕ) → part ≡ bytes_in (get_or words i 0) → 4 ≤ i → ((k : ℕ) → k < 8 → (k < n) ↔ (8 * (i - 4) + k < len)) → HasBytes part n → ((j : ℕ) → j < 8 * (i - 4) → (j < len) ↔ (byte_in words j ≢ 0)) → (j : ℕ) → j < 8 * (i + 1 - 4) → (j < len) ↔ (byte_in words j ≢ 0)
+one_more_end words part len i n is late parts has before j lt = elim (cases_lt j (8 * (i - 4))) [
+  | inl low ↦ before j low
+  | inr here ↦
+      let k = j - 8 * (i - 4) in
+      let word : 4 + j / 8 ≡ i = omega arith in
+      let byte : j % 8 ≡ k = omega arith in
+      let same : byte_in words j ≡ get_or part k 0 = (λ m. get_or (bytes_in (get_or words (word m) 0)) (byte m) 0) ∙ ap (λ (bs : List ℕ). get_or bs k 0) (sym is) in
+      let told = has k (omega arith) in
+      let part_of = parts k (omega arith) in
+      (λ lt e. told.0 (part_of.1 (omega arith)) (sym same ∙ e), λ some. let lt = part_of.0 (told.1 (λ e. some (same ∙ e))) in omega arith)
+]
+
+-- so many of the bytes for a text
+abbrev front : List ℕ → ℕ → List ℕ
+front words len = bytes_from (byte_in words) 0 len
+
+from_size : (byte : ℕ → ℕ) (k n : ℕ) → length (bytes_from byte k n) ≡ n
+from_size byte k zero = refl
+from_size byte k (suc n) = ap suc (from_size byte (suc k) n)
+
+from_place : (byte : ℕ → ℕ) (k n i : ℕ) → i < n → get_or (bytes_from byte k n) i 0 ≡ byte (k + i)
+from_place byte k zero i within = absurd (omega arith)
+from_place byte k (suc n) zero within = let same : k ≡ k + 0 = omega arith in ap byte same
+from_place byte k (suc n) (suc i) within = let same : suc k + i ≡ k + suc i = omega arith in from_place byte (suc k) n i (omega arith) ∙ ap byte same
+
+from_at : (byte : ℕ → ℕ) (n i : ℕ) → i < n → get_or (bytes_from byte 0 n) i 0 ≡ byte i
+from_at byte n i within = let same : 0 + i ≡ i = omega arith in from_place byte 0 n i within ∙ ap byte same
+
+-- what the words have, if they have a text of this length
+pub record HasText (words : List ℕ) (len : ℕ) : Type 0 where
   pub count : length words ≡ ROW_WORDS
   pub small : (i : ℕ) → get_or words i 0 < 2 ^ 64
-  pub is_room : IsRoomOf words room
-  pub bytes : AreBytes room
   pub some : 0 < len
   pub few : len ≤ ROW_TEXT
   pub head : get_or words 1 0 ≡ 2 + 256 * len
   pub number : get_or words 2 0 ≢ 0
   pub value : get_or words 3 0 ≡ 0
-  pub ends : EndsAt room len
+  pub ends : EndsAt words len
 
-front_size : {words room : List ℕ} {len : ℕ} → HasText words room len → length (take len room) ≡ len
-front_size h = let size = h.is_room.size in let few = h.few in grind (arith, common_steps)
-
--- the bytes after the text are zero, in the room and past its end
-front_at : {words room : List ℕ} {len : ℕ} → HasText words room len → (i : ℕ) → i < ROW_TEXT → get_or (take len room) i 0 ≡ get_or room i 0
-front_at {words} {room} {len} h i within = elim (cases_lt i len) [
-  | inl before ↦ get_or-take len room i 0 before
+-- the bytes after the text are zero, among those of the words and past their end
+front_at : {words : List ℕ} {len : ℕ} → HasText words len → (i : ℕ) → i < ROW_ROOM → get_or (front words len) i 0 ≡ byte_in words i
+front_at {words} {len} h i within = elim (cases_lt i len) [
+  | inl before ↦ from_at (byte_in words) len i before
   | inr past ↦
-      let size = front_size h in
-      get_or_past (take len room) i 0 (omega arith) ∙ elim (cases_eq (get_or room i 0) 0) [
+      let size = from_size (byte_in words) 0 len in
+      get_or_past (front words len) i 0 (omega arith) ∙ elim (cases_eq (byte_in words i) 0) [
         | inl none ↦ sym none
         | inr some ↦ let before = (h.ends i within).1 some in absurd (omega arith)
       ]
 ]
 
-front_word : {words room : List ℕ} {len : ℕ} → HasText words room len → (k : ℕ) → k < 4 → get_or words (4 + k) 0 ≡ text_word (take len room) k
+front_bytes : (words : List ℕ) (len : ℕ) → AreBytes (front words len)
+front_bytes words len = λ i. elim (cases_lt i len) [
+  | inl before ↦ subst (λ (b : ℕ). b < 256) (sym (from_at (byte_in words) len i before)) (byte_small (get_or words (4 + i / 8) 0) i)
+  | inr past ↦ let size = from_size (byte_in words) 0 len in subst (λ (b : ℕ). b < 256) (sym (get_or_past (front words len) i 0 (omega arith))) (omega arith)
+]
+
+front_word : {words : List ℕ} {len : ℕ} → HasText words len → (k : ℕ) → k < ROW_WORDS - 4 → get_or words (4 + k) 0 ≡ text_word (front words len) k
 unfolding bytes_in
-front_word {words} {room} {len} h k within =
-    let part = take 8 (drop (8 * k) (take len room)) in
-    let short : length part ≤ 8 = part_short (take len room) (8 * k) in
+front_word {words} {len} h k within =
+    let part = take 8 (drop (8 * k) (front words len)) in
+    let short : length part ≤ 8 = part_short (front words len) (8 * k) in
     word_same part (get_or words (4 + k) 0) (h.small (4 + k)) (λ i. elim (cases_lt i 8) [
       | inl low ↦
           let word : 4 + (8 * k + i) / 8 ≡ 4 + k = omega arith in
           let byte : (8 * k + i) % 8 ≡ i = omega arith in
-          part_at (take len room) 8 (8 * k) i low ∙ front_at h (8 * k + i) (omega arith) ∙ h.is_room.bytes (8 * k + i) (omega arith)
-          ∙ (λ j. get_or (bytes_in (get_or words (word j) 0)) (byte j) 0)
+          part_at (front words len) 8 (8 * k) i low ∙ front_at h (8 * k + i) (omega arith) ∙ (λ j. get_or (bytes_in (get_or words (word j) 0)) (byte j) 0)
       | inr past ↦ get_or_past part i 0 (omega arith) ∙ sym (get_or_past (bytes_in (get_or words (4 + k) 0)) i 0 past)
     ])
 
-front_spelled : {words room : List ℕ} {len : ℕ} → HasText words room len → IsSpelled words (fields 2 0 (get_or words 2 0) 0 (take len room))
+front_spelled : {words : List ℕ} {len : ℕ} → HasText words len → IsSpelled words (fields 2 0 (get_or words 2 0) 0 (front words len))
 front_spelled h zero pos lt = absurd (omega arith)
-front_spelled h (suc zero) pos lt = let size = front_size h in let head = h.head in omega arith
+front_spelled {words} {len} h (suc zero) pos lt = let size = from_size (byte_in words) 0 len in let head = h.head in omega arith
 front_spelled h (suc (suc zero)) pos lt = refl
 front_spelled h (suc (suc (suc zero))) pos lt = h.value
-front_spelled {words} {room} {len} h (suc (suc (suc (suc k)))) pos lt =
-    let f = fields 2 0 (get_or words 2 0) 0 (take len room) in
+front_spelled {words} {len} h (suc (suc (suc (suc k)))) pos lt =
+    let f = fields 2 0 (get_or words 2 0) 0 (front words len) in
     let place : k ≡ 4 + k - 4 = omega arith in
     let late : 4 + k ≡ suc (suc (suc (suc k))) = omega arith in
     subst (λ (i : ℕ). get_or words i 0 ≡ word_at f i) late (front_word h k (omega arith) ∙ ap (text_word f.text) place ∙ sym (word_at-text f (4 + k) (omega arith)))
 
-front_path : {words room : List ℕ} {len : ℕ} → NoPieceIsLonger → HasText words room len → is_path (take len room) ≡ true
-front_path {words} {room} {len} law h =
-    let size = front_size h in let some = h.some in let few = h.few in
-    path_from law (take len room) (omega arith) (omega arith) (λ i before e.
+front_path : {words : List ℕ} {len : ℕ} → NoPieceIsLonger → HasText words len → is_path (front words len) ≡ true
+front_path {words} {len} law h =
+    let size = from_size (byte_in words) 0 len in let some = h.some in let few = h.few in
+    path_from law (front words len) (omega arith) (omega arith) (λ i before e.
     (h.ends i (omega arith)).0 (omega arith) (sym (front_at h i (omega arith)) ∙ e))
 
 pub text_size : {words text : List ℕ} {n : ℕ} → Spells words (Some (Reads n text)) → length text ≡ get_or words 1 0 / 256
 text_size s = let head = head_is s in omega arith
 
-pub text_there : {words room : List ℕ} {len : ℕ} → NoPieceIsLonger → HasText words room len → SpellsText words
-text_there {words} {room} {len} law h = (
+pub text_there : {words : List ℕ} {len : ℕ} → NoPieceIsLonger → HasText words len → SpellsText words
+text_there {words} {len} law h = (
   get_or words 2 0,
-  take len room,
+  front words len,
   record {
     size = h.count;
-    allowed = let size = front_size h in let few = h.few in and_from _ _ (and_from _ _ (not_from_false _ (ne_eqb (get_or words 2 0) 0 h.number)) (front_path law h)) (grind (arith, nat_tests));
-    bytes = λ i. take_bytes room len i h.bytes;
+    allowed = let size = from_size (byte_in words) 0 len in let few = h.few in and_from _ _ (and_from _ _ (not_from_false _ (ne_eqb (get_or words 2 0) 0 h.number)) (front_path law h)) (grind (arith, nat_tests));
+    bytes = front_bytes words len;
     spelled = front_spelled h;
   },
 )

@@ -1,7 +1,10 @@
 -- The words of a row, written one after the other.
-use Rattle.std.proofs.Common.{◌≡◌, ◌≢◌, ℕ, ◌+◌, ◌-◌, ◌<◌, ◌≤◌, ◌==◌, List, length, get_or, set, false, arith, refl, sym, ◌∙◌, below_more, get_or-set_same, get_or-set_other}
+use Rattle.std.proofs.Common.{◌≡◌, ◌≢◌, ℕ, zero, suc, ◌+◌, ◌-◌, ◌*◌, ◌<◌, ◌≤◌, ◌==◌, List, length, get_or, set, take, ap, false, arith, refl, sym, ◌∙◌, below_more, get_or-set_same, get_or-set_other}
 use Rattle.std.proofs.lemmas.Grind.{common_steps}
-use Rattle.dc_row.specs.Spelling.{Fields, word_at, text_word}
+use Rattle.std.proofs.lemmas.List.{drop_all}
+use Rattle.dc_names.specs.Words.{word_of}
+use Rattle.dc_row.specs.declared.TheConstants.{ROW_WORDS}
+use Rattle.dc_row.specs.Spelling.{Fields, IsSpelled, head_of, word_at, text_word}
 
 pub word_at-text : (f : Fields) (i : ℕ) → 4 ≤ i → word_at f i ≡ text_word f.text (i - 4)
 word_at-text f i late =
@@ -9,6 +12,19 @@ word_at-text f i late =
     let two : (i == 2) ≡ false = grind (arith, common_steps) in
     let three : (i == 3) ≡ false = grind (arith, common_steps) in
     rw (one, two, three) refl
+
+-- no byte of the text stands past its end
+pub word_past : (text : List ℕ) (k : ℕ) → length text ≤ 8 * k → text_word text k ≡ 0
+unfolding word_of
+word_past text k past = ap (λ (xs : List ℕ). word_of (take 8 xs)) (drop_all (8 * k) text past)
+
+-- head, number, value and text are those of the fields
+pub spelled_by : (words : List ℕ) (f : Fields) → get_or words 1 0 ≡ head_of f → get_or words 2 0 ≡ f.number → get_or words 3 0 ≡ f.value → ((j : ℕ) → 4 ≤ j → j < ROW_WORDS → get_or words j 0 ≡ text_word f.text (j - 4)) → IsSpelled words f
+spelled_by words f head number value text zero some few = absurd (omega arith)
+spelled_by words f head number value text (suc zero) some few = head
+spelled_by words f head number value text (suc (suc zero)) some few = number
+spelled_by words f head number value text (suc (suc (suc zero))) some few = value
+spelled_by words f head number value text (suc (suc (suc (suc j)))) some few = text (suc (suc (suc (suc j)))) (omega arith) few ∙ sym (word_at-text f (suc (suc (suc (suc j)))) (omega arith))
 
 pub one_more : (ws : List ℕ) (i v : ℕ) (f : Fields) → 4 ≤ i → i < length ws → v ≡ text_word f.text (i - 4) → ((j : ℕ) → 0 < j → j < i → get_or ws j 0 ≡ word_at f j) → (j : ℕ) → 0 < j → j < i + 1 → get_or (set ws i v) j 0 ≡ word_at f j
 one_more ws i v f late within is before j pos lt =

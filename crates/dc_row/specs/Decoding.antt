@@ -1,12 +1,12 @@
 -- The fact that the fields of a row's words tell, whether or not the words are spelled so.
-use Rattle.std.specs.Prelude.{◌≡◌, ℕ, zero, suc, ◌+◌, ◌/◌, ◌%◌, ◌<◌, ◌==◌, List, [], ◌∷◌, Option, Some, None, length, slice_index, if◌then◌else◌}
+use Rattle.std.specs.Prelude.{◌≡◌, ◌≢◌, ◌↔◌, ℕ, zero, suc, ◌+◌, ◌/◌, ◌%◌, ◌<◌, ◌==◌, List, [], ◌∷◌, Option, Some, None, length, slice_index, if◌then◌else◌}
 use Rattle.dc_names.specs.Words.{bytes_in}
 use Rattle.dc_names.specs.declared.kind.Kind.TheVariants.{Dir, File, Link}
 use Rattle.dc_plain.specs.Facts.{Target, Label, Fact, same_bytes}
 use Rattle.dc_plain.specs.Facts.Label.{Entry, Parent}
 use Rattle.dc_plain.specs.Facts.Fact.{Leads, Reads}
 use Rattle.dc_row.specs.Spelling.{Spells}
-use Rattle.dc_row.specs.declared.TheConstants.{ROW_TEXT}
+use Rattle.dc_row.specs.declared.TheConstants.{ROW_ROOM}
 use Rattle.dc_row.specs.declared.layout.TheConstants.{KIND_UNIT, LENGTH_UNIT, LENGTHS, TAGS}
 
 -- where an entry leads, by the code of a kind and a number
@@ -35,8 +35,16 @@ byte_in words i = slice_index (bytes_in (slice_index words (4 + i / 8))) (i % 8)
 
 -- a room with all bytes of a row's words for a text
 pub record IsRoomOf (words room : List ℕ) : Type 0 where
-  pub size : length room ≡ ROW_TEXT
-  pub bytes : (i : ℕ) → i < ROW_TEXT → slice_index room i ≡ byte_in words i
+  pub size : length room ≡ ROW_ROOM
+  pub bytes : (i : ℕ) → i < ROW_ROOM → slice_index room i ≡ byte_in words i
+
+-- so many of a word's first bytes, and only they, aren't zero
+abbrev pub HasBytes : List ℕ → ℕ → Type 0
+HasBytes bytes len = (i : ℕ) → i < 8 → (i < len) ↔ (slice_index bytes i ≢ 0)
+
+-- the bytes of the text before a place, and only they, aren't zero
+abbrev pub EndsAt : List ℕ → ℕ → Type 0
+EndsAt words len = (i : ℕ) → i < ROW_ROOM → (i < len) ↔ (byte_in words i ≢ 0)
 
 -- so many bytes from the k-th on
 abbrev pub bytes_from : (ℕ → ℕ) → ℕ → ℕ → List ℕ

@@ -3,4 +3,5 @@ pub mod Rooms
 pub mod Rows
 pub mod Spelling
 pub mod Decoding
+pub mod Narrow
 pub mod Laws

@@ -1,16 +1,15 @@
 //! A fact of a key that is sought in the words of rows, which are compared and not decoded.
 
-ghost use Rattle.std.specs.Prelude.{◌≡◌, ◌≤◌, ◌↔◌, length, slice_index, Option, Some, IfSome, IsTrue, true, false};
+ghost use Rattle.std.specs.Prelude.{◌≡◌, ◌≤◌, ◌<◌, ◌↔◌, ℕ, length, slice_index, Option, Some, IfSome, IsTrue, true, false};
 ghost use Rattle.dc_names.specs.Words.{AreBytes};
 ghost use Rattle.dc_plain.specs.Facts.{Target, label_bytes};
 ghost use Rattle.dc_plain.specs.Facts.Fact.{Reads};
 ghost use Rattle.dc_plain.specs.KeysShown.{key_shown};
-ghost use Rattle.dc_row.specs.Decoding.{target_by};
-ghost use Rattle.dc_row.specs.Rooms.{EndsAt};
+ghost use Rattle.dc_row.specs.Decoding.{target_by, EndsAt, HasBytes};
 ghost use Rattle.dc_row.specs.Spelling.{Spells, SpellsEntry, SpellsNoEntry, SpellsText, TellsOf, TellsText, entry_of, has_spelling, is_numbered, kind_code, target_number, fields, IsSpelled};
 ghost use Rattle.dc_row.specs.declared.TheConstants.{ROW_WORDS, ROW_TEXT};
 
-use crate::reading::{room_of, spelled_text};
+use crate::reading::spelled_text;
 use crate::writing::text_word;
 use crate::{KIND_UNIT, LENGTH_UNIT, ROW_TEXT, ROW_WORDS, RowText, TAGS, kind, number, value};
 use dc_names::no_piece_is_longer;
@@ -63,18 +62,35 @@ fn is_text(words: &[u64]) -> bool
     }
     // No component of so short a text is too long, and so only a zero byte is looked for.
     no_piece_is_longer();
-    ends_at(room_of(words), len)
+    ends_at(words, len)
 }
 
-/// Whether the bytes of a room are a text of this length, without a zero byte, and zeros after it. Then
-/// the bits of the zero bytes are those from the length on.
+/// Whether the bytes for a text are so many, without a zero byte, and zeros after them.
 #[inline(always)]
-fn ends_at(room: u8x32, len: u64) -> bool
+fn ends_at(words: &[u64], len: u64) -> bool
+    requires size { length words.now ≡ ROW_WORDS }
     requires fits { len ≤ ROW_TEXT }
-    ensures { IsTrue result ↔ EndsAt room len }
+    ensures { IsTrue result ↔ EndsAt words.now len }
 {
-    let zeros = room.simd_eq(u8x32::splat(0)).to_bitmask();
-    zeros == (1 << ROW_TEXT) - (1 << len)
+    'text: for i in 4..ROW_WORDS {
+        let bytes = u8x8::from_array(words[i].to_le_bytes());
+        let before = 8 * (i as u64 - 4);
+        if !has_bytes(bytes, len.saturating_sub(before).min(8)) {
+            return false;
+        }
+    }
+    true
+}
+
+/// Whether so many of a word's first bytes aren't zero, and the others are. Then the bits of the zero
+/// bytes are those from that many on.
+#[inline(always)]
+fn has_bytes(bytes: u8x8, len: u64) -> bool
+    requires fits { len ≤ 8 }
+    ensures { IsTrue result ↔ HasBytes bytes len }
+{
+    let zeros = bytes.simd_eq(u8x8::splat(0)).to_bitmask();
+    zeros == (1 << 8) - (1 << len)
 }
 
 /// Whether the words spell an entry of a key, wherever it leads.
@@ -107,12 +123,26 @@ fn is_spelled(words: &[u64], tag: u64, kind: u64, number: u64, value: u64, text:
     if words[1] != head || words[2] != number || words[3] != value {
         return false;
     }
-    'text: for i in 4..ROW_WORDS {
+    let end = 4 + text.len().div_ceil(8);
+    'text: for i in 4..end {
         if words[i] != text_word(text, i - 4) {
             return false;
         }
     }
-    true
+    are_zero(words, end)
+}
+
+/// Whether all words from one on are zero, as those past a text are. It looks at each, so that several are
+/// looked at at a time.
+#[inline(always)]
+fn are_zero(words: &[u64], from: usize) -> bool
+    ensures { IsTrue result ↔ ((i : ℕ) → from ≤ i → i < length words.now → slice_index words.now i ≡ 0) }
+{
+    let mut any = 0;
+    for i in from..words.len() {
+        any |= words[i];
+    }
+    any == 0
 }
 
 /// Whether an entry can have this kind and this number: one that leads nowhere has no number.

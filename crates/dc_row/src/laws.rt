@@ -4,6 +4,7 @@ ghost use Rattle.std.specs.Prelude.{◌≡◌, None, Option};
 ghost use Rattle.dc_plain.specs.Facts.{Fact};
 ghost use Rattle.dc_row.specs.Decoding.{SpelledIsRead};
 ghost use Rattle.dc_row.specs.Laws.{CountsTellNothing, HasOneSpelling};
+ghost use Rattle.dc_row.specs.Narrow.{RowsEndInZeros};
 ghost use Rattle.dc_row.specs.Spelling.{Spells};
 
 use crate::{EMPTY_ROW, decode};
@@ -28,6 +29,11 @@ pub fn words_have_the_fact_they_spell()
 /// Words spell the same with any sequence count.
 pub fn counts_tell_nothing()
     ensures { CountsTellNothing }
+{}
+
+/// The words of a row past its text are zero.
+pub fn rows_end_in_zeros()
+    ensures { RowsEndInZeros }
 {}
 
 /// The words of an empty row spell no fact.

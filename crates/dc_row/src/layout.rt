@@ -1,4 +1,4 @@
-//! The layout of a row: what each of its eight words has.
+//! The layout of a row: what each of its words has.
 //!
 //! | word | bits | what it has |
 //! |---|---|---|
@@ -9,7 +9,7 @@
 //! | | 32 to 63 | zero |
 //! | 2 | all | the number of the directory or of the link |
 //! | 3 | all | the number of the inode that the entry leads to, or 0 |
-//! | 4 to 7 | all | the text: a name, two dots, or a link's text; the first byte lowest, zeros after the last |
+//! | the others | all | the text: a name, two dots, or a link's text; the first byte lowest, zeros after the last |
 //!
 //! An empty row has zeros in all words after its count. Each fact has one spelling: each bit of which the
 //! table doesn't say more is zero.

@@ -6,28 +6,34 @@ mod entry;
 mod fields;
 mod laws;
 mod layout;
+mod narrow;
 mod reading;
 mod row;
 mod text;
 mod writing;
 
+use dc_names::NAME_MAX;
 pub use entry::{tells_of, text_of};
 pub use fields::{kind, length, number, tag, value};
 pub use laws::{
-    counts_tell_nothing, empty_row_spells_nothing, rows_have_one_spelling,
+    counts_tell_nothing, empty_row_spells_nothing, rows_end_in_zeros, rows_have_one_spelling,
     words_have_the_fact_they_spell, words_spell_one_row,
 };
 pub use layout::{KIND_UNIT, LENGTH_UNIT, LENGTHS, TAGS};
+pub use narrow::{told_words, widened};
 pub use reading::{decode, spelled_text, target, text_in};
 pub use row::{Row, RowLabel};
 pub use text::RowText;
 pub use writing::encode;
 
 /// How many words a row has.
-pub const ROW_WORDS: usize = 8;
+pub const ROW_WORDS: usize = 36;
 
-/// The most bytes that the text of a row has.
-pub const ROW_TEXT: usize = 32;
+/// The most bytes that the text of a row has: as many as a name has.
+pub const ROW_TEXT: usize = NAME_MAX;
+
+/// How many bytes the words from the fourth on have.
+pub(crate) const ROW_ROOM: usize = 8 * (ROW_WORDS - 4);
 
 /// The words of a row that tells nothing.
 pub const EMPTY_ROW: [u64; ROW_WORDS] = [0; ROW_WORDS];

@@ -1,18 +1,18 @@
 //! What the words of a row tell.
 
-ghost use Rattle.std.specs.Prelude.{◌≡◌, length, Option, Some, IfSome};
+ghost use Rattle.std.specs.Prelude.{◌≡◌, ◌≤◌, length, Option, Some, IfSome};
 ghost use Rattle.std.specs.Option.{option_map};
 ghost use Rattle.dc_plain.specs.Facts.{Fact};
 ghost use Rattle.dc_row.specs.Decoding.{IsRoomOf};
+ghost use Rattle.dc_row.specs.Narrow.{widened};
 ghost use Rattle.dc_row.specs.Rows.{row_shown, label_shown};
 ghost use Rattle.dc_row.specs.Spelling.{Spells, SpellsText, TellsRow, TellsLabel, TellsTarget, TellsText, fields_of};
 ghost use Rattle.dc_row.specs.declared.TheConstants.{ROW_WORDS};
 
 use crate::{
-    ROW_TEXT, ROW_WORDS, Row, RowLabel, RowText, encode, kind, length, number, tag, value,
+    ROW_ROOM, ROW_TEXT, ROW_WORDS, Row, RowLabel, RowText, encode, kind, length, number, tag, value,
 };
 use dc_names::Kind;
-use std::simd::prelude::*;
 
 /// The row that the words spell, or `None` where they spell none, whatever the sequence count is.
 #[must_use]
@@ -56,12 +56,14 @@ fn label_in(words: &[u64]) -> Option<RowLabel>
     }
 }
 
-/// Where the entry that the words spell leads. Of other words it is whatever their kind and value say.
+/// Where the entry that the words spell leads, of which the first four are enough. Of other words it is
+/// whatever their kind and value say.
 #[must_use]
 // Inlined: the walk that asks tests the kind at once.
 #[inline(always)]
 pub fn target(words: &[u64]) -> Option<(u64, Kind)>
-    ensures { TellsTarget words.now result }
+    ensures told { TellsTarget words.now result }
+    ensures narrow { 4 ≤ length words.now → TellsTarget (widened words.now) result }
 {
     match kind(words) {
         1 => Some((value(words), Kind::Dir)),
@@ -81,26 +83,29 @@ pub fn text_in(words: &[u64]) -> Option<RowText>
     if words.len() != ROW_WORDS || len > ROW_TEXT {
         return None;
     }
-    RowText::of(&room_of(words).to_array()[..len])
+    RowText::of(&room_of(words)[..len])
 }
 
 /// The text of the link that the words spell.
 #[must_use]
-// Inlined (measured): the text stays in one vector register.
 #[inline(always)]
 pub fn spelled_text(words: &[u64]) -> RowText
     requires spelled { SpellsText words.now }
     ensures told { TellsText words.now (Some result) }
 {
-    RowText::from_room(room_of(words).to_array(), length(words) as usize)
+    RowText::from_room(room_of(words), length(words) as usize)
 }
 
 /// All the bytes that the words have for a text, side by side.
-// Inlined (measured), and a vector: an array of them would go through memory.
 #[inline(always)]
-pub(crate) fn room_of(words: &[u64]) -> u8x32
+fn room_of(words: &[u64]) -> [u8; ROW_ROOM]
     requires size { length words.now ≡ ROW_WORDS }
     ensures { IsRoomOf words.now result }
 {
-    u64x4::from_array([words[4], words[5], words[6], words[7]]).to_le_bytes()
+    let mut room = [0; ROW_ROOM];
+    for i in 4..ROW_WORDS {
+        let at = 8 * (i - 4);
+        room[at..at + 8].copy_from_slice(&words[i].to_le_bytes());
+    }
+    room
 }

@@ -4,13 +4,13 @@ ghost use Rattle.std.specs.Prelude.{◌≡◌, ◌≤◌, ◌<◌, ℕ, List, le
 ghost use Rattle.dc_row.specs.Rooms.{padded};
 ghost use Rattle.dc_row.specs.declared.TheConstants.{ROW_TEXT};
 
-use crate::ROW_TEXT;
+use crate::{ROW_ROOM, ROW_TEXT};
 use std::marker::Model;
 
 /// The bytes of a name or of a link's text, as many as a row has room for.
 #[derive(Debug, Drop, PartialEq, Eq)]
 pub struct RowText {
-    room: [u8; ROW_TEXT],
+    room: [u8; ROW_ROOM],
     len: usize,
 }
 
@@ -40,7 +40,7 @@ impl RowText {
         if bytes.len() > ROW_TEXT {
             return None;
         }
-        let mut room = [0; ROW_TEXT];
+        let mut room = [0; ROW_ROOM];
         room[..bytes.len()].copy_from_slice(bytes);
         Some(RowText {
             room,
@@ -51,7 +51,7 @@ impl RowText {
     /// The first bytes of a room that has zeros after them.
     // Inlined, as is `spelled_text`, its one caller.
     #[inline(always)]
-    pub(crate) fn from_room(room: [u8; ROW_TEXT], len: usize) -> RowText
+    pub(crate) fn from_room(room: [u8; ROW_ROOM], len: usize) -> RowText
         requires fits { len ≤ ROW_TEXT }
         requires zeros { padded (take len room) ≡ room }
         ensures { result ≡ take len room }

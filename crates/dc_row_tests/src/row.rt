@@ -1,9 +1,12 @@
 //! Rows and the words that spell them.
 
-use dc_names::{Kind, Name};
+ghost use Rattle.std.specs.Prelude.{◌≤◌};
+ghost use Rattle.dc_row.specs.declared.TheConstants.{ROW_WORDS};
+
+use dc_names::{Kind, NAME_MAX, Name};
 use dc_plain::{Key, Label};
 use dc_row::{
-    EMPTY_ROW, ROW_WORDS, Row, RowLabel, RowText, counts_tell_nothing, decode,
+    EMPTY_ROW, ROW_TEXT, ROW_WORDS, Row, RowLabel, RowText, counts_tell_nothing, decode,
     empty_row_spells_nothing, encode, kind, length, number, rows_have_one_spelling, spelled_text,
     tag, target, tells_of, text_in, text_of, value, words_have_the_fact_they_spell,
     words_spell_one_row,
@@ -33,12 +36,29 @@ fn linked(number: u64, text: &[u8]) -> Option<Row> {
     Some(Row::Link(number, RowText::of(text)?))
 }
 
-const EXAMPLES: [[u64; 8]; 5] = [
-    [0, 16777985, 1, 2, 7500661, 0, 0, 0],
-    [0, 257, 1, 0, 120, 0, 0, 0],
-    [0, 16777729, 2, 1, 11822, 0, 0, 0],
-    [0, 770, 4, 0, 6565678, 0, 0, 0],
-    [0, 0, 0, 0, 0, 0, 0, 0],
+/// The words of a row that begins with these, and has zeros after them.
+pub(crate) fn wide<const FIRST: usize>(first: [u64; FIRST]) -> [u64; ROW_WORDS]
+    requires { FIRST ≤ ROW_WORDS }
+{
+    let mut words = EMPTY_ROW;
+    words[..FIRST].copy_from_slice(&first);
+    words
+}
+
+/// These words without the last.
+fn cut(words: &[u64]) -> &[u64] {
+    match words {
+        [front @ .., _] => front,
+        [] => words,
+    }
+}
+
+const EXAMPLES: [[u64; 5]; 5] = [
+    [0, 16777985, 1, 2, 7500661],
+    [0, 257, 1, 0, 120],
+    [0, 16777729, 2, 1, 11822],
+    [0, 770, 4, 0, 6565678],
+    [0, 0, 0, 0, 0],
 ];
 
 fn example(at: usize) -> Option<Row> {
@@ -58,9 +78,10 @@ fn words_of(at: usize) -> Option<[u64; ROW_WORDS]> {
 #[test]
 fn spells_the_examples(rt: HostRuntime) {
     for at in 0..5 {
-        assert_eq!(rt; words_of(at), Some(EXAMPLES[at]));
-        assert_eq!(rt; decode(&EXAMPLES[at]), example(at));
-        words_spell_one_row(&EXAMPLES[at]);
+        let words = wide(EXAMPLES[at]);
+        assert_eq!(rt; words_of(at), Some(words));
+        assert_eq!(rt; decode(&words), example(at));
+        words_spell_one_row(&words);
     }
     assert_eq!(rt; decode(&EMPTY_ROW), Some(Row::Empty));
     rows_have_one_spelling();
@@ -91,16 +112,16 @@ fn finds_entries_by_their_words(rt: HostRuntime) {
         (0, 1, b"usx", None),
         (0, 1, b"..", None),
         (1, 1, b"x", Some(None)),
-        (1, 1, &[b'x'; 33], None),
+        (1, 1, &[b'x'; NAME_MAX], None),
         (2, 2, b"..", Some(Some((1, Kind::Dir)))),
         (2, 1, b"..", None),
         (3, 4, b"./d", None),
         (4, 0, b"..", None),
     ];
     for (at, dir, name, want) in cases {
-        assert_eq!(rt; sought(&EXAMPLES[at], dir, name), want);
+        assert_eq!(rt; sought(&wide(EXAMPLES[at]), dir, name), want);
     }
-    assert_eq!(rt; sought(&EXAMPLES[0][..7], 1, b"usr"), None);
+    assert_eq!(rt; sought(cut(&wide(EXAMPLES[0])), 1, b"usr"), None);
 }
 
 #[test]
@@ -108,12 +129,13 @@ fn finds_texts_by_their_words(rt: HostRuntime) {
     let cases = [(3, 4, true), (3, 3, false), (0, 1, false), (4, 0, false)];
     for (at, number, want) in cases {
         let label = Label::Text;
-        assert_eq!(rt; tells_of(&EXAMPLES[at], Key { number, label }), want);
+        assert_eq!(rt; tells_of(&wide(EXAMPLES[at]), Key { number, label }), want);
     }
-    assert_eq!(rt; text_in(&EXAMPLES[0]), RowText::of(b"usr"));
-    assert_eq!(rt; text_in(&EXAMPLES[0][..7]), None);
-    assert_eq!(rt; text_sought(&EXAMPLES[3][..7]), None);
-    assert_eq!(rt; text_of(&EXAMPLES[3][..7]), None);
+    let (name, text) = (wide(EXAMPLES[0]), wide(EXAMPLES[3]));
+    assert_eq!(rt; text_in(&name), RowText::of(b"usr"));
+    assert_eq!(rt; text_in(cut(&name)), None);
+    assert_eq!(rt; text_sought(cut(&text)), None);
+    assert_eq!(rt; text_of(cut(&text)), None);
 }
 
 /// The text of link 4, if the words spell it.
@@ -129,14 +151,13 @@ fn text_sought(words: &[u64]) -> Option<RowText> {
 #[test]
 fn reads_texts_from_their_words(rt: HostRuntime) {
     const FULL: u64 = 0x6161616161616161;
-    let cases: [([u64; 5], Option<&[u8]>); 13] = [
+    let cases: [([u64; 5], Option<&[u8]>); 12] = [
         ([2 + 256 * 3, 6565678, 0, 0, 0], Some(b"./d")),
         ([2 + 256, 47, 0, 0, 0], Some(b"/")),
         ([2 + 256 * 9, FULL, 97, 0, 0], Some(&[b'a'; 9])),
         ([2 + 256 * 32, FULL, FULL, FULL, FULL], Some(&[b'a'; 32])),
-        // No byte, more than a row has room for, a zero byte in the text.
+        // No byte, a zero byte in the text or at its end.
         ([2, 0, 0, 0, 0], None),
-        ([2 + 256 * 33, FULL, FULL, FULL, FULL], None),
         ([2 + 256 * 3, 6553646, 0, 0, 0], None),
         ([2 + 256 * 32, FULL, FULL, FULL, FULL >> 8], None),
         // A byte after the text, at once or later.
@@ -148,23 +169,45 @@ fn reads_texts_from_their_words(rt: HostRuntime) {
         ([2 + 256 * 3 + (1 << 63), 6565678, 0, 0, 0], None),
     ];
     for ([head, a, b, c, d], want) in cases {
-        let text = text_sought(&[7, head, 4, 0, a, b, c, d]);
+        let text = text_sought(&wide([7, head, 4, 0, a, b, c, d]));
         assert_eq!(rt; text, want.and_then(RowText::of), "at {head}");
-        assert_eq!(rt; text_of(&[7, head, 4, 0, a, b, c, d]), text, "at {head}");
-        assert_eq!(rt; text_sought(&[7, head, 4, 1, a, b, c, d]), None);
+        assert_eq!(rt;
+            text_of(&wide([7, head, 4, 0, a, b, c, d])),
+            text,
+            "at {head}"
+        );
+        assert_eq!(rt; text_sought(&wide([7, head, 4, 1, a, b, c, d])), None);
     }
+}
+
+/// The longest text that a row tells, and one with a byte more, for which its words have room.
+#[test]
+fn tells_no_longer_text_than_a_name(rt: HostRuntime) {
+    let mut words = [0x6161616161616161; ROW_WORDS];
+    words[1] = 2 + 256 * ROW_TEXT as u64;
+    words[3] = 0;
+    words[ROW_WORDS - 1] >>= 8;
+    assert_eq!(rt; text_of(&words), RowText::of(&[b'a'; ROW_TEXT]));
+    assert_eq!(rt; text_in(&words), text_of(&words));
+    assert!(rt; is_nothing_or_spelled(&words));
+    assert!(rt; decode(&words).is_some());
+    words[ROW_WORDS - 1] = 0x6161616161616161;
+    words[1] = 2 + 256 * (ROW_TEXT as u64 + 1);
+    assert_eq!(rt; text_of(&words), None);
+    assert_eq!(rt; text_in(&words), None);
+    assert_eq!(rt; decode(&words), None);
 }
 
 #[test]
 fn finds_entries_under_any_count(rt: HostRuntime) {
-    let mut words = EXAMPLES[0];
+    let mut words = wide(EXAMPLES[0]);
     words[0] = u64::MAX;
     assert_eq!(rt; sought(&words, 1, b"usr"), Some(Some((2, Kind::Dir))));
 }
 
 #[test]
 fn reads_the_fields(rt: HostRuntime) {
-    let words = EXAMPLES[0];
+    let words = wide(EXAMPLES[0]);
     assert_eq!(rt; (tag(&words), length(&words), kind(&words)), (1, 3, 1));
     assert_eq!(rt; (number(&words), value(&words)), (1, 2));
 }
@@ -187,22 +230,22 @@ fn refuses_what_has_no_spelling(rt: HostRuntime) {
             assert!(rt; encode(row).is_none());
         }
     }
-    assert!(rt; RowText::of(&[b'a'; 33]).is_none());
+    assert!(rt; RowText::of(&[b'a'; ROW_TEXT + 1]).is_none());
 }
 
 #[test]
 fn spells_nothing_with_a_byte_after_the_text(rt: HostRuntime) {
-    let mut words = EXAMPLES[1];
+    let mut words = wide(EXAMPLES[1]);
     words[5] = 1;
     assert!(rt; decode(&words).is_none());
 }
 
 #[test]
 fn spells_with_one_bit_turned_just_what_is_read(rt: HostRuntime) {
-    for words in EXAMPLES {
+    for first in EXAMPLES {
         for at in 1..ROW_WORDS {
             for bit in 0..64u32 {
-                let mut turned = words;
+                let mut turned = wide(first);
                 turned[at] ^= 1u64 << bit;
                 assert!(rt; is_nothing_or_spelled(&turned));
             }
@@ -230,12 +273,12 @@ fn letters(seed: u64, used: u64) -> u64 {
 
 /// Words such as a row has, where the text is now and then longer than its length.
 fn likely(seed: u64) -> [u64; ROW_WORDS] {
-    let len = seed % 40;
-    let mut left = len + seed / 5400 % 2;
+    let len = seed % 300;
+    let mut left = len + seed / 40500 % 2;
     let mut words = [0; ROW_WORDS];
-    words[1] = seed / 40 % 3 + 256 * len + 16777216 * (seed / 120 % 5);
-    words[2] = seed / 600 % 3;
-    words[3] = seed / 1800 % 3;
+    words[1] = seed / 300 % 3 + 256 * len + 16777216 * (seed / 900 % 5);
+    words[2] = seed / 4500 % 3;
+    words[3] = seed / 13500 % 3;
     for word in words[4..].iter_mut() {
         *word = letters(next(seed), left);
         left = left.saturating_sub(8);

@@ -76,3 +76,10 @@ to_rest t rows words slots used n keys s = record {
   fit = s.fit;
   rest = λ row l. let a = s.rest row l in record { odd = λ key e never. absurd never; even = λ none. a.even (λ key e b. let below = b.2 in let above = b.1 in omega arith); fits = a.fits; ended = a.ended };
 }
+
+-- before the first key is shut
+pub from_rest : (t : Tree) (rows : ℕ) (words : List ℕ) (slots : List Slot) (used : Listing) (keys : List Key) → Rest t rows words slots used → Stage t rows words slots used 0 0 keys
+from_rest t rows words slots used keys r = record {
+  fit = r.fit;
+  rest = λ row l. let a = r.rest row l in record { odd = λ key e b. let below = b.2 in absurd (omega arith); even = λ none. a.even (λ key e never. absurd never); fits = a.fits; ended = a.ended };
+}

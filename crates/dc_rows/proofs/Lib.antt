@@ -4,6 +4,7 @@ pub mod Shuts
 pub mod Refills
 pub mod Commits
 pub mod Stages
+pub mod Openable
 pub mod Altering
 pub mod Placed
 pub mod Held

@@ -1,5 +1,6 @@
 //! Runs over inputs and sizes of all kinds, and the words of the command line.
 
+mod chains;
 mod cut;
 mod gates;
 mod rows;

@@ -101,5 +101,7 @@ fn names_the_bad_line(rt: HostRuntime) -> Result<(), Fail> {
             "{trace}"
         );
     }
+    let told = TraceFault::BadLine(7).to_string(rt.alloc())?;
+    assert_eq!(rt; told.as_str(), "bad line 7");
     Ok(())
 }

@@ -1,8 +1,15 @@
 -- A share that was cut and put together again is as much as before.
-use Rattle.std.proofs.Common.{◌≡◌, ℕ, ◌+◌, ◌-◌, ◌*◌, ◌^◌, max, ap, ap₂, sym, ◌∙◌, arith, pow-add, pow-suc, add-one}
+use Rattle.std.proofs.Common.{◌≡◌, ℕ, ◌+◌, ◌-◌, ◌*◌, ◌^◌, max, ap, ap₂, sym, subst, ◌∙◌, Result, Ok, Err, IfOk, IfErr, arith, pow-add, pow-suc, add-one}
 use Rattle.std.proofs.Math.Nat.{max-eq_left}
+use Rattle.std.specs.declared.thread.PromisedHandle.{PromisedHandle}
+use Rattle.dc_cache.specs.declared.cache.Pass.{Pass}
 use Rattle.dc_table.specs.Shares.{IsWhole, Known, Share, both, kept_half, new_half}
+use Rattle.dc_serve.specs.Served.{Gives}
 use Rattle.dc_serve.specs.Sessions.{SameShare}
+use Rattle.dc_serve.specs.Threads.{Returns}
+use Rattle.dc_serve.specs.declared.fault.ServeFault.{ServeFault}
+use Rattle.dc_serve.specs.declared.phase.Handed.{Handed}
+use Rattle.dc_serve.specs.declared.session.SessionReplies.{SessionReplies}
 
 -- a pass was cut in two, the old half took in others, the new half served a session, and was taken in
 pub record Fork (v a u b c w : Known) : Type 0 where
@@ -43,3 +50,18 @@ same_fork v a u b c w k others one =
 -- a whole share stays whole
 pub whole_same : (s t : Share) → IsWhole s → SameShare s t → IsWhole t
 whole_same s t whole same = same.parts ∙ ap (λ x. x * 2 ^ same.more) whole ∙ sym (pow-add 2 s.halvings same.more) ∙ ap (λ x. 2 ^ x) (sym same.halvings)
+
+-- what a session gives back is what its thread was handed to give
+pub gave_back : (started : Result (PromisedHandle (Pass × Result SessionReplies ServeFault) Handed) (Pass × Result SessionReplies ServeFault)) (handed : Handed) (back : Pass × Result SessionReplies ServeFault)
+    → IfOk started (λ handle. handle.promise ≡ handed) → IfErr started (Returns handed) → Gives started back → Returns handed back
+gave_back (Ok handle) handed back is left gives = subst (λ (h : Handed). Returns h back) is gives
+gave_back (Err other) handed back is left gives = subst (Returns handed) (sym gives) left
+
+module _ (started : Result (PromisedHandle (Pass × Result SessionReplies ServeFault) Handed) (Pass × Result SessionReplies ServeFault)) (back : Pass × Result SessionReplies ServeFault) where
+  -- the thread that was started kept its promise
+  pub by_thread : (handle : PromisedHandle (Pass × Result SessionReplies ServeFault) Handed) (given : Pass × Result SessionReplies ServeFault) → started ≡ Ok handle → back ≡ given → Returns handle.promise given → Gives started back
+  by_thread handle given is same kept = subst (λ (s : Result (PromisedHandle (Pass × Result SessionReplies ServeFault) Handed) (Pass × Result SessionReplies ServeFault)). Gives s back) (sym is) (subst (Returns handle.promise) (sym same) kept)
+
+  -- none was started
+  pub at_once : (left : Pass × Result SessionReplies ServeFault) → started ≡ Err left → back ≡ left → Gives started back
+  at_once left is same = subst (λ (s : Result (PromisedHandle (Pass × Result SessionReplies ServeFault) Handed) (Pass × Result SessionReplies ServeFault)). Gives s back) (sym is) same

@@ -1,8 +1,10 @@
 -- What was answered and written, said of the passes, lines and replies of the program.
-use Rattle.std.specs.Prelude.{ℕ, List, [], Option, Result, IsOkAnd}
+use Rattle.std.specs.Prelude.{◌≡◌, ◌⊎◌, ℕ, List, [], Option, Result, Ok, Err, IfOk, IfErr, IsErrOf, IsOkAnd}
 use Rattle.std.specs.Borrow.{Bor}
 use Rattle.std.specs.Io.KnownBytes.{Appends}
-use Rattle.dc_cache.specs.Passes.{known, share}
+use Rattle.std.specs.declared.thread.PromisedHandle.{PromisedHandle}
+use Rattle.dc_cache.specs.Passes.{known, share, Fits}
+use Rattle.dc_cache.specs.declared.cache.Dcache.{Dcache}
 use Rattle.dc_cache.specs.declared.cache.Pass.{Pass}
 use Rattle.dc_lang.specs.Commands.{Order, said_by}
 use Rattle.dc_lang.specs.Phases.{all_ordered, ordered, phases}
@@ -10,8 +12,11 @@ use Rattle.dc_lang.specs.declared.line.Line.{Line}
 use Rattle.dc_serve.specs.Endings.{Serves, ServesFront}
 use Rattle.dc_serve.specs.Rounds.{StopsBy, Wrote}
 use Rattle.dc_serve.specs.Sessions.{Obeyed, ObeyedBelow, progress}
-use Rattle.dc_serve.specs.Threads.{Adds, book, outcome_of, progress_of}
+use Rattle.dc_serve.specs.Threads.{Adds, Returns, book, outcome_of, progress_of}
+use Rattle.dc_table.specs.Shares.{both}
 use Rattle.dc_serve.specs.declared.fault.ServeFault.{ServeFault}
+use Rattle.dc_serve.specs.declared.fault.ServeFault.TheVariants.{NoMemory}
+use Rattle.dc_serve.specs.declared.phase.Handed.{Handed}
 use Rattle.dc_serve.specs.declared.phase.PhaseReplies.{PhaseReplies}
 use Rattle.dc_serve.specs.declared.session.SessionReplies.{SessionReplies}
 
@@ -30,6 +35,23 @@ ObeysBelow count lines bases p q replies = ObeyedBelow (book p) bases count (ord
 -- these are the replies of some sessions with those of one more, which both have some
 abbrev pub AddsBoth : Result PhaseReplies ServeFault → (session : ℕ) → Result SessionReplies ServeFault → PhaseReplies → Type 0
 AddsBoth others session told all = IsOkAnd others (λ front. IsOkAnd told (λ last. Adds front session last all))
+
+-- what a session gives back: by its thread, or at once where none could be started
+abbrev pub Gives : Result (PromisedHandle (Pass × Result SessionReplies ServeFault) Handed) (Pass × Result SessionReplies ServeFault) → Pass × Result SessionReplies ServeFault → Type 0
+Gives (Ok handle) back = Returns handle.promise back
+Gives (Err left) back = back ≡ left
+
+-- a pass took in what a session gave back, and its replies stand behind those of others
+pub record TakesIn (cache : Dcache) (p : Pass) (others : Result PhaseReplies ServeFault) (session : ℕ) (back : Pass × Result SessionReplies ServeFault) (q : Pass) (result : Result PhaseReplies ServeFault) : Type 0 where
+  pub fits : Fits cache q
+  pub joined : known q ≡ both (known p) (known back.0)
+  pub ok : IfOk result (AddsBoth others session back.1)
+  pub err : IfErr result (λ fault. (fault ≡ NoMemory) ⊎ (IsErrOf others fault ⊎ IsErrOf back.1 fault))
+
+pub record EndsSession (cache : Dcache) (started : Result (PromisedHandle (Pass × Result SessionReplies ServeFault) Handed) (Pass × Result SessionReplies ServeFault)) (p : Pass) (others : Result PhaseReplies ServeFault) (session : ℕ) (q : Pass) (result : Result PhaseReplies ServeFault) : Type 0 where
+  pub back : Pass × Result SessionReplies ServeFault
+  pub gives : Gives started back
+  pub takes : TakesIn cache p others session back q result
 
 -- with the first pass of a cache these phases were served, and the replies to them written
 abbrev pub WroteAll : (p : Pass) → List (Bor (List Line)) → (old new : Option (List ℕ)) (q : Pass) → Type 0

@@ -1,16 +1,18 @@
 //! How a phase is served: each session that has lines in a thread of its own, with a pass of its own.
 
-ghost use Rattle.std.specs.Prelude.{◌≡◌, ◌≤◌, ◌<◌, ◌⊎◌, true, false, [], length, IfOk, IfErr, IsErrOf};
+ghost use Rattle.std.specs.Prelude.{◌≡◌, ◌≤◌, ◌<◌, ◌⊎◌, true, false, [], length, Result, IfOk, IfErr, IsErrOf};
 ghost use Rattle.std.specs.Thread.{IsSync};
-ghost use Rattle.dc_cache.specs.Passes.{known, share, Fits};
+ghost use Rattle.dc_cache.specs.Passes.{share, Fits};
+ghost use Rattle.dc_cache.specs.declared.cache.Pass.{Pass};
 ghost use Rattle.dc_lang.specs.Commands.{meaning_of};
 ghost use Rattle.dc_serve.specs.Bytes.{IsServiceFault};
 ghost use Rattle.dc_lang.specs.Phases.{by_session, of_sessions, ordered, ordered_by};
-ghost use Rattle.dc_serve.specs.Served.{AddsBoth, ObeysBelow};
+ghost use Rattle.dc_serve.specs.Served.{AddsBoth, EndsSession, Gives, ObeysBelow, TakesIn};
 ghost use Rattle.dc_serve.specs.Sessions.{SameShare, TookInSome};
 ghost use Rattle.dc_serve.specs.Threads.{GaveBack, Returns, book, is_order_of};
-ghost use Rattle.dc_table.specs.Shares.{both};
+ghost use Rattle.dc_serve.specs.declared.fault.ServeFault.{ServeFault};
 ghost use Rattle.dc_serve.specs.declared.fault.ServeFault.TheVariants.{NoMemory};
+ghost use Rattle.dc_serve.specs.declared.session.SessionReplies.{SessionReplies};
 
 use crate::session::{Phase, SessionReplies};
 use crate::{Gate, ServeFault};
@@ -87,25 +89,46 @@ fn with_session(
     Ok(replies)
 }
 
-/// Takes in what a session's thread gave back, behind the sessions below it.
+/// Takes in what a session gave back, behind the sessions below it.
 fn take_in(
     cache: &Dcache,
-    mut pass: Pass,
+    pass: &mut Pass,
     others: Result<PhaseReplies, ServeFault>,
     session: u64,
     back: Back,
-) -> (Pass, Result<PhaseReplies, ServeFault>)
-    requires pass { Fits cache.now pass × Fits cache.now back.0 }
+) -> Result<PhaseReplies, ServeFault>
+    requires pass { Fits cache.now pass.old × Fits cache.now back.0 }
     requires session { session < SESSIONS }
-    ensures pass { Fits cache.now result.0
-        × (known result.0 ≡ both (known pass) (known back.0)) }
-    ensures ok { IfOk result.1 (AddsBoth others session back.1) }
-    ensures err { IfErr result.1 (λ fault.
-        (fault ≡ NoMemory) ⊎ (IsErrOf others fault ⊎ IsErrOf back.1 fault)) }
+    ensures { TakesIn cache.now pass.old others session back pass.new result }
 {
     let (child, told) = back;
-    cache.join(&mut pass, child);
-    (pass, with_session(others, session, told))
+    cache.join(pass, child);
+    with_session(others, session, told)
+}
+
+/// Ends a session, behind the sessions below it: takes in what its thread gives back, or what came back
+/// at once where none could be started.
+// Not inlined: a pass is large, and would lie on the stack once more for each session.
+#[inline(never)]
+fn end<R: Threads>(
+    rt: &R,
+    cache: &Dcache,
+    pass: &mut Pass,
+    others: Result<PhaseReplies, ServeFault>,
+    session: u64,
+    started: Result<PromisedHandle<Back, Handed<'_>>, Back>,
+) -> Result<PhaseReplies, ServeFault>
+    requires pass { Fits cache.now pass.old }
+    requires session { session < SESSIONS }
+    requires started { (back : (Pass × Result SessionReplies ServeFault)) → Gives started back
+        → Fits cache.now back.0 }
+    ensures { EndsSession cache.now started.entry pass.old others session pass.new result }
+{
+    let back = match started {
+        Ok(handle) => handle.join(rt),
+        Err(back) => back,
+    };
+    take_in(cache, pass, others, session, back)
 }
 
 /// Starts a session's thread, which serves what it is handed with the pass and gives the pass back.
@@ -159,27 +182,27 @@ fn serve_sessions<'s, E, R: Threads + Wait + Sync, G: Gate>(
     rt: &'s R,
     scope: &'s Scope<'s, E>,
     phase: &Phase<'s, G>,
-    mut pass: Pass,
+    pass: &mut Pass,
     count: u64,
     bases: [u64; SESSION_COUNT],
-) -> (Pass, Result<PhaseReplies, ServeFault>)
-    requires pass { Fits phase.now.cache.now pass }
+) -> Result<PhaseReplies, ServeFault>
+    requires pass { Fits phase.now.cache.now pass.old }
     requires count { count ≤ SESSIONS }
-    ensures pass { Fits phase.now.cache.now result.0 × SameShare (share pass) (share result.0) }
+    ensures pass { Fits phase.now.cache.now pass.new × SameShare (share pass.old) (share pass.new) }
     ensures took_in { TookInSome (length (of_sessions count (ordered phase.now.lines.now)))
-        (book pass) (book result.0) }
-    ensures ok { IfOk result.1 (ObeysBelow count phase.now.lines.now bases pass result.0) }
-    ensures err { IfErr result.1 (IsServiceFault (book result.0).seen) }
+        (book pass.old) (book pass.new) }
+    ensures ok { IfOk result (ObeysBelow count phase.now.lines.now bases pass.old pass.new) }
+    ensures err { IfErr result (IsServiceFault (book pass.new).seen) }
 {
     if count == 0 {
         let text = Vec::new(phase.alloc);
-        return (pass, Ok(PhaseReplies { text, bases }));
+        return Ok(PhaseReplies { text, bases });
     }
     let session = count - 1;
     if !has_lines(session, phase.lines) {
         return serve_sessions(rt, scope, phase, pass, session, bases);
     }
-    let child = phase.cache.split(&mut pass);
+    let child = phase.cache.split(pass);
     let handed = Handed {
         cache: phase.cache,
         pass: Snapshot::of(&child),
@@ -188,12 +211,8 @@ fn serve_sessions<'s, E, R: Threads + Wait + Sync, G: Gate>(
         lines: phase.lines,
     };
     let started = start(rt, scope, phase, handed, child);
-    let (pass, others) = serve_sessions(rt, scope, phase, pass, session, bases);
-    let back = match started {
-        Ok(handle) => handle.join(rt),
-        Err(back) => back,
-    };
-    take_in(phase.cache, pass, others, session, back)
+    let others = serve_sessions(rt, scope, phase, pass, session, bases);
+    end(rt, phase.cache, pass, others, session, started)
 }
 
 /// Serves a phase: each session that has lines in a thread of its own.
@@ -231,7 +250,9 @@ pub fn serve_phase<R: Threads + Wait + Sync, G: Gate>(
                 gate,
                 refused,
             };
-            serve_sessions(rt, scope, &phase, pass, SESSIONS, bases)
+            let mut pass = pass;
+            let replies = serve_sessions(rt, scope, &phase, &mut pass, SESSIONS, bases);
+            (pass, replies)
         },
     )
 }

@@ -87,6 +87,10 @@ impl<'a> Finder for Fixed<'a> {
 
     ghost may_ask = { λ f number label. Unit {0} };
 
+    ghost may_spend = { λ f n. Unit {0} };
+
+    ghost link_bytes = { 0 };
+
     fn find(&mut self, dir: u64, part: Part<'_>) -> Result<Option<(u64, Kind)>, Stop> {
         self.note(dir, first_byte(part));
         match part {
@@ -112,6 +116,8 @@ impl<'a> Finder for Fixed<'a> {
     ghost goes_on = { λ f g h p q. q ∙ p };
 
     ghost keeps = { λ f g p. subst (λ t. Extends (said_by f.table.rows.now f.table.parents.now f.table.texts.now) (said_by t.rows.now t.parents.now t.texts.now)) (sym p) (record { entry = λ d label found told. told; text = λ n bytes told. told }) };
+
+    ghost spends_less = { λ f a b may. may };
 }
 
 const ROWS: [Row<'static>; 22] = [

@@ -6,6 +6,7 @@ ghost use Rattle.dc_cache.specs.Passes.{Fits};
 use crate::answers::create;
 use crate::steps::{Act, Step, play};
 use dc_cache::{Dcache, Follow, Kind, MakeFault, NotYet, Pass, Reply, Store, Why};
+use dc_names::NAME_MAX;
 use std::alloc::Global;
 use std::sync::Wait;
 use std::test::Fail;
@@ -189,16 +190,16 @@ fn links_are_followed_by_their_rows(rt: HostRuntime) -> Result<(), Fail> {
     Ok(())
 }
 
-/// A text of 33 bytes has no room in a row: each look-up asks for it under the lock.
+/// A text that is longer than a name has no room in a row: each look-up asks for it under the lock.
 #[test]
 fn a_text_without_room_is_asked_under_the_lock(rt: HostRuntime) -> Result<(), Fail> {
-    let text = b"././././././././././././././././d";
-    assert!(rt; text.len() == 33);
+    let mut text = [b'/'; NAME_MAX + 1];
+    text[NAME_MAX] = b'd';
     let file = || Reply::Found(3, Kind::File);
     let steps = [
         Step::Change(Act::Mkdir(b"/d"), Reply::Done(2), 0),
         Step::Change(Act::Create(b"/d/f"), Reply::Done(3), 1),
-        Step::Change(Act::Symlink(text, b"/t"), Reply::Done(4), 2),
+        Step::Change(Act::Symlink(&text, b"/t"), Reply::Done(4), 2),
         Step::Again(b"/t/f", Why::Miss(0)),
         Step::Look(b"/t/f", Follow::Yes, file(), 3),
         Step::Again(b"/t/f", Why::Link),

@@ -1,5 +1,5 @@
 -- How a walk by rows begins and ends.
-use Rattle.std.proofs.Common.{◌≡◌, ℕ, ◌/◌, ◌≤◌, List, [], Bool, true, false, not, Option, Some, None, is_some, IfSome, if◌then◌else◌, length, map, refl, ap, sym, ◌∙◌, subst, arith}
+use Rattle.std.proofs.Common.{◌≡◌, ℕ, ◌+◌, ◌*◌, ◌/◌, ◌<◌, ◌≤◌, List, [], Bool, true, false, not, Option, Some, None, IfSome, if◌then◌else◌, length, map, refl, ap, sym, ◌∙◌, subst, arith}
 use Rattle.std.specs.List.{Contains}
 use Rattle.std.proofs.lemmas.List.{length-map}
 use Rattle.dc_table.specs.Changes.{NothingNew}
@@ -13,7 +13,7 @@ use Rattle.dc_events.specs.Views.{View, Book}
 use Rattle.dc_events.specs.Views.Fault.{Busy, Changed}
 use Rattle.dc_events.specs.Effects.{begins, begun}
 use Rattle.dc_table.specs.Holders.{table_of}
-use Rattle.dc_table.specs.Passes.{Pass, view, share}
+use Rattle.dc_table.specs.Passes.{Pass, view, share, IsSamePass, IsIdle}
 use Rattle.dc_table.specs.Shares.{Share}
 use Rattle.dc_walk.specs.Uses.{Use, facts_of}
 use Rattle.dc_walk.specs.Asking.{IsWalk}
@@ -22,16 +22,19 @@ use Rattle.dc_walk.specs.Becomings.{Becomes, Between, IsGood, MayAskRows}
 use Rattle.dc_walk.specs.Fasts.{GaveUp}
 use Rattle.dc_walk.specs.Walks.{Went, Stopped}
 use Rattle.dc_walk.specs.Finds.{use_shown, AllSpelled, AllInside, AllHeld}
-use Rattle.dc_walk.specs.Findings.{IsFinding, CanWalk, view_in, now_in, outcome_in, request_in, said_in, buckets_of}
+use Rattle.dc_walk.specs.Findings.{CanWalk, view_in, now_in, uses_in, outcome_in, request_in, said_in, buckets_of, spent}
 use Rattle.dc_walk.specs.declared.rows.Rows.{Rows}
 use Rattle.dc_walk.specs.declared.why.Why as rust_why
 use Rattle.dc_walk.specs.declared.why.Why.TheVariants as whys
-use Rattle.dc_walk.specs.declared.used.Used.{Used}
+use Rattle.dc_walk.specs.Rooms.{Used}
 use Rattle.dc_names.specs.declared.limits.TheConstants.{BUCKET_ROWS}
-use Rattle.dc_walk.specs.declared.TheConstants.{MOST_USED}
+use Rattle.dc_row.specs.declared.TheConstants.{ROW_WORDS}
+use Rattle.dc_walk.specs.declared.TheConstants.{MOST_USED, MOST_LOADS}
 use Rattle.dc_walk.proofs.Checks.{begins_book}
 use Rattle.dc_walk.proofs.Sighted.{outcome_same}
 use Rattle.dc_walk.proofs.Told.{told_itself}
+use Rattle.dc_walk.proofs.Walked.{rested}
+use Rattle.dc_walk.proofs.Questions.{within_full}
 
 none_there : {X : Type 0} (x : X) → Contains [] x → ⊥
 none_there x c = let never = c.1 in absurd (omega arith)
@@ -46,12 +49,18 @@ by_begun outcome buckets false v call whys.Long cause = let none : length cause.
 by_begun outcome buckets false v call whys.Link cause = let other = cause.2.rows 0 (omega arith) in absurd (none_there other.note other.noted)
 by_begun outcome buckets false v call whys.Memory cause = absurd cause
 
+-- a walk that checks each row that it used is within its loads
+loads_within : (slow : Bool) (n : ℕ) → n ≤ MOST_USED → (slow ≡ true → n < MOST_USED) → ROW_WORDS * (BUCKET_ROWS * n + (if slow then BUCKET_ROWS else 0)) + n < MOST_LOADS
+loads_within false n few room = omega arith
+loads_within true n few room = let less = room refl in omega arith
+
 module _ (locks : Bool) (f : Rows) where
   pub started : (v : View) → CanWalk (table_of f.reader) f.pass.now → now_in f ≡ begun v (request_in f) → f.made ≡ 0 → f.why ≡ None → f.used.now.items ≡ [] → IsGood locks f
   started v can now made fresh none = record {
-    finding = subst (λ o. IsFinding f (if is_some o then BUCKET_ROWS else 0)) (sym fresh) (record {
+    looks = 0;
+    finding = record {
       can = can;
-      walk = subst (λ (z : View × List Use). IsWalk (outcome_in f) z.0 z.1 0) (λ i. (sym now i, map use_shown (sym none i))) (record {
+      walk = subst (λ (z : View × List Use). IsWalk (outcome_in f) z.0 z.1 (spent f + 0)) (λ i. (sym now i, map use_shown (sym none i))) (record {
         busy = refl;
         early = refl;
         marked = refl;
@@ -66,7 +75,9 @@ module _ (locks : Bool) (f : Rows) where
       inside = subst (AllInside (share f.pass.now).rows) (sym none) tt;
       held = subst (AllHeld f.filter) (sym none) tt;
       few = subst (λ (us : List Used). length us ≤ MOST_USED) (sym none) (omega arith);
-    });
+    };
+    few = within_full f (subst (λ (us : List Used). length us ≤ MOST_USED) (sym none) (omega arith));
+    goes = λ fresh. record { none = refl; room = λ slow. subst (λ (us : List Used). length us < MOST_USED) (sym none) (omega arith) };
     cause = λ free. subst (λ o. IfSome o (HasCause (outcome_in f) (buckets_of f.pass.now) (now_in f))) (sym fresh) tt;
     asks = subst (λ o. IfSome o (λ why. outcome_in f (told_by []) ≡ None)) (sym fresh) tt;
   }
@@ -78,22 +89,26 @@ module _ (locks : Bool) (f : Rows) where
     between_so : Between locks (begun v (request_in f)) (view_in g.begun p f.look)
     between_so = subst (λ (z : View × View). Between locks z.0 z.1) (λ i. (begins_so i, now_is i)) b.walk
 
-    few_so : length us ≤ MOST_USED
-    few_so = subst (λ (us : List Used). length us ≤ MOST_USED) (sym same_used) (b.good good).finding.few
+    pub same_so : IsSamePass f.pass.now p × IsIdle p
+    same_so = subst (λ q. IsSamePass f.pass.now q × IsIdle q) (sym same) (b.same.same_pass, (b.good good).finding.can.idle)
+
+    pub inside_so : AllInside (share f.pass.now).rows us
+    inside_so = subst (λ (z : Share × List Used). AllInside z.0.rows z.1) (λ i. (b.same.same_pass.same_share i, sym same_used i)) (b.good good).finding.inside
 
     pub went_so : (end : Outcome) (answer : Answer) → g.why ≡ None → ((teller : Teller) → Extends (said_in g) teller → outcome_in f teller ≡ Some end) → answer ≡ outcome_answer end
         → Went locks f.look v (view_in g.begun p f.look) (map use_shown us) answer
     went_so end answer fresh found is = record {
       came = record {
-        walk = subst (λ (z : (Teller → Option Outcome) × View × List Use). IsWalk z.0 z.1 z.2 0) (λ i. (outcome_same b.same i, now_is i, map use_shown (sym same_used i)))
-            (subst (λ o. IsFinding g (if is_some o then BUCKET_ROWS else 0)) fresh (b.good good).finding).walk;
+        spent = spent g;
+        walk = subst (λ (z : (Teller → Option Outcome) × View × List Use). IsWalk z.0 z.1 z.2 (spent g)) (λ i. (outcome_same b.same i, now_is i, map use_shown (sym same_used i)))
+            (rested (spent g) (let none = ((b.good good).goes fresh).none in omega arith) (b.good good).finding.walk);
         about = between_so.call;
         end = end;
         found = ap (λ (items : List Used). outcome_in f (told_by (facts_of (map use_shown items)))) same_used ∙ found (said_in g) (told_itself (said_in g));
         answers = is;
       };
       walk = between_so;
-      few = let few = few_so in omega (arith, length-map us use_shown);
+      few = subst (λ (n : ℕ). ROW_WORDS * (BUCKET_ROWS * n + spent g) + n < MOST_LOADS) (ap (λ (us : List Used). length us) (sym same_used) ∙ sym (length-map us use_shown)) (loads_within g.slow (length g.used.now.items) (b.good good).finding.few ((b.good good).goes fresh).room);
     }
 
     gave_so : locks ≡ false → (why : rust_why.Why) → g.why ≡ Some why → outcome_in f (told_by []) ≡ None → NothingNew v (view p) → GaveUp (outcome_in f) (buckets_of f.pass.now) v (view p) why
@@ -104,14 +119,14 @@ module _ (locks : Bool) (f : Rows) where
         let cause_now = subst (λ (z : (Teller → Option Outcome) × ℕ × View). HasCause z.0 z.1 z.2 why) (λ i. (outcome_same b.same i, buckets i, now_is i)) cause in
         let begun_is = by_begun (outcome_in f) (buckets_of f.pass.now) g.begun (view p) (request_in f) why cause_now in
         let now : view_in g.begun p f.look ≡ view p = ap (λ b. begins (not b) (view p) (request_in f)) begun_is in
-        let walk = subst (λ (z : View × List Use). IsWalk (outcome_in g) z.0 z.1 BUCKET_ROWS) (λ i. ((now_is ∙ now) i, map use_shown (sym same_used i))) (subst (λ o. IsFinding g (if is_some o then BUCKET_ROWS else 0)) is good_now.finding).walk in
+        let walk = subst (λ (v : View). IsWalk (outcome_in g) v (uses_in g) (spent g + good_now.looks)) (now_is ∙ now) good_now.finding.walk in
         let kept = subst (Between locks (begun v (request_in f))) now between_so in
-        let loads = walk.loads in let first = kept.first_load in let few = few_so in record {
+        let loads = walk.loads in let first = kept.first_load in let few = good_now.few in record {
           cause = subst (λ z. HasCause (outcome_in f) (buckets_of f.pass.now) z why) now cause_now;
           asks = asks;
           nothing = nothing;
           first_load = first;
-          loads = omega (arith, length-map us use_shown);
+          loads = omega (arith, length-map g.used.now.items use_shown);
         }
 
     pub stopped_so : (why : rust_why.Why) → g.why ≡ Some why → Stopped locks f.look (buckets_of f.pass.now) v (view p) why

@@ -5,11 +5,9 @@ pub mod Told
 pub mod Walked
 pub mod Sighted
 pub mod Lookings
+pub mod Rooms
 pub mod Standing
 pub mod Questions
 pub mod Ended
 pub mod Checks
-pub mod Unasked
-pub mod Runs
-pub mod Blocks
 pub mod Turns

@@ -1,15 +1,15 @@
 -- The words of a row, read one after the other.
-use Rattle.std.proofs.Common.{◌≡◌, ℕ, zero, suc, ◌+◌, ◌-◌, ◌<◌, List, [], ◌∷◌, ◌++◌, true, false, length, get_or, set, take, drop, refl, ap, ap₂, sym, ◌∙◌, subst, arith, length-append}
+use Rattle.std.proofs.Common.{◌≡◌, ℕ, zero, suc, ◌+◌, ◌-◌, ◌<◌, List, [], ◌∷◌, ◌++◌, true, false, length, get_or, set, take, drop, refl, ap, ap₂, sym, ◌∙◌, subst, arith, length-append, length-set}
 use Rattle.std.proofs.Math.Seq.{get_or-append_seam, set-append_seam, take-suc-set, take-length}
-use Rattle.std.proofs.lemmas.List.{drop-set-add}
+use Rattle.std.proofs.lemmas.List.{drop-set-add, get_or-set_same}
 use mathlib.Core.Option.{some}
 use lib.ListN.{get_elem?}
 use Rattle.dc_row.specs.declared.TheConstants.{ROW_WORDS}
 use Rattle.dc_events.specs.Views.{View, Note}
-use Rattle.dc_events.specs.Effects.{read}
+use Rattle.dc_events.specs.Effects.{noted, read}
 use Rattle.dc_events.specs.Walks.{no_note, extended}
 use Rattle.dc_table.specs.Walking.{CanRead}
-use Rattle.dc_walk.specs.Probes.{probed, fresh_note}
+use Rattle.dc_walk.specs.Probes.{probed, fresh_note, read_of, HasRead}
 
 last_place : (xs : List Note) (x : Note) → length (xs ++ x ∷ []) - 1 ≡ length xs
 last_place xs x = let size : length (xs ++ x ∷ []) ≡ length xs + 1 = length-append xs (x ∷ []) in omega arith
@@ -42,10 +42,6 @@ module _ (v : View) (row count : ℕ) (words : List ℕ) where
       = ap₂ (λ (k : ℕ) (n : Note). set (xs ++ x ∷ []) k (extended n w)) (last_place xs x) (last_note xs x) ∙ set-append_seam xs x [] (fresh_note row count (words ++ w ∷ [])) in
       λ i. record v { walk = record v.walk { notes = notes i }; loads = loads i }
 
--- the words after the first, up to the i-th
-abbrev pub read_of : List ℕ → ℕ → List ℕ
-read_of words i = take (i - 1) (drop 1 words)
-
 kept_first : (words : List ℕ) (i w : ℕ) → 0 < i → get_or (set words i w) 0 0 ≡ get_or words 0 0
 kept_first [] zero w l = absurd (omega arith)
 kept_first [] (suc i) w l = refl
@@ -73,7 +69,7 @@ take_size zero xs l = refl
 take_size (suc k) [] l = absurd (omega arith)
 take_size (suc k) (x ∷ xs) l = ap suc (take_size k xs (omega arith))
 
-read_size : (words : List ℕ) (i : ℕ) → 0 < i → i < length words + 1 → length (read_of words i) + 1 ≡ i
+pub read_size : (words : List ℕ) (i : ℕ) → 0 < i → i < length words + 1 → length (read_of words i) + 1 ≡ i
 read_size words i early l = let size = dropped words in let is = take_size (i - 1) (drop 1 words) (omega arith) in omega arith
 
 module _ (v p : View) (row i : ℕ) (words : List ℕ) (size : length words ≡ ROW_WORDS) (early : 0 < i) (inside : i < ROW_WORDS) (is : p ≡ probed v row (get_or words 0 0) (read_of words i)) where
@@ -87,6 +83,20 @@ module _ (v p : View) (row i : ℕ) (words : List ℕ) (size : length words ≡ 
   next_read q w e =
       e ∙ ap (λ u. read u w) is ∙ read_so v row (get_or words 0 0) (read_of words i) w
       ∙ ap₂ (λ (n : ℕ) (ws : List ℕ). probed v row n ws) (sym (kept_first words i w early)) (sym (read_more words i w early within))
+
+-- once its count is noted
+pub read_first : (v p : View) (row count : ℕ) (before after : List ℕ) → length before ≡ ROW_WORDS → p ≡ noted v row count → after ≡ set before 0 count → HasRead v p row after 1
+read_first v p row count before after size is e = record {
+  size = ap (λ (ws : List ℕ). length ws) e ∙ length-set before 0 count ∙ size;
+  read = is ∙ ap (λ (n : ℕ). probed v row n []) (sym (get_or-set_same before 0 count 0 (subst (λ (n : ℕ). 0 < n) (sym size) (omega arith))) ∙ ap (λ (ws : List ℕ). get_or ws 0 0) (sym e));
+}
+
+-- and one word more
+pub read_next : {v p : View} {row : ℕ} {before : List ℕ} (i : ℕ) → HasRead v p row before i → 0 < i → i < ROW_WORDS → (q : View) (w : ℕ) (after : List ℕ) → q ≡ read p w → after ≡ set before i w → HasRead v q row after (i + 1)
+read_next {v = v} {p = p} {row = row} {before = before} i h early inside q w after is e = subst (λ ws. HasRead v q row ws (i + 1)) (sym e) (record {
+  size = length-set before i w ∙ h.size;
+  read = next_read v p row i before h.size early inside h.read q w is;
+})
 
 -- all words
 pub read_whole : (words : List ℕ) → length words ≡ ROW_WORDS → (i : ℕ) → i ≡ ROW_WORDS → read_of words i ≡ drop 1 words
@@ -102,4 +112,4 @@ count_first (x ∷ xs) size = refl
 
 pub rest_size : (words : List ℕ) → length words ≡ ROW_WORDS → length (drop 1 words) + 1 ≡ ROW_WORDS
 rest_size [] size = absurd (omega (arith, size))
-rest_size (x ∷ xs) size = let all : suc (length xs) ≡ 8 = size in let is : length xs + 1 ≡ 8 = omega arith in is
+rest_size (x ∷ xs) size = let all : suc (length xs) ≡ ROW_WORDS = size in let is : length xs + 1 ≡ ROW_WORDS = omega arith in is

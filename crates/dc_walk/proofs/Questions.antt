@@ -1,6 +1,7 @@
 -- What a finder over rows becomes by a question.
-use Rattle.std.proofs.Common.{◌≡◌, ℕ, zero, suc, ◌/◌, ◌<◌, ◌≤◌, inl, inr, List, [], ◌∷◌, ◌&&◌, Bool, true, false, Option, Some, None, IfSome, is_some, if◌then◌else◌, length, get_or, map, refl, ap, sym, ◌∙◌, subst, arith}
-use Rattle.std.proofs.lemmas.List.{map-append}
+use Rattle.std.proofs.Common.{◌≡◌, ℕ, zero, suc, ◌+◌, ◌*◌, ◌/◌, ◌<◌, ◌≤◌, ◌==◌, inl, inr, List, [], ◌∷◌, ◌&&◌, Bool, true, false, Option, Some, None, IfSome, is_some, if◌then◌else◌, length, get_or, map, refl, ap, sym, ◌∙◌, subst, arith}
+use Rattle.std.proofs.lemmas.Bool.{cases_eq, eq-eqb}
+use Rattle.std.proofs.lemmas.List.{map-append, length-map}
 use Rattle.std.specs.List.{Contains}
 use Rattle.dc_plain.specs.Facts.{Fact, Key, Teller, told_by}
 use Rattle.dc_plain.specs.Resolution.{Outcome}
@@ -16,13 +17,14 @@ use Rattle.dc_walk.specs.Asking.{GoesOn, SameWalk, Asks, first_row}
 use Rattle.dc_walk.specs.Causes.{HasCause, Looked, TellsWhy}
 use Rattle.dc_walk.specs.Becomings.{Becomes, Between, IsGood}
 use Rattle.dc_walk.specs.Sources.{IsUntried}
-use Rattle.dc_walk.specs.Findings.{SameRows, IsFinding, now_in, uses_in, outcome_in, said_in, buckets_of}
+use Rattle.dc_walk.specs.Findings.{SameRows, IsFinding, now_in, uses_in, outcome_in, said_in, buckets_of, spent}
 use Rattle.dc_walk.specs.Sights.{Answers}
 use Rattle.dc_walk.specs.declared.rows.Rows.{Rows}
 use Rattle.dc_names.specs.declared.limits.TheConstants.{BUCKET_ROWS}
+use Rattle.dc_walk.specs.declared.TheConstants.{MOST_USED}
 use Rattle.dc_walk.specs.declared.why.Why as rust_why
+use Rattle.dc_walk.specs.declared.why.Why.TheVariants as whys
 use Rattle.dc_walk.specs.Finds.{use_shown, told_in}
-use Rattle.dc_walk.proofs.Walked.{rested}
 use Rattle.dc_walk.proofs.Sighted.{outcome_same}
 use Rattle.dc_walk.specs.declared.source.Lane.{Lane}
 use Rattle.dc_walk.proofs.Told.{told_more, told_itself}
@@ -74,8 +76,8 @@ asks_so {v = v} us key marked untold need = record { facts = facts_of us; noted 
 asks_first : {f g : Rows} → SameRows f g → NeedsEach (outcome_in f) (facts_of (uses_in f)) → outcome_in f (said_in f) ≡ None → outcome_in g (told_by []) ≡ None
 asks_first {f = f} s needs now = (λ i. outcome_same s i (told_by [])) ∙ first_none (outcome_in f) (uses_in f) needs now
 
-same_told : (f g : Rows) → g.used.now ≡ f.used.now → Extends (said_in f) (said_in g)
-same_told f g used = subst (λ u. Extends (said_in f) (told_in u.items)) (sym used) (told_itself (said_in f))
+same_told : (f g : Rows) → g.used.now.items ≡ f.used.now.items → Extends (said_in f) (said_in g)
+same_told f g used = subst (λ us. Extends (said_in f) (told_in us)) (sym used) (told_itself (said_in f))
 
 -- no step of a walk between these views had the lock
 pub same_between : {locks : Bool} {v w : View} → SameWalk v w → Between locks v w
@@ -86,8 +88,28 @@ same_between s = let seen = ap (λ (b : Book). b.seen) s.book in record {
   book = λ free. s.book;
 }
 
+pub is_below : (m n : ℕ) → (m == n) ≡ false → m ≤ n → m < n
+is_below m n other few = elim (cases_eq m n) [
+  | inl same ↦ let never : (n == n) ≡ false = subst (λ (k : ℕ). (k == n) ≡ false) same other in let is : (n == n) ≡ true = eq-eqb n n refl in absurd cc
+  | inr ne ↦ omega arith
+]
+
+-- so many rows are used, and so many looked at besides, that the walk is within its loads
+abbrev pub IsWithin : ℕ → ℕ → Type 0
+IsWithin used besides = BUCKET_ROWS * used + besides ≤ BUCKET_ROWS * (MOST_USED + 1)
+
+spent_most : (b : Bool) → (if b then BUCKET_ROWS else 0) ≤ BUCKET_ROWS
+spent_most true = omega arith
+spent_most false = omega arith
+
+pub within_full : (f : Rows) → length f.used.now.items ≤ MOST_USED → IsWithin (length f.used.now.items) (spent f + 0)
+within_full f few = let most = spent_most f.slow in omega arith
+
+pub within_two : (f : Rows) (looks : ℕ) → length f.used.now.items < MOST_USED → spent f + looks ≤ BUCKET_ROWS + BUCKET_ROWS → IsWithin (length f.used.now.items) (spent f + looks)
+within_two f looks room few = omega arith
+
 -- a question without an answer is the last
-module _ (locks : Bool) {f g : Rows} (s : SameRows f g) (used : g.used.now ≡ f.used.now) (b : Between locks (now_in f) (now_in g)) (k : ℕ) (is : IsFinding g k) (few : k ≤ BUCKET_ROWS) (now : outcome_in f (said_in f) ≡ None) where
+module _ (locks : Bool) {f g : Rows} (s : SameRows f g) (used : g.used.now.items ≡ f.used.now.items) (b : Between locks (now_in f) (now_in g)) (k : ℕ) (is : IsFinding g k) (few : IsWithin (length g.used.now.items) (spent g + k)) (now : outcome_in f (said_in f) ≡ None) where
   pub stops : IsUntried locks f.pass.now g.pass.now → (why : rust_why.Why) (spare : Option ℕ) → (locks ≡ false → HasCause (outcome_in g) (buckets_of g.pass.now) (now_in g) why) → Becomes locks f (record g { spare = spare; why = Some why })
   stops untried why spare cause = record {
     same = record { reader = s.reader; pass = s.pass; used = s.used; look = s.look; same_pass = s.same_pass };
@@ -95,46 +117,69 @@ module _ (locks : Bool) {f g : Rows} (s : SameRows f g) (used : g.used.now ≡ f
     walk = b;
     untried = untried;
     good = λ good. record {
-      finding = record { can = is.can; walk = rested BUCKET_ROWS few is.walk; made = is.made; call = is.call; spelled = is.spelled; inside = is.inside; held = is.held; few = is.few };
+      looks = k;
+      finding = record { can = is.can; walk = is.walk; made = is.made; call = is.call; spelled = is.spelled; inside = is.inside; held = is.held; few = is.few };
+      few = few;
+      goes = λ fresh. absurd cc;
       cause = cause;
       asks = asks_first s good.finding.walk.needed now;
     };
   }
 
 -- why no row of the key's bucket answered
-pub looked_cause : {f g : Rows} (s : SameRows f g) (lane : Lane) (key : Key) (odd : Option ℕ) (why : rust_why.Why) → (f.used.now ≡ g.used.now) → (lane.first ≡ first_row (buckets_of f.pass.now) key) × (lane.many ≡ BUCKET_ROWS)
-    → Looked (now_in g) lane.first key odd lane.many → TellsWhy odd key why → IsFinding g lane.many → IsNeeded (outcome_in f) (said_in f) key.number key.label → IsUntold (said_in f) key.number key.label
+pub looked_cause : {f g : Rows} (s : SameRows f g) (lane : Lane) (key : Key) (odd : Option ℕ) (why : rust_why.Why) (looks : ℕ) → (f.used.now.items ≡ g.used.now.items) → (lane.first ≡ first_row (buckets_of f.pass.now) key) × (lane.many ≡ BUCKET_ROWS)
+    → Looked (now_in g) lane.first key odd lane.many → TellsWhy odd key why → IsFinding g looks → IsNeeded (outcome_in f) (said_in f) key.number key.label → IsUntold (said_in f) key.number key.label
     → HasCause (outcome_in g) (buckets_of g.pass.now) (now_in g) why
-looked_cause {f = f} {g = g} s lane key odd why used bucket looked tells is need none =
+looked_cause {f = f} {g = g} s lane key odd why looks used bucket looked tells is need none =
     let here : lane.first ≡ first_row (buckets_of g.pass.now) key = bucket.0 ∙ ap (λ (x : Share). first_row (x.rows / BUCKET_ROWS) key) (sym s.same_pass.same_share) in
     tells (outcome_in g) (buckets_of g.pass.now) (now_in g)
     (subst (λ (z : ℕ × ℕ). Looked (now_in g) z.0 key odd z.1) (λ i. (here i, bucket.1 i)) looked)
-    (asks_so (uses_in f) key (subst (Marked 0 0 (now_in g).walk.notes) (ap (λ used. map use_shown used.items) (sym used)) is.walk.marked) none
+    (asks_so (uses_in f) key (subst (Marked 0 0 (now_in g).walk.notes) (ap (map use_shown) (sym used)) is.walk.marked) none
     (λ teller more untold. (λ i. outcome_same s i teller) ∙ need teller more untold))
 
 -- what is asked is asked still
-module _ {f g : Rows} (s : SameRows f g) (used : g.used.now ≡ f.used.now) (key : Key) where
+module _ {f g : Rows} (s : SameRows f g) (used : g.used.now.items ≡ f.used.now.items) (key : Key) where
   pub needed_still : IsNeeded (outcome_in f) (said_in f) key.number key.label → IsNeeded (outcome_in g) (said_in g) key.number key.label
-  needed_still = subst (λ (z : (Teller → Option Outcome) × Teller). IsNeeded z.0 z.1 key.number key.label) (λ i. (sym (outcome_same s) i, told_in (sym used i).items))
+  needed_still = subst (λ (z : (Teller → Option Outcome) × Teller). IsNeeded z.0 z.1 key.number key.label) (λ i. (sym (outcome_same s) i, told_in (sym used i)))
 
   pub untold_still : IsUntold (said_in f) key.number key.label → IsUntold (said_in g) key.number key.label
-  untold_still = subst (λ u. IsUntold (told_in u.items) key.number key.label) (sym used)
+  untold_still = subst (λ us. IsUntold (told_in us) key.number key.label) (sym used)
 
 -- before a question no row is looked at for it
 pub unlooked : {locks : Bool} (f : Rows) → f.why ≡ None → IsGood locks f → IsFinding f 0
-unlooked f fresh good = subst (λ o. IsFinding f (if is_some o then BUCKET_ROWS else 0)) fresh good.finding
+unlooked f fresh good = subst (IsFinding f) (good.goes fresh).none good.finding
 
 -- a row that was used as the last answers
-pub answered_becomes : (locks : Bool) {f g : Rows} (s : SameRows f g) {row : ℕ} {words : List ℕ} (key : Key) → HasNotTried (known f.pass.now) (known g.pass.now) → GoesOn (now_in f) (now_in g) → Answers f key g row words → g.why ≡ None → Becomes locks f g
-answered_becomes locks {f = f} {g = g} s key untried on a why = record {
+pub answered_becomes : (locks : Bool) {f g : Rows} (s : SameRows f g) (row at : ℕ) (key : Key) → HasNotTried (known f.pass.now) (known g.pass.now) → GoesOn (now_in f) (now_in g) → Answers f key g row 0 at → g.why ≡ None → (g.slow ≡ true → length g.used.now.items < MOST_USED) → Becomes locks f g
+answered_becomes locks {f = f} {g = g} s row at key untried on a why room = record {
   same = s;
   told = subst (λ facts. Extends (said_in f) (told_by facts)) (sym (ap facts_of a.uses ∙ map-append (λ u. u.fact) (uses_in f) (a.use_of ∷ []))) (told_more (facts_of (uses_in f)) a.use_of.fact);
   walk = same_between on.same;
   untried = λ free. untried;
   good = λ is. record {
-    finding = subst (λ o. IsFinding g (if is_some o then BUCKET_ROWS else 0)) (sym why) a.finding;
+    looks = 0;
+    finding = a.finding;
+    few = within_full g a.finding.few;
+    goes = λ fresh. record { none = refl; room = room };
     cause = λ free. subst (λ o. IfSome o (HasCause (outcome_in g) (buckets_of g.pass.now) (now_in g))) (sym why) tt;
     asks = subst (λ o. IfSome o (λ why. outcome_in g (told_by []) ≡ None)) (sym why) tt;
+  };
+}
+
+-- a row more than could be checked answers, after two looks for one: the walk ends with it
+pub filled_becomes : (locks : Bool) {f g : Rows} (s : SameRows f g) (row at : ℕ) (key : Key) → HasNotTried (known f.pass.now) (known g.pass.now) → GoesOn (now_in f) (now_in g) → Answers f key g row 0 at → outcome_in f (said_in f) ≡ None → length g.used.now.items ≡ MOST_USED → Becomes locks f (record g { why = Some whys.Long })
+filled_becomes locks {f = f} {g = g} s row at key untried on a now full = record {
+  same = record { reader = s.reader; pass = s.pass; used = s.used; look = s.look; same_pass = s.same_pass };
+  told = subst (λ facts. Extends (said_in f) (told_by facts)) (sym (ap facts_of a.uses ∙ map-append (λ u. u.fact) (uses_in f) (a.use_of ∷ []))) (told_more (facts_of (uses_in f)) a.use_of.fact);
+  walk = same_between on.same;
+  untried = λ free. untried;
+  good = λ good. let is = a.finding in record {
+    looks = 0;
+    finding = record { can = is.can; walk = is.walk; made = is.made; call = is.call; spelled = is.spelled; inside = is.inside; held = is.held; few = is.few };
+    few = within_full g is.few;
+    goes = λ fresh. absurd cc;
+    cause = λ free. record { uses = uses_in g; marked = is.walk.marked; many = length-map g.used.now.items use_shown ∙ full; distinct = is.walk.distinct };
+    asks = asks_first s good.finding.walk.needed now;
   };
 }
 

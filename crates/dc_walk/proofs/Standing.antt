@@ -1,5 +1,6 @@
 -- What the rows that were used tell of a key.
-use Rattle.std.proofs.Common.{◌≡◌, ℕ, zero, suc, ◌<◌, ◌==◌, ◌&&◌, List, [], ◌∷◌, ◌++◌, length, get_or, Bool, true, false, cond, Option, Some, map, refl, ap, sym, ◌∙◌, subst, arith}
+use Rattle.std.proofs.Common.{◌≡◌, ℕ, zero, suc, ◌<◌, ◌==◌, ◌&&◌, List, [], ◌∷◌, ◌++◌, ◌+◌, length, get_or, Bool, true, false, cond, Option, Some, map, refl, ap, sym, ◌∙◌, subst, arith, length-append}
+use Rattle.std.proofs.Math.Seq.{get_or-append_seam}
 use Rattle.std.proofs.lemmas.Bool.Decides.{nat_tests}
 use Rattle.std.proofs.lemmas.List.{map-append}
 use Rattle.std.proofs.lemmas.Slice.Eq.{bytes_eq-Decides}
@@ -10,10 +11,10 @@ use Rattle.dc_row.specs.Decoding.{fact_in, SpelledIsRead}
 use Rattle.dc_row.specs.Spelling.{Spells, TellsOf}
 use Rattle.dc_resolve.specs.Needs.{IsUntold}
 use Rattle.dc_walk.specs.Uses.{facts_of}
-use Rattle.dc_walk.specs.Finds.{fact_or_none, fact_shown, use_shown, told_in, IsSpelled, AllSpelled, AllInside, AllHeld, IsTold, IsStanding}
+use Rattle.dc_walk.specs.Finds.{fact_or_none, fact_shown, use_shown, told_in, IsSpelled, AllSpelled, AllInside, AllHeld, IsTold, IsStanding, StandsAt}
+use Rattle.dc_walk.specs.Rooms.{no_use, used_at, Used}
 use Rattle.dc_walk.specs.Filters.{key_hash, MayHold}
 use Rattle.dc_walk.specs.declared.filter.KeyFilter.{KeyFilter}
-use Rattle.dc_walk.specs.declared.used.Used.{Used}
 use Rattle.dc_walk.proofs.Told.{same_test, same_itself, told_last, new_same}
 
 pub label-same : (a b : Label) → same_label a b ≡ true → a ≡ b
@@ -74,9 +75,6 @@ pub inside_more : (rows : ℕ) (us : List Used) (u : Used) → AllInside rows us
 inside_more rows [] u all is = (is, tt)
 inside_more rows (v ∷ us) u all is = (all.0, inside_more rows us u all.1 is)
 
-abbrev no_use : Used
-no_use = record { row = 0; place = 0; words = [] }
-
 -- no row up to the i-th tells of the key
 abbrev pub AreOthers : List Used → Key → ℕ → Type 0
 AreOthers us key i = (j : ℕ) → j < i → TellsOf (get_or us j no_use).words key → ⊥
@@ -89,8 +87,11 @@ first_told read (u ∷ us) key (suc i) l all others fact about s =
     told_past (fact_shown u) (facts_of (map use_shown us)) fact (λ same. others 0 (omega arith) (record { fact = fact_shown u; about = same ∙ about; spelled = all.0 }))
     (first_told read us key i (omega arith) all.1 (λ j h. others (suc j) (omega arith)) fact about s)
 
-pub stands_so : SpelledIsRead → (us : List Used) (key : Key) (i : ℕ) → i < length us → AllSpelled us → AreOthers us key i → TellsOf (get_or us i no_use).words key → IsStanding us key (get_or us i no_use).words
-stands_so read us key i l all others tells = record { fact = tells.fact; about = tells.about; spelled = tells.spelled; told = first_told read us key i l all others tells.fact tells.about tells.spelled }
+pub stands_so : SpelledIsRead → (us : List Used) (key : Key) (i : ℕ) → i < length us → AllSpelled us → AreOthers us key i → TellsOf (used_at us i).words key → StandsAt us key i
+stands_so read us key i l all others tells = record {
+  there = l;
+  standing = record { fact = tells.fact; about = tells.about; spelled = tells.spelled; told = first_told read us key i l all others tells.fact tells.about tells.spelled };
+}
 
 pub none_stands : (us : List Used) (key : Key) → AllSpelled us → AreOthers us key (length us) → IsUntold (told_in us) key.number key.label
 none_stands [] key all others = untold_by_none key.number key.label
@@ -118,15 +119,18 @@ held_more filter more [] u all kept is = (is, tt)
 held_more filter more (v ∷ us) u all kept is = (kept _ all.0, held_more filter more us u all.1 kept is)
 
 -- a row that was just used tells of its key
-pub stands_last : (us : List Used) (new : Used) (key : Key) (fact : Fact) → fact_shown new ≡ fact → key_of fact ≡ key → Spells new.words (Some fact) → IsUntold (told_in us) key.number key.label → IsStanding (us ++ new ∷ []) key new.words
+pub stands_last : (us : List Used) (new : Used) (key : Key) (fact : Fact) → fact_shown new ≡ fact → key_of fact ≡ key → Spells new.words (Some fact) → IsUntold (told_in us) key.number key.label → StandsAt (us ++ new ∷ []) key (length us)
 stands_last us new key fact shown about spells none =
     let facts : facts_of (map use_shown (us ++ new ∷ [])) ≡ facts_of (map use_shown us) ++ fact ∷ [] =
     ap facts_of (map-append use_shown us (new ∷ [])) ∙ map-append (λ u. u.fact) (map use_shown us) (use_shown new ∷ []) ∙ ap (λ f. facts_of (map use_shown us) ++ f ∷ []) shown in
-    record {
-      fact = fact;
-      about = about;
-      spelled = spells;
-      told = subst (λ fs. IsTold (told_by fs) fact) (sym facts) (told_last (facts_of (map use_shown us)) fact spells.allowed (new_same key (told_in us) fact about none));
+    let size : length (us ++ new ∷ []) ≡ length us + 1 = length-append us (new ∷ []) in record {
+      there = omega arith;
+      standing = subst (λ u. IsStanding (us ++ new ∷ []) key u.words) (sym (get_or-append_seam us new [] no_use)) (record {
+        fact = fact;
+        about = about;
+        spelled = spells;
+        told = subst (λ fs. IsTold (told_by fs) fact) (sym facts) (told_last (facts_of (map use_shown us)) fact spells.allowed (new_same key (told_in us) fact about none));
+      });
     }
 
 pub inside_at : (rows : ℕ) (us : List Used) (i : ℕ) (d : Used) → AllInside rows us → i < length us → (get_or us i d).row < rows

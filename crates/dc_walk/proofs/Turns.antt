@@ -1,5 +1,5 @@
 -- Which rows got a pin under the holds of a walk.
-use Rattle.std.proofs.Common.{◌≡◌, ◌⊎◌, ℕ, ◌+◌, ◌<◌, ◌≤◌, List, [], ◌∷◌, ◌++◌, Option, Some, None, Ok, map, inl, inr, refl, sym, ap, ap₂, ◌∙◌, subst, arith}
+use Rattle.std.proofs.Common.{◌≡◌, ℕ, ◌+◌, List, [], ◌∷◌, ◌++◌, Option, Some, None, Ok, map, inl, inr, refl, sym, ap, ap₂, ◌∙◌, subst, arith}
 use Rattle.std.proofs.lemmas.List.{map-append}
 use Rattle.dc_plain.specs.Facts.{Key}
 use Rattle.dc_rows.specs.RowChanges.{PinsOnly, SamePins}
@@ -14,7 +14,7 @@ use Rattle.dc_walk.specs.Unpins.{PinsInTurn, rows_used, with_spare}
 use Rattle.dc_walk.specs.Becomings.{HasPinned}
 use Rattle.dc_walk.specs.declared.rows.Rows.{Rows}
 use Rattle.dc_walk.specs.declared.source.Lane.{Lane}
-use Rattle.dc_walk.specs.declared.used.Used.{Used}
+use Rattle.dc_walk.specs.Rooms.{Used}
 use Rattle.dc_walk.specs.declared.why.Why.{Why}
 
 pub none_in_turn : (past : List LockHold) → PinsInTurn past past []
@@ -33,8 +33,8 @@ rows_of_uses [] = refl
 rows_of_uses (u ∷ used) = ap (λ (rows : List ℕ). u.row ∷ rows) (rows_of_uses used)
 
 -- a row that answers is the last of the used ones
-answered_rows : (f g : Rows) (key : Key) (row : ℕ) (words : List ℕ) → Answers f key g row words → rows_used g.used.now.items ≡ rows_used f.used.now.items ++ row ∷ []
-answered_rows f g key row words a = sym (rows_of_uses g.used.now.items) ∙ (ap (map (λ (u : Use). u.row)) a.uses ∙ (map-append (λ (u : Use). u.row) (uses_in f) (a.use_of ∷ [])
+answered_rows : (f g : Rows) (key : Key) (row earlier at : ℕ) → Answers f key g row earlier at → rows_used g.used.now.items ≡ rows_used f.used.now.items ++ row ∷ []
+answered_rows f g key row earlier at a = sym (rows_of_uses g.used.now.items) ∙ (ap (map (λ (u : Use). u.row)) a.uses ∙ (map-append (λ (u : Use). u.row) (uses_in f) (a.use_of ∷ [])
     ∙ ap₂ (λ (rows : List ℕ) (r : ℕ). rows ++ r ∷ []) (rows_of_uses f.used.now.items) a.of_row))
 
 -- a walk that goes on has no row that it doesn't use
@@ -49,12 +49,12 @@ begun_pinned f spare empty = let past = (known f.pass.now).past in record {
 }
 
 -- a row was asked for, or none could be had
-module _ (before : List LockHold) (f h : Rows) (fresh : f.why ≡ None) (used : h.used.now ≡ f.used.now) (once : HadOnce (known f.pass.now) (known h.pass.now)) (is : HasPinned before f) where
+module _ (before : List LockHold) (f h : Rows) (fresh : f.why ≡ None) (used : h.used.now.items ≡ f.used.now.items) (once : HadOnce (known f.pass.now) (known h.pass.now)) (is : HasPinned before f) where
   had_none : SamePins (known h.pass.now).got (known h.pass.now).left → PinsInTurn before (known h.pass.now).past (rows_used h.used.now.items)
-  had_none same = subst (λ u. PinsInTurn before (known h.pass.now).past (rows_used u.items)) (sym used) (same_turn (record { got = (known h.pass.now).got; left = (known h.pass.now).left }) once same (plain before f fresh is))
+  had_none same = subst (λ us. PinsInTurn before (known h.pass.now).past (rows_used us)) (sym used) (same_turn (record { got = (known h.pass.now).got; left = (known h.pass.now).left }) once same (plain before f fresh is))
 
   had_row : (row : ℕ) → PinsOnly row (known h.pass.now).got (known h.pass.now).left → PinsInTurn before (known h.pass.now).past (rows_used h.used.now.items ++ row ∷ [])
-  had_row row one = subst (λ u. PinsInTurn before (known h.pass.now).past (rows_used u.items ++ row ∷ [])) (sym used) (one_turn row (record { got = (known h.pass.now).got; left = (known h.pass.now).left }) once one (plain before f fresh is))
+  had_row row one = subst (λ us. PinsInTurn before (known h.pass.now).past (rows_used us ++ row ∷ [])) (sym used) (one_turn row (record { got = (known h.pass.now).got; left = (known h.pass.now).left }) once one (plain before f fresh is))
 
   -- want of memory
   pub refused_pinned : h.spare ≡ f.spare → (why : Why) → SamePins (known h.pass.now).got (known h.pass.now).left → HasPinned before (record h { why = Some why })
@@ -63,18 +63,22 @@ module _ (before : List LockHold) (f h : Rows) (fresh : f.why ≡ None) (used : 
     spare = λ e. none;
   }
 
-module _ (before : List LockHold) (f h g : Rows) (lane : Lane) (fresh : f.why ≡ None) (used : h.used.now ≡ f.used.now) (had : HasLane (known f.pass.now) (known h.pass.now) (Ok lane)) (untried : HasNotTried (known h.pass.now) (known g.pass.now)) (is : HasPinned before f) where
+module _ (before : List LockHold) (f h g : Rows) (lane : Lane) (fresh : f.why ≡ None) (used : h.used.now.items ≡ f.used.now.items) (had : HasLane (known f.pass.now) (known h.pass.now) (Ok lane)) (untried : HasNotTried (known h.pass.now) (known g.pass.now)) (is : HasPinned before f) where
   -- the row that was had answers
-  pub answered_pinned : (key : Key) (words : List ℕ) → h.spare ≡ f.spare → g.spare ≡ h.spare → AnswersIn h key g lane words → HasPinned before g
-  answered_pinned key words spare still a = let none : g.spare ≡ None = still ∙ (spare ∙ is.spare fresh) in record {
+  pub answered_pinned : (key : Key) (earlier at : ℕ) → h.spare ≡ f.spare → g.spare ≡ h.spare → AnswersIn h key g lane earlier at → HasPinned before g
+  answered_pinned key earlier at spare still a = let none : g.spare ≡ None = still ∙ (spare ∙ is.spare fresh) in record {
     pinned = elim had.pins [
-      | inl one ↦ let within = a.within in let many = one.0 in let at : lane.first + a.place ≡ lane.first = omega arith in
-          let rows = answered_rows h g key (lane.first + a.place) words a.answers ∙ ap (λ (r : ℕ). rows_used h.used.now.items ++ r ∷ []) at in
+      | inl one ↦ let within = a.within in let many = one.0 in let there : lane.first + a.place ≡ lane.first = omega arith in
+          let rows = answered_rows h g key (lane.first + a.place) earlier at a.answers ∙ ap (λ (r : ℕ). rows_used h.used.now.items ++ r ∷ []) there in
           subst (λ (z : List LockHold × List ℕ × Option ℕ). PinsInTurn before z.0 (with_spare z.1 z.2)) (λ i. (sym untried.past i, sym rows i, sym none i)) (had_row before f h fresh used had.once is lane.first one.1)
       | inr nothing ↦ let within = a.within in let many = nothing.0 in absurd (omega arith)
     ];
     spare = λ e. none;
   }
+
+  -- so it does where the walk ends with it
+  pub filled_pinned : (key : Key) (earlier at : ℕ) → h.spare ≡ f.spare → g.spare ≡ h.spare → AnswersIn h key g lane earlier at → (why : Why) → HasPinned before (record g { why = Some why })
+  filled_pinned key earlier at spare still a why = let is = answered_pinned key earlier at spare still a in record { pinned = is.pinned; spare = λ e. absurd cc }
 
   lane_turn : (spare : Option ℕ) → IsHead lane spare → PinsInTurn before (known h.pass.now).past (with_spare (rows_used h.used.now.items) spare)
   lane_turn (Some row) head = elim had.pins [
@@ -87,9 +91,9 @@ module _ (before : List LockHold) (f h g : Rows) (lane : Lane) (fresh : f.why �
   ]
 
   -- it doesn't
-  pub stopped_pinned : g.used.now ≡ h.used.now → (spare : Option ℕ) → IsHead lane spare → (why : Why) → HasPinned before (record g { spare = spare; why = Some why })
+  pub stopped_pinned : g.used.now.items ≡ h.used.now.items → (spare : Option ℕ) → IsHead lane spare → (why : Why) → HasPinned before (record g { spare = spare; why = Some why })
   stopped_pinned same spare head why = record {
-    pinned = subst (λ (z : List LockHold × List ℕ). PinsInTurn before z.0 (with_spare z.1 spare)) (λ i. (sym untried.past i, rows_used (sym same i).items)) (lane_turn spare head);
+    pinned = subst (λ (z : List LockHold × List ℕ). PinsInTurn before z.0 (with_spare z.1 spare)) (λ i. (sym untried.past i, rows_used (sym same i))) (lane_turn spare head);
     spare = λ e. absurd cc;
   }
 

@@ -19,7 +19,7 @@ use Rattle.dc_walk.proofs.Told.{needs_more, differs_more}
 
 module _ {outcome : Teller → Option Outcome} {v : View} {us : List Use} {k : ℕ} where
   -- a row that tells of another key
-  pub passed : (row count : ℕ) (words : List ℕ) → length words + 1 ≡ ROW_WORDS → IsWalk outcome v us k → IsWalk outcome (probed v row count words) us (k + 1)
+  pub passed : (row count : ℕ) (words : List ℕ) → length words + 1 ≤ ROW_WORDS → IsWalk outcome v us k → IsWalk outcome (probed v row count words) us (k + 1)
   passed row count words whole w =
       let few = w.few in let loads = w.loads in
       let size : length (v.walk.notes ++ fresh_note row count words ∷ []) ≡ length v.walk.notes + 1 = length-append v.walk.notes (fresh_note row count words ∷ []) in record {
@@ -44,10 +44,10 @@ module _ {outcome : Teller → Option Outcome} {v : View} {us : List Use} {k : �
     distinct = w.distinct;
   }
 
-  -- a row that answers
-  pub answered : (u : Use) (words : List ℕ) → IsWalk outcome v us k → k < BUCKET_ROWS → u.place ≡ length v.walk.notes → Spells (u.count ∷ words) (Some u.fact) → outcome (told_by (facts_of us)) ≡ None → IsNew (told_by (facts_of us)) u.fact
-      → IsWalk outcome (probed v u.row u.count words) (us ++ u ∷ []) 0
-  answered u words w early at spells unsettled new =
+  -- a row that answers, before which m more rows were looked at than those of a bucket
+  pub answered : (u : Use) (words : List ℕ) (m : ℕ) → IsWalk outcome v us k → k < BUCKET_ROWS + m → u.place ≡ length v.walk.notes → Spells (u.count ∷ words) (Some u.fact) → outcome (told_by (facts_of us)) ≡ None → IsNew (told_by (facts_of us)) u.fact
+      → IsWalk outcome (probed v u.row u.count words) (us ++ u ∷ []) m
+  answered u words m w early at spells unsettled new =
       let few = w.few in let loads = w.loads in
       let x = fresh_note u.row u.count words in let whole = spells.size in
       let size : length (v.walk.notes ++ x ∷ []) ≡ length v.walk.notes + 1 = length-append v.walk.notes (x ∷ []) in

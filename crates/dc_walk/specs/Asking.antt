@@ -12,7 +12,7 @@ use Rattle.dc_events.specs.Rows.{note_words, IsWhole}
 use Rattle.dc_walk.specs.Uses.{Use, Marked, NeedsEach, DiffersEach, facts_of}
 use Rattle.dc_names.specs.declared.limits.TheConstants.{BUCKET_ROWS}
 
--- a walk that has looked at k rows for its present question: each question cost four rows at most, each row eight loads
+-- a walk that has looked at k rows for its present question: each question cost the rows of a bucket at most, each row a load for each word
 pub record IsWalk (outcome : Teller → Option Outcome) (v : View) (uses : List Use) (k : ℕ) : Type 0 where
   pub busy : v.walk.busy ≡ true
   pub early : v.walk.pivoted ≡ false

@@ -1,5 +1,5 @@
 -- What questions make of a walk over rows, whose source may take the lock or not.
-use Rattle.std.specs.Prelude.{◌≡◌, ℕ, [], List, Bool, false, true, None, IfSome, is_some, if◌then◌else◌}
+use Rattle.std.specs.Prelude.{◌≡◌, ℕ, ◌+◌, ◌*◌, ◌<◌, ◌≤◌, [], List, Bool, true, false, None, IfSome, length}
 use Rattle.std.proofs.Common.{arith, refl, ◌∙◌}
 use Rattle.dc_plain.specs.Facts.{Key, Label, told_by}
 use Rattle.dc_plain.specs.Tellers.{Extends}
@@ -11,13 +11,10 @@ use Rattle.dc_table.specs.Shares.{HasNotTried, Known, LockHold}
 use Rattle.dc_walk.specs.Causes.{HasCause}
 use Rattle.dc_walk.specs.Sources.{IsUntried}
 use Rattle.dc_walk.specs.Unpins.{PinsInTurn, rows_used, with_spare}
-use Rattle.dc_walk.specs.Findings.{SameRows, IsFinding, now_in, outcome_in, said_in, buckets_of}
+use Rattle.dc_walk.specs.Findings.{SameRows, IsFinding, now_in, outcome_in, said_in, buckets_of, spent}
 use Rattle.dc_names.specs.declared.limits.TheConstants.{BUCKET_ROWS}
+use Rattle.dc_walk.specs.declared.TheConstants.{MOST_USED}
 use Rattle.dc_walk.specs.declared.rows.Rows.{Rows}
-
--- how many rows it looked at for a question that it didn't answer
-abbrev pub looked_at : Rows → ℕ
-looked_at f = if is_some f.why then BUCKET_ROWS else 0
 
 -- it is the same walk still, and nothing is recorded; nor is anything seen where no lock is taken
 pub record Between (locks : Bool) (v w : View) : Type 0 where
@@ -26,9 +23,17 @@ pub record Between (locks : Bool) (v w : View) : Type 0 where
   pub nothing : NothingNew v w
   pub book : locks ≡ false → w.book ≡ v.book
 
+-- it looked at no row yet for its next question, and where two looks were spent on an earlier one it has room for a row
+pub record MayGoOn (f : Rows) (looks : ℕ) : Type 0 where
+  pub none : looks ≡ 0
+  pub room : f.slow ≡ true → length f.used.now.items < MOST_USED
+
 -- a walk without the lock gave up for a cause that its pass has seen
 pub record IsGood (locks : Bool) (f : Rows) : Type 0 where
-  pub finding : IsFinding f (looked_at f)
+  pub looks : ℕ
+  pub finding : IsFinding f looks
+  pub few : BUCKET_ROWS * length f.used.now.items + (spent f + looks) ≤ BUCKET_ROWS * (MOST_USED + 1)
+  pub goes : f.why ≡ None → MayGoOn f looks
   pub cause : locks ≡ false → IfSome f.why (HasCause (outcome_in f) (buckets_of f.pass.now) (now_in f))
   pub asks : IfSome f.why (λ why. outcome_in f (told_by []) ≡ None)
 
@@ -51,7 +56,9 @@ KeepsPinned locks f g = locks ≡ true → (before : List LockHold) → HasPinne
 -- rows were had, and none of them is looked at yet
 pub record Had (locks : Bool) (f g : Rows) : Type 0 where
   pub becomes : Becomes locks f g
-  pub used : g.used.now ≡ f.used.now
+  pub used : g.used.now.items ≡ f.used.now.items
+  pub spent : g.used.now.spent ≡ f.used.now.spent
+  pub slow : g.slow ≡ f.slow
   pub why : g.why ≡ f.why
   pub spare : g.spare ≡ f.spare
 

@@ -1,5 +1,5 @@
 -- What a look-up by rows promises.
-use Rattle.std.specs.Prelude.{◌≡◌, ℕ, ◌+◌, ◌≤◌, ◌⊎◌, List, [], true, Option, None}
+use Rattle.std.specs.Prelude.{◌≡◌, ℕ, ◌+◌, ◌≤◌, List, [], Option, None}
 use Rattle.dc_plain.specs.declared.call.Follow.{Follow}
 use Rattle.dc_plain.specs.declared.call.Stamped.{Stamped}
 use Rattle.dc_plain.specs.Facts.{Teller, told_by}
@@ -10,12 +10,10 @@ use Rattle.dc_events.specs.Views.{View}
 use Rattle.dc_table.specs.Changes as changes
 use Rattle.dc_table.specs.Changes.{NothingNew}
 use Rattle.dc_walk.specs.Settling.{noted_in}
-use Rattle.dc_walk.specs.Long.{has_long_name}
 use Rattle.dc_walk.specs.Looks.{outcome_by}
 use Rattle.dc_walk.specs.Causes.{HasCause}
 use Rattle.dc_walk.specs.declared.TheConstants.{MOST_LOADS}
 use Rattle.dc_walk.specs.declared.why.Why as rust_why
-use Rattle.dc_walk.specs.declared.why.Why.TheVariants as whys
 use Rattle.dc_walk.specs.declared.answer.Fast as rust_fast
 use Rattle.dc_walk.specs.declared.answer.Fast.TheVariants as fasts
 
@@ -27,12 +25,6 @@ pub record GaveUp (outcome : Teller → Option Outcome) (buckets : ℕ) (before 
   pub first_load : now.first_load ≡ before.loads
   pub loads : now.loads ≤ before.loads + MOST_LOADS
 
--- a name has no room in a row, and no step was made
-pub record IsTooLong (text : List ℕ) (before now : View) (why : rust_why.Why) : Type 0 where
-  pub is_long : why ≡ whys.Long
-  pub name : has_long_name text ≡ true
-  pub same : now ≡ before
-
 -- exactly this record was made, at a pivot of a walk that was begun in this call
 pub record Recorded (call : Request) (answer : Answer) (at : ℕ) (before now : View) : Type 0 where
   pub book : now.book ≡ noted_in before.book call answer at
@@ -42,12 +34,7 @@ pub record Recorded (call : Request) (answer : Answer) (at : ℕ) (before now : 
 
 abbrev pub Keeps : (base : ℕ) (text : List ℕ) (how : Follow) (buckets : ℕ) (before now : View) → rust_fast.Fast → Type 0
 Keeps base text how buckets before now (fasts.Done stamped) = Recorded (Look base text how) (reply_shown stamped.reply) stamped.at before now
-Keeps base text how buckets before now (fasts.Again why) = GaveUp (outcome_by base text how) buckets before now why ⊎ IsTooLong text before now why
-
--- a name that has no room is the cause, whatever else would be
-abbrev pub IsLongAgain : rust_fast.Fast → Type 0
-IsLongAgain (fasts.Done stamped) = ⊥
-IsLongAgain (fasts.Again why) = why ≡ whys.Long
+Keeps base text how buckets before now (fasts.Again why) = GaveUp (outcome_by base text how) buckets before now why
 
 -- only a walk that asks something gives up
 abbrev pub IfAgain : rust_fast.Fast → Type 0 → Type 0

@@ -1,5 +1,5 @@
 -- What a finder over rows has done, and says.
-use Rattle.std.specs.Prelude.{◌≡◌, ℕ, ◌/◌, ◌<◌, ◌≤◌, List, Bool, not, Option, length, map}
+use Rattle.std.specs.Prelude.{◌≡◌, ℕ, ◌+◌, ◌/◌, ◌<◌, ◌≤◌, List, Bool, not, Option, length, map, if◌then◌else◌}
 use Rattle.dc_plain.specs.Facts.{Teller}
 use Rattle.dc_plain.specs.Resolution.{Outcome}
 use Rattle.dc_plain.specs.Requests.{Request}
@@ -55,9 +55,14 @@ view_in begun p look = begins (not begun) (view p) (look_shown look)
 abbrev pub now_in : Rows → View
 now_in f = view_in f.begun f.pass.now f.look
 
+-- how many rows it looked at besides those that its answered questions cost: once those of a bucket
+abbrev pub spent : Rows → ℕ
+spent f = if f.slow then BUCKET_ROWS else 0
+
+-- it has looked at k rows for its present question
 pub record IsFinding (f : Rows) (k : ℕ) : Type 0 where
   pub can : CanWalk (table_of f.reader) f.pass.now
-  pub walk : IsWalk (outcome_in f) (now_in f) (uses_in f) k
+  pub walk : IsWalk (outcome_in f) (now_in f) (uses_in f) (spent f + k)
   pub made : f.made ≡ length (now_in f).walk.notes
   pub call : (now_in f).walk.call ≡ request_in f
   pub spelled : AllSpelled f.used.now.items

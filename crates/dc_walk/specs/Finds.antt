@@ -1,14 +1,14 @@
 -- What the rows that a walk has used tell.
-use Rattle.std.specs.Prelude.{◌≡◌, ℕ, ◌<◌, List, [], Option, Some, None, map, get_or}
+use Rattle.std.specs.Prelude.{◌≡◌, ℕ, ◌<◌, List, [], Option, Some, None, length, map, get_or}
 use Rattle.std.specs.List.{AllByRecursion}
 use Rattle.dc_plain.specs.Facts.{Fact, Key, Teller, key_of, told_by}
 use Rattle.dc_plain.specs.Facts.Fact.{Leads, Reads}
 use Rattle.dc_row.specs.Decoding.{fact_in}
 use Rattle.dc_row.specs.Spelling.{Spells}
 use Rattle.dc_walk.specs.Uses.{Use, facts_of}
+use Rattle.dc_walk.specs.Rooms.{used_at, Used}
 use Rattle.dc_walk.specs.Filters.{key_hash, MayHold}
 use Rattle.dc_walk.specs.declared.filter.KeyFilter.{KeyFilter}
-use Rattle.dc_walk.specs.declared.used.Used.{Used}
 
 -- a fact that was read, or a fact of nobody
 abbrev pub fact_or_none : Option (Option Fact) → Fact
@@ -51,3 +51,8 @@ pub record IsStanding (used : List Used) (key : Key) (words : List ℕ) : Type 0
   pub about : key_of fact ≡ key
   pub spelled : Spells words (Some fact)
   pub told : IsTold (told_in used) fact
+
+-- the row at this place spells what the rows that were used tell of a key
+pub record StandsAt (used : List Used) (key : Key) (at : ℕ) : Type 0 where
+  pub there : at < length used
+  pub standing : IsStanding used key (used_at used at).words

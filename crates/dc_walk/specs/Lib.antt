@@ -2,7 +2,7 @@
 pub mod Looks
 pub mod Probes
 pub mod Uses
-pub mod Long
+pub mod Rooms
 pub mod Asking
 pub mod Filters
 pub mod Finds

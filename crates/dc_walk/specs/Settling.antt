@@ -22,7 +22,8 @@ noted_in book call answer at = with_record (with_seen book at) (record { call = 
 
 -- the walk came to this answer by the notes that it used
 pub record Came (outcome : Teller → Option Outcome) (call : Request) (now : View) (uses : List Use) (answer : Answer) : Type 0 where
-  pub walk : IsWalk outcome now uses 0
+  pub spent : ℕ
+  pub walk : IsWalk outcome now uses spent
   pub about : now.walk.call ≡ call
   pub end : Outcome
   pub found : outcome (told_by (facts_of uses)) ≡ Some end

@@ -3,16 +3,15 @@ use Rattle.std.specs.Prelude.{◌≡◌, ◌⊎◌, ℕ, ◌++◌, ◌∷◌, Li
 use Rattle.dc_rows.specs.RowChanges.{PinsOnly, SamePins}
 use Rattle.dc_rows.specs.Outcomes.{UnpinsOnce}
 use Rattle.dc_table.specs.Shares.{Known, LockHold}
-use Rattle.dc_walk.specs.declared.used.Room.{Room}
-use Rattle.dc_walk.specs.declared.used.Used.{Used}
+use Rattle.dc_walk.specs.Rooms.{Kept, Used}
 
 -- the rows that answered
 abbrev pub rows_used : List Used → List ℕ
 rows_used used = map (λ u. u.row) used
 
 -- the rows whose answers the last walk with this room had
-abbrev pub rows_in : Room → List ℕ
-rows_in room = rows_used room.used.items
+abbrev pub rows_in : Kept → List ℕ
+rows_in room = rows_used room.items
 
 -- these rows, and one more that was had and isn't used, if any
 abbrev pub with_spare : List ℕ → Option ℕ → List ℕ

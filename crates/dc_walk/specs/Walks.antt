@@ -1,5 +1,5 @@
 -- What a walk by the rows of a source comes to, which may take the lock or not.
-use Rattle.std.specs.Prelude.{◌≡◌, ℕ, ◌+◌, ◌≤◌, List, [], Bool, true, false, None, length}
+use Rattle.std.specs.Prelude.{◌≡◌, ℕ, ◌+◌, ◌*◌, ◌<◌, ◌≤◌, List, [], Bool, false, None, length}
 use Rattle.dc_plain.specs.Facts.{told_by}
 use Rattle.dc_plain.specs.Requests.{Answer}
 use Rattle.dc_events.specs.Views.{View}
@@ -7,11 +7,12 @@ use Rattle.dc_events.specs.Effects.{begun}
 use Rattle.dc_table.specs.Changes.{NothingNew}
 use Rattle.dc_walk.specs.Uses.{Use}
 use Rattle.dc_walk.specs.Becomings.{Between}
-use Rattle.dc_walk.specs.Fasts.{GaveUp, Keeps, IfAgain, IsLongAgain, Tried}
-use Rattle.dc_walk.specs.Long.{has_long_name}
+use Rattle.dc_walk.specs.Fasts.{GaveUp, Keeps, IfAgain, Tried}
 use Rattle.dc_walk.specs.Looks.{look_shown, outcome_of}
 use Rattle.dc_walk.specs.Settling.{Came, Settled}
-use Rattle.dc_walk.specs.declared.TheConstants.{MOST_LOADS, MOST_USED}
+use Rattle.dc_names.specs.declared.limits.TheConstants.{BUCKET_ROWS}
+use Rattle.dc_row.specs.declared.TheConstants.{ROW_WORDS}
+use Rattle.dc_walk.specs.declared.TheConstants.{MOST_LOADS}
 use Rattle.dc_walk.specs.declared.look.Look.{Look}
 use Rattle.dc_walk.specs.declared.why.Why.{Why}
 use Rattle.dc_walk.specs.declared.answer.Fast.{Fast}
@@ -20,7 +21,7 @@ use Rattle.dc_walk.specs.declared.answer.Fast.{Fast}
 pub record Went (locks : Bool) (look : Look) (before now : View) (uses : List Use) (answer : Answer) : Type 0 where
   pub came : Came (outcome_of look) (look_shown look) now uses answer
   pub walk : Between locks (begun before (look_shown look)) now
-  pub few : length uses ≤ MOST_USED
+  pub few : ROW_WORDS * (BUCKET_ROWS * length uses + came.spent) + length uses < MOST_LOADS
 
 -- it gave up, one without the lock for a cause that it has seen
 pub record Stopped (locks : Bool) (look : Look) (buckets : ℕ) (before now : View) (why : Why) : Type 0 where
@@ -39,7 +40,6 @@ pub record Settles (look : Look) (used : ℕ) (before now : View) (fast : Fast) 
 pub record WalksFast (look : Look) (buckets : ℕ) (before now : View) (fast : Fast) : Type 0 where
   pub keeps : Keeps look.base look.path.bytes.now look.follow buckets before now fast
   pub asks : IfAgain fast (outcome_of look (told_by []) ≡ None)
-  pub long : has_long_name look.path.bytes.now ≡ true → IsLongAgain fast
   pub loads : now.loads ≤ before.loads + MOST_LOADS
 
 -- and what with it and without it

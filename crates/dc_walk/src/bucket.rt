@@ -1,7 +1,6 @@
 //! The rows that may tell of a key, one after another.
 
-ghost use Rattle.std.specs.Prelude.{◌≡◌, ◌≤◌, ◌<◌, ◌+◌, ◌^◌, None, IfOk, IfErr, OnErr};
-ghost use Rattle.arrayvec.specs.ArrayVec.{array_vec_len};
+ghost use Rattle.std.specs.Prelude.{◌≡◌, ◌≤◌, ◌<◌, ◌+◌, ◌^◌, None, length, IfOk, IfErr, OnErr};
 ghost use Rattle.dc_plain.specs.KeysShown.{key_shown};
 ghost use Rattle.dc_resolve.specs.Needs.{IsUntold};
 ghost use Rattle.dc_table.specs.Passes.{known, share};
@@ -9,32 +8,37 @@ ghost use Rattle.dc_table.specs.Shares.{HasNotTried};
 ghost use Rattle.dc_walk.specs.Asking.{GoesOn};
 ghost use Rattle.dc_walk.specs.Causes.{Looked};
 ghost use Rattle.dc_walk.specs.Filters.{key_hash};
-ghost use Rattle.dc_walk.specs.Findings.{SameRows, IsFinding, now_in, outcome_in, said_in};
-ghost use Rattle.dc_walk.specs.Sights.{AnswersIn, Fails};
+ghost use Rattle.dc_walk.specs.Findings.{SameRows, IsFinding, now_in, outcome_in, said_in, spent};
+ghost use Rattle.dc_walk.specs.Rooms.{key_bytes, HasWords};
+ghost use Rattle.dc_walk.specs.Sights.{AnswersIn, Fails, GivesUp, LookedWhole};
 ghost use Rattle.dc_names.specs.declared.limits.TheConstants.{BUCKET_ROWS};
 ghost use Rattle.dc_walk.specs.declared.TheConstants.{MOST_USED};
 
+use crate::probe::Extent;
 use crate::row::{Seen, look_at};
 use crate::rows::Rows;
 use crate::source::Lane;
 use dc_plain::Key;
-use dc_row::ROW_WORDS;
 
-/// Looks at some rows up to the first that tells of a key, which is the last of the used ones then,
-/// and answers its words. Else it answers the first of them that is odd.
+/// Looks at some rows up to the first that tells of a key, which is the last of the used ones then.
+/// Else it answers the first of them that is odd. So many rows were looked at before for this key.
 #[inline(always)]
-pub(crate) fn ask_rows(
+fn ask_rows(
     rows: &mut Rows<'_>,
     lane: Lane,
     key: Key<'_>,
     hash: u64,
-) -> Result<[u64; ROW_WORDS], Option<u64>>
-    requires finding { IsFinding rows.old 0 }
+    extent: Extent,
+    earlier: u64,
+) -> Result<usize, Option<u64>>
+    requires finding { IsFinding rows.old earlier }
     requires within { lane.first + lane.many ≤ (share rows.old.pass.now).rows }
     requires many { lane.many ≤ BUCKET_ROWS }
+    requires early { earlier < BUCKET_ROWS + 1 }
     requires few { (share rows.old.pass.now).rows < 2 ^ 64 }
     requires hash { hash ≡ key_hash (key_shown key) }
-    requires room { array_vec_len rows.old.used.now < MOST_USED }
+    requires room { length rows.old.used.now.items < MOST_USED }
+    requires words { HasWords rows.old.used.now (key_bytes (key_shown key).label) }
     requires needed { outcome_in rows.old (said_in rows.old) ≡ None }
     requires untold { IsUntold (said_in rows.old) (key_shown key).number (key_shown key).label }
     ensures same { SameRows rows.old rows.new }
@@ -42,18 +46,95 @@ pub(crate) fn ask_rows(
     ensures why { rows.new.why ≡ rows.old.why }
     ensures spare { rows.new.spare ≡ rows.old.spare }
     ensures on { GoesOn (now_in rows.old) (now_in rows.new) }
-    ensures tells { IfOk result (AnswersIn rows.old (key_shown key.entry) rows.new lane) }
-    ensures fails { OnErr result (Fails rows.old (key_shown key.entry) rows.new lane.many) }
-    ensures looked { IfErr result (λ odd.
-        Looked (now_in rows.new) lane.first (key_shown key.entry) odd lane.many) }
+    ensures tells { IfOk result (AnswersIn rows.old (key_shown key.entry) rows.new lane earlier) }
+    ensures slow { rows.new.slow ≡ rows.old.slow }
+    ensures fails { OnErr result (Fails rows.old (key_shown key.entry) rows.new (earlier + lane.many)) }
+    ensures looked { IfErr result (LookedWhole (now_in rows.new) lane.first (key_shown key.entry)
+        extent lane.many) }
 {
     let mut odd = None;
     for k in 0..lane.many {
-        match look_at(rows, lane.first + k, key, hash, k) {
-            Seen::Tells(words) => return Ok(words),
+        match look_at(rows, lane.first + k, key, hash, extent, earlier, k) {
+            Seen::Tells(at) => return Ok(at),
             Seen::Odd => odd = odd.or(Some(lane.first + k)),
             Seen::Other => {}
         }
     }
     Err(odd)
+}
+
+/// Looks at rows whole, since a row that was left after its head tells nothing of why there is no answer.
+/// Where a row tells of the key after all, later keys are sought in whole rows at once.
+// Kept out of line: few look-ups come to it.
+#[inline(never)]
+fn look_whole(
+    rows: &mut Rows<'_>,
+    lane: Lane,
+    key: Key<'_>,
+    hash: u64,
+    earlier: u64,
+) -> Result<usize, Option<u64>>
+    requires finding { IsFinding rows.old earlier }
+    requires within { lane.first + lane.many ≤ (share rows.old.pass.now).rows }
+    requires many { lane.many ≤ BUCKET_ROWS }
+    requires early { spent rows.old + earlier ≤ BUCKET_ROWS }
+    requires few { (share rows.old.pass.now).rows < 2 ^ 64 }
+    requires hash { hash ≡ key_hash (key_shown key) }
+    requires room { length rows.old.used.now.items < MOST_USED }
+    requires words { HasWords rows.old.used.now (key_bytes (key_shown key).label) }
+    requires needed { outcome_in rows.old (said_in rows.old) ≡ None }
+    requires untold { IsUntold (said_in rows.old) (key_shown key).number (key_shown key).label }
+    ensures same { SameRows rows.old rows.new }
+    ensures untried { HasNotTried (known rows.old.pass.now) (known rows.new.pass.now) }
+    ensures why { rows.new.why ≡ rows.old.why }
+    ensures spare { rows.new.spare ≡ rows.old.spare }
+    ensures on { GoesOn (now_in rows.old) (now_in rows.new) }
+    ensures tells { IfOk result (AnswersIn rows.old (key_shown key.entry) rows.new lane 0) }
+    ensures fails { OnErr result (GivesUp rows.old rows.new) }
+    ensures looked { IfErr result (λ odd.
+        Looked (now_in rows.new) lane.first (key_shown key.entry) odd lane.many) }
+{
+    let found = ask_rows(rows, lane, key, hash, Extent::Whole, earlier);
+    if found.is_ok() {
+        rows.slow = true;
+    }
+    found
+}
+
+/// Asks rows for a key: first those whose head and number are the key's, then each of them whole. A walk
+/// that found a key by the second look alone, as a change meanwhile wrote its row, makes no second look
+/// again: else it would load more than it may.
+#[inline(always)]
+pub(crate) fn seek_row(
+    rows: &mut Rows<'_>,
+    lane: Lane,
+    key: Key<'_>,
+    hash: u64,
+) -> Result<usize, Option<u64>>
+    requires finding { IsFinding rows.old 0 }
+    requires within { lane.first + lane.many ≤ (share rows.old.pass.now).rows }
+    requires many { lane.many ≤ BUCKET_ROWS }
+    requires few { (share rows.old.pass.now).rows < 2 ^ 64 }
+    requires hash { hash ≡ key_hash (key_shown key) }
+    requires room { length rows.old.used.now.items < MOST_USED }
+    requires words { HasWords rows.old.used.now (key_bytes (key_shown key).label) }
+    requires needed { outcome_in rows.old (said_in rows.old) ≡ None }
+    requires untold { IsUntold (said_in rows.old) (key_shown key).number (key_shown key).label }
+    ensures same { SameRows rows.old rows.new }
+    ensures untried { HasNotTried (known rows.old.pass.now) (known rows.new.pass.now) }
+    ensures why { rows.new.why ≡ rows.old.why }
+    ensures spare { rows.new.spare ≡ rows.old.spare }
+    ensures on { GoesOn (now_in rows.old) (now_in rows.new) }
+    ensures tells { IfOk result (AnswersIn rows.old (key_shown key.entry) rows.new lane 0) }
+    ensures fails { OnErr result (GivesUp rows.old rows.new) }
+    ensures looked { IfErr result (λ odd.
+        Looked (now_in rows.new) lane.first (key_shown key.entry) odd lane.many) }
+{
+    if rows.slow {
+        return look_whole(rows, lane, key, hash, 0);
+    }
+    match ask_rows(rows, lane, key, hash, Extent::Head, 0) {
+        Ok(at) => Ok(at),
+        Err(_) => look_whole(rows, lane, key, hash, lane.many),
+    }
 }

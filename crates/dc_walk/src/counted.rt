@@ -1,19 +1,18 @@
 //! A look-up by rows that are filled and pinned for it.
 
-ghost use Rattle.std.specs.Prelude.{◌≤◌, true, length};
+ghost use Rattle.std.specs.Prelude.{true};
 ghost use Rattle.dc_table.specs.Passes.{known, view, Fits, IsSamePass, IsIdle};
 ghost use Rattle.dc_walk.specs.Fasts.{Tried};
 ghost use Rattle.dc_walk.specs.Findings.{CanWalk};
 ghost use Rattle.dc_walk.specs.Looks.{look_shown};
 ghost use Rattle.dc_walk.specs.Sources.{Rests};
 ghost use Rattle.dc_walk.specs.Unpins.{rows_in, rows_used, with_spare, IsUnpinned, GivesBack};
-ghost use Rattle.dc_walk.specs.declared.TheConstants.{MOST_USED};
 
 use crate::MOST_USED;
 use crate::answer::Fast;
 use crate::look::Look;
 use crate::pinned::Pinning;
-use crate::used::{Room, Used};
+use crate::used::Room;
 use crate::walk::walk_by;
 use arrayvec::ArrayVec;
 use dc_rows::unpin_all;
@@ -26,17 +25,16 @@ const MOST_PINNED: usize = MOST_USED + 1;
 
 /// Takes back the pins of the rows that a walk used, and that of a row which it had and didn't use, all
 /// under one hold of the lock.
-fn unpin<R: Wait>(shared: &Shared, rt: &R, pass: &mut Pass, used: &[Used], spare: Option<u64>)
+fn unpin<R: Wait>(shared: &Shared, rt: &R, pass: &mut Pass, used: &Room, spare: Option<u64>)
     requires pass { Fits shared.now pass.old × IsIdle pass.old }
-    requires few { length used.now ≤ MOST_USED }
     ensures same { IsSamePass pass.old pass.new × IsIdle pass.new }
     ensures rests { Rests true (view pass.old) (view pass.new) }
-    ensures unpinned { IsUnpinned (with_spare (rows_used used.now) spare) (known pass.old)
+    ensures unpinned { IsUnpinned (with_spare (rows_used used.now.items) spare) (known pass.old)
         (known pass.new) }
 {
     let mut rows: ArrayVec<u64, MOST_PINNED> = ArrayVec::new();
-    for one in used {
-        rows.push(one.row);
+    for at in 0..used.many() {
+        rows.push(used.row_at(at));
     }
     if let Some(row) = spare {
         rows.push(row);
@@ -64,9 +62,9 @@ pub fn walk_counted<R: Wait>(
     ensures pins { GivesBack (rows_in room.new) (known pass.old) (known pass.new) }
 {
     let source = Pinning { shared, rt, alloc };
-    let (fast, spare) = walk_by(&source, shared.reader(), pass, &mut room.used, look);
+    let (fast, spare) = walk_by(&source, shared.reader(), pass, room, look);
     // A pin that stayed would keep the row from every other key. The answer stands without its pins,
     // since the rows were checked.
-    unpin(shared, rt, pass, room.used.as_slice(), spare);
+    unpin(shared, rt, pass, room, spare);
     fast
 }

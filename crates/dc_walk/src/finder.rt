@@ -1,10 +1,12 @@
 //! Who answers the questions of a walk.
 
-ghost use Rattle.std.specs.Prelude.{◌≡◌, is_some};
+ghost use Rattle.std.specs.Prelude.{◌≡◌, ◌*◌, is_some};
 ghost use Rattle.std.proofs.Common.{refl, ◌∙◌};
 ghost use Rattle.dc_table.specs.Holders.{table_of};
 ghost use Rattle.dc_walk.specs.Becomings.{Becomes, KeepsPinned, MayAskRows, stays_so, goes_so, keeps_so};
 ghost use Rattle.dc_walk.specs.Findings.{said_in};
+ghost use Rattle.dc_walk.specs.Rooms.{less_words, HasWords};
+ghost use Rattle.dc_row.specs.declared.TheConstants.{ROW_TEXT};
 
 use crate::link::LinkText;
 use crate::question::{key_of, text_key, told};
@@ -12,7 +14,6 @@ use crate::rows::Rows;
 use crate::source::Source;
 use dc_names::{Kind, Part, hash};
 use dc_resolve::{Finder, Stop};
-use dc_row::target;
 
 /// Answers the questions of a look-up by the rows of a source.
 #[derive(Drop)]
@@ -34,6 +35,10 @@ impl<'a, S: Source> Finder for Walker<'a, S> {
     ghost may_ask = { λ f n label. S.serves f.source.now (table_of f.rows.reader)
         × MayAskRows S.locks f.rows n label };
 
+    ghost may_spend = { λ f n. HasWords f.rows.used.now n };
+
+    ghost link_bytes = { 2 * ROW_TEXT };
+
     fn find(&mut self, dir: u64, part: Part<'_>) -> Result<Option<(u64, Kind)>, Stop> {
         let key = key_of(dir, part);
         self.find_hashed(dir, part, hash(dir, key.label.bytes()))
@@ -47,16 +52,16 @@ impl<'a, S: Source> Finder for Walker<'a, S> {
         hash: u64,
     ) -> Result<Option<(u64, Kind)>, Stop> {
         let key = key_of(dir, part);
-        let words = told(self.source, &mut self.rows, key, hash)?;
-        Ok(target(&words))
+        let place = told(self.source, &mut self.rows, key, hash)?;
+        Ok(self.rows.target_at(place))
     }
 
     #[inline(always)]
     fn link_text(&mut self, number: u64) -> Result<LinkText, Stop> {
         let key = text_key(number);
         let hash = hash(number, key.label.bytes());
-        let text = told(self.source, &mut self.rows, key, hash)?;
-        Ok(LinkText::of(&text))
+        let at = told(self.source, &mut self.rows, key, hash)?;
+        Ok(self.rows.text_at(at))
     }
 
     ghost stays = { λ f. (refl, stays_so S.locks f.rows, λ locks before is. is) };
@@ -66,6 +71,8 @@ impl<'a, S: Source> Finder for Walker<'a, S> {
       goes_so S.locks f.rows g.rows h.rows a.1 b.1,
       λ locks before is. b.2 locks before (a.2 locks before is),
     ) };
+
+    ghost spends_less = { λ f a b has. less_words f.rows.used.now a b has };
 
     ghost keeps = { λ f g b. keeps_so S.locks f.rows g.rows b.1 };
 }

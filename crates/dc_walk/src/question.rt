@@ -11,10 +11,11 @@ ghost use Rattle.dc_table.specs.Passes.{share};
 ghost use Rattle.dc_walk.specs.Becomings.{Becomes, IsGood, KeepsPinned, MayAskRows, MayAskNew, Had};
 ghost use Rattle.dc_walk.specs.Causes.{TellsWhy};
 ghost use Rattle.dc_walk.specs.Filters.{key_hash};
-ghost use Rattle.dc_walk.specs.Finds.{IsStanding};
+ghost use Rattle.dc_walk.specs.Finds.{StandsAt};
+ghost use Rattle.dc_walk.specs.Rooms.{key_bytes, HasWords, Keeps};
 ghost use Rattle.dc_walk.specs.Sources.{PinsIts, Serves};
 
-use crate::bucket::ask_rows;
+use crate::bucket::seek_row;
 use crate::rows::Rows;
 use crate::source::{Lane, Source};
 use crate::used::standing;
@@ -22,7 +23,7 @@ use crate::why::Why;
 use dc_names::{NoMemory, Part};
 use dc_plain::{Key, Label};
 use dc_resolve::Stop;
-use dc_row::{ROW_WORDS, words_have_the_fact_they_spell};
+use dc_row::words_have_the_fact_they_spell;
 
 /// The key under which a part is looked up in a directory.
 pub(crate) fn key_of<'a>(number: u64, part: Part<'a>) -> Key<'a>
@@ -78,23 +79,21 @@ fn have<S: Source>(
     source.rows_of(rows.reader, rows.pass, key, hash)
 }
 
-/// Asks rows for a key of which nothing was told, by its hash, and answers the words of the row that
-/// tells of it.
+/// Asks rows for a key of which nothing was told, by its hash, and answers where the row that tells of it
+/// stands among the used ones.
 #[inline(always)]
-fn ask<S: Source>(
-    source: &S,
-    rows: &mut Rows<'_>,
-    key: Key<'_>,
-    hash: u64,
-) -> Result<[u64; ROW_WORDS], Stop>
+fn ask<S: Source>(source: &S, rows: &mut Rows<'_>, key: Key<'_>, hash: u64) -> Result<usize, Stop>
     requires serves { S.serves source.now (table_of rows.old.reader) }
     requires fresh { rows.old.why ≡ None }
     requires hash { hash ≡ key_hash (key_shown key) }
     requires may { MayAskNew S.locks rows.old (key_shown key) }
+    requires words { HasWords rows.old.used.now (key_bytes (key_shown key).label) }
     ensures becomes { Becomes S.locks rows.old rows.new }
     ensures pins { KeepsPinned S.locks rows.old rows.new }
-    ensures told { IfOk result (IsStanding rows.new.used.now.items (key_shown key.entry)) }
+    ensures told { IfOk result (StandsAt rows.new.used.now.items (key_shown key.entry)) }
     ensures same { OnOk result (rows.new.why ≡ None) }
+    ensures keeps { OnOk result (Keeps rows.old.used.now rows.new.used.now
+        (key_bytes (key_shown key.entry).label)) }
     ensures stopped { OnErr result (is_some rows.new.why ≡ true) }
 {
     if rows.used.is_full() {
@@ -105,12 +104,18 @@ fn ask<S: Source>(
         rows.why = Some(Why::Memory);
         return Err(Stop);
     };
-    let answered = rows.used.len() as u64;
+    let answered = rows.used.many() as u64;
     // For the proof: a table has fewer than 2^64 rows.
     let reader = rows.reader;
     let _rows = reader.rows();
-    match ask_rows(rows, lane, key, hash) {
-        Ok(words) => Ok(words),
+    match seek_row(rows, lane, key, hash) {
+        // As many rows are used as can be, after two looks for one of them: to check them all would take
+        // a walk past its loads.
+        Ok(_) if rows.slow && rows.used.is_full() => {
+            rows.why = Some(Why::Long);
+            Err(Stop)
+        }
+        Ok(at) => Ok(at),
         Err(odd) => {
             rows.spare = lane.head();
             rows.why = Some(why_of(odd, key, answered));
@@ -119,7 +124,7 @@ fn ask<S: Source>(
     }
 }
 
-/// The words of the used row that tells of a key with this hash. Where none does yet, the rows of the
+/// Where the used row stands that tells of a key with this hash. Where none does yet, the rows of the
 /// source are asked.
 #[inline(always)]
 pub(crate) fn told<S: Source>(
@@ -127,14 +132,17 @@ pub(crate) fn told<S: Source>(
     rows: &mut Rows<'_>,
     key: Key<'_>,
     hash: u64,
-) -> Result<[u64; ROW_WORDS], Stop>
+) -> Result<usize, Stop>
     requires serves { S.serves source.now (table_of rows.old.reader) }
     requires hash { hash ≡ key_hash (key_shown key) }
     requires may { MayAskRows S.locks rows.old (key_shown key).number (key_shown key).label }
+    requires words { HasWords rows.old.used.now (key_bytes (key_shown key).label) }
     ensures becomes { Becomes S.locks rows.old rows.new }
     ensures pins { KeepsPinned S.locks rows.old rows.new }
-    ensures told { IfOk result (IsStanding rows.new.used.now.items (key_shown key.entry)) }
+    ensures told { IfOk result (StandsAt rows.new.used.now.items (key_shown key.entry)) }
     ensures same { OnOk result (is_some rows.new.why ≡ is_some rows.old.why) }
+    ensures keeps { OnOk result (Keeps rows.old.used.now rows.new.used.now
+        (key_bytes (key_shown key.entry).label)) }
     ensures stopped { OnErr result (is_some rows.new.why ≡ true) }
 {
     if rows.why.is_some() {
@@ -145,8 +153,8 @@ pub(crate) fn told<S: Source>(
         words_have_the_fact_they_spell();
         return ask(source, rows, key, hash);
     }
-    match standing(rows.used.as_slice(), key) {
-        Some(words) => Ok(words),
+    match standing(rows.used, key) {
+        Some(at) => Ok(at),
         None => ask(source, rows, key, hash),
     }
 }

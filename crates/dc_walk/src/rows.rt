@@ -1,25 +1,51 @@
 //! What a walk over rows has done so far.
 
-use crate::MOST_USED;
+ghost use Rattle.std.specs.Prelude.{◌<◌, Some, length};
+ghost use Rattle.dc_row.specs.Spelling.{SpellsText, TellsTarget, TellsText};
+ghost use Rattle.dc_walk.specs.Rooms.{used_at};
+
 use crate::filter::KeyFilter;
+use crate::link::LinkText;
 use crate::look::Look;
-use crate::used::Used;
+use crate::used::Room;
 use crate::why::Why;
-use arrayvec::ArrayVec;
+use dc_names::Kind;
 use dc_table::{Pass, Reader};
 
 /// A walk over rows: its question, the rows that it used, whether a step was made, how many rows were
 /// noted, which keys the used rows may tell of, and why it gave up. `spare` is the row that was had for
-/// its last question, where that row didn't tell of the key.
+/// its last question, where that row didn't tell of the key. Once `slow`, it reads each row whole.
 #[derive(Drop)]
 pub(crate) struct Rows<'a> {
     pub reader: Reader<'a>,
     pub pass: &'a mut Pass,
-    pub used: &'a mut ArrayVec<Used, MOST_USED>,
+    pub used: &'a mut Room,
     pub look: Look<'a>,
     pub begun: bool,
     pub made: u64,
     pub filter: KeyFilter,
     pub spare: Option<u64>,
+    pub slow: bool,
     pub why: Option<Why>,
+}
+
+impl Rows<'_> {
+    /// Where the used row at a place says that its entry leads.
+    #[inline(always)]
+    pub(crate) fn target_at(&self, at: usize) -> Option<(u64, Kind)>
+        requires used { at < length self.now.used.now.items }
+        ensures { TellsTarget (used_at self.now.used.now.items at).words result }
+    {
+        self.used.target_at(at)
+    }
+
+    /// The text of a link that the used row at a place has.
+    #[inline(always)]
+    pub(crate) fn text_at(&self, at: usize) -> LinkText
+        requires used { at < length self.now.used.now.items }
+        requires spelled { SpellsText (used_at self.now.used.now.items at).words }
+        ensures { TellsText (used_at self.now.used.now.items at).words (Some result.text) }
+    {
+        self.used.text_at(at)
+    }
 }

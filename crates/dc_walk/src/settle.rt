@@ -12,7 +12,7 @@ ghost use Rattle.dc_walk.specs.Walks.{Settles};
 
 use crate::answer::Fast;
 use crate::look::Look;
-use crate::used::Used;
+use crate::used::Room;
 use crate::why::Why;
 use dc_plain::{Reply, Stamped};
 use dc_row::words_have_the_fact_they_spell;
@@ -23,25 +23,24 @@ use dc_table::{Pass, Reader};
 pub(crate) fn settle(
     reader: Reader<'_>,
     pass: &mut Pass,
-    used: &[Used],
+    used: &Room,
     look: Look<'_>,
     reply: Reply,
     begun: bool,
 ) -> Fast
     requires pass { Fits (table_of reader) pass.old × IsIdle pass.old }
-    requires rows { AllInside (share pass.old).rows used.now }
+    requires rows { AllInside (share pass.old).rows used.now.items }
     requires came { Came (outcome_of look) (look_shown look) (view_in begun pass.old look)
-        (map use_shown used.now) (answer_of reply) }
+        (map use_shown used.now.items) (answer_of reply) }
     ensures same { StaysOut pass.old pass.new }
-    ensures settles { Settles look.entry (length used.now) (view_in begun pass.old look.entry)
+    ensures settles { Settles look.entry (length used.now.items) (view_in begun pass.old look.entry)
         (view pass.new) result }
 {
     words_have_the_fact_they_spell();
     // After all reads and before all checks: a row whose count still stands was as read at this point.
     let at = reader.pivot(pass, &look.call(), !begun);
-    for c in 0..used.len() {
-        let one = &used[c];
-        let (place, row, count) = (one.place, one.row, one.words[0]);
+    for c in 0..used.many() {
+        let (place, row, count) = (used.place_at(c), used.row_at(c), used.count_at(c));
         if let Err((noted, found)) = reader.check(pass, place, row, count) {
             return Fast::Again(Why::Changed { row, noted, found });
         }

@@ -7,7 +7,6 @@ use crate::settle::settle;
 use crate::source::Bucket;
 use crate::walk::walk_rows;
 use crate::{Fast, Look, Room, Why, walk_counted, walk_fast};
-use arrayvec::ArrayVec;
 use dc_names::{Kind, parse};
 use dc_plain::{Call, Flags, Follow, Reply};
 use dc_rows::change as make;
@@ -91,7 +90,7 @@ fn overtaken<R: Wait>(
     ensures pass { CanWalk shared.now pass.new }
     ensures other { CanWalk shared.now other.new }
 {
-    let mut used = ArrayVec::new();
+    let mut used = Room::new();
     let went = walk_rows(&Bucket, shared.reader(), pass, &mut used, look);
     let old = b"/a".as_slice();
     let new = b"/b".as_slice();
@@ -111,7 +110,7 @@ fn overtaken<R: Wait>(
         return None;
     };
     moved?;
-    Some(settle(shared.reader(), pass, used.as_slice(), look, reply, begun))
+    Some(settle(shared.reader(), pass, &used, look, reply, begun))
 }
 
 /// A row that is written between its reading and its check is told with both counts.

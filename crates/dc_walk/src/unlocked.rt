@@ -21,6 +21,6 @@ pub fn walk_fast(reader: Reader<'_>, pass: &mut Pass, room: &mut Room, look: Loo
     ensures untried { HasNotTried (known pass.old) (known pass.new) }
     ensures walks { WalksFast look.entry (buckets_of pass.old) (view pass.old) (view pass.new) result }
 {
-    let (fast, _) = walk_by(&Bucket, reader, pass, &mut room.used, look);
+    let (fast, _) = walk_by(&Bucket, reader, pass, room, look);
     fast
 }

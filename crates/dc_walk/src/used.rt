@@ -1,62 +1,275 @@
 //! The rows whose answers a walk rests on.
 
-ghost use Rattle.std.specs.Prelude.{IfSome, IfNone};
+ghost use Rattle.std.specs.Prelude.{◌≡◌, ◌<◌, ◌≤◌, ◌+◌, ◌*◌, ◌==◌, ◌∷◌, ◌++◌, ◌↔◌, [], Some, length, set, slice_index, take, IfSome, IfNone, IsTrue};
 ghost use Rattle.dc_plain.specs.KeysShown.{key_shown};
 ghost use Rattle.dc_resolve.specs.Needs.{IsUntold};
-ghost use Rattle.dc_walk.specs.Finds.{told_in, AllSpelled, IsStanding};
+ghost use Rattle.dc_row.specs.Narrow.{told_words, widened};
+ghost use Rattle.dc_row.specs.Spelling.{SpellsText, TellsOf, TellsTarget, TellsText};
+ghost use Rattle.dc_row.specs.declared.TheConstants.{ROW_WORDS};
+ghost use Rattle.dc_events.specs.Views.{View};
+ghost use Rattle.dc_table.specs.Holders.{table_of};
+ghost use Rattle.dc_table.specs.Passes.{view, share, Fits, IsIdle, StaysOut};
+ghost use Rattle.dc_walk.specs.Finds.{told_in, AllSpelled, StandsAt};
+ghost use Rattle.dc_walk.specs.Probes.{HasRead, IsReading};
+ghost use Rattle.dc_walk.specs.Rooms.{used_at};
+ghost use Rattle.dc_walk.specs.declared.TheConstants.{MOST_USED, MOST_BYTES};
 
-use crate::MOST_USED;
-use arrayvec::ArrayVec;
+use crate::link::LinkText;
+use crate::{MOST_USED, ROOM_WORDS};
+use dc_names::Kind;
 use dc_plain::Key;
-use dc_row::{EMPTY_ROW, ROW_WORDS, tells_of, words_have_the_fact_they_spell};
+use dc_row::{
+    ROW_WORDS, number, target, tells_of, told_words, widened, words_have_the_fact_they_spell,
+};
+use dc_table::{Pass, Reader};
+use std::marker::Model;
 
-/// A row that answered a question: the place of its note among those of the walk, and its words, the
-/// count first.
+/// A row that answered: its number, the place of its note among those of the walk, and where its words
+/// begin and end among those of the room.
 #[derive(Clone, Copy, Drop)]
-pub(crate) struct Used {
-    pub row: u64,
-    pub place: u64,
-    pub words: [u64; ROW_WORDS],
+struct Stored {
+    row: u64,
+    place: u64,
+    start: usize,
+    end: usize,
 }
 
-impl Default for Used {
-    fn default() -> Used {
-        Used {
-            row: 0,
-            place: 0,
-            words: EMPTY_ROW,
-        }
-    }
-}
-
-/// Room for the rows that a walk rests on, which the next walk may use again.
+/// Room for the rows that a walk rests on, which the next walk may use again. A row is read where it stays
+/// if it answers: behind the last that did. Of one that did those words alone are kept that tell
+/// something, as rows are wide and most names short.
 #[derive(Drop)]
 pub struct Room {
-    pub(crate) used: ArrayVec<Used, MOST_USED>,
+    rows: [Stored; MOST_USED],
+    len: usize,
+    words: [u64; ROOM_WORDS],
+    end: usize,
+}
+
+impl Model for Room {
+    ghost use Rattle.dc_walk.specs.Rooms.{Kept, IsRoom, kept_in};
+
+    ghost Value = { Kept };
+
+    ghost view = { λ r. kept_in r.rows r.len r.words r.end };
+
+    ghost invariant = { λ r. IsRoom r.rows r.len r.words r.end };
 }
 
 impl Room {
     /// Room that no walk has used yet. It takes no memory besides its own.
     #[must_use]
-    pub fn new() -> Room {
+    pub fn new() -> Room
+        ensures { (result.items ≡ []) × (result.spent ≡ 0) }
+    {
+        let blank = Stored {
+            row: 0,
+            place: 0,
+            start: 0,
+            end: 0,
+        };
+        let rows = [blank; MOST_USED];
+        let words = [0; ROOM_WORDS];
         Room {
-            used: ArrayVec::new(),
+            rows,
+            len: 0,
+            words,
+            end: 0,
         }
+    }
+
+    /// Forgets the rows of an earlier walk. What they told stays in its place, where nothing reads it.
+    pub(crate) fn clear(&mut self)
+        ensures { (self.new.items ≡ []) × (self.new.spent ≡ 0) }
+    {
+        self.len = 0;
+        self.end = 0;
+    }
+
+    /// How many rows are kept.
+    #[inline(always)]
+    pub(crate) fn many(&self) -> usize
+        ensures many { result ≡ length self.now.items }
+        ensures fits { result ≤ MOST_USED }
+    {
+        self.len
+    }
+
+    /// Whether no row more can be kept.
+    #[inline(always)]
+    pub(crate) fn is_full(&self) -> bool
+        ensures full { result ≡ (length self.now.items == MOST_USED) }
+        ensures fits { length self.now.items ≤ MOST_USED }
+    {
+        self.len == MOST_USED
+    }
+
+    /// The number of a row that was kept.
+    #[inline(always)]
+    pub(crate) fn row_at(&self, at: usize) -> u64
+        requires kept { at < length self.now.items }
+        ensures { result ≡ (used_at self.now.items at).row }
+    {
+        self.rows[..self.len][at].row
+    }
+
+    /// The place of the note of a row that was kept.
+    #[inline(always)]
+    pub(crate) fn place_at(&self, at: usize) -> u64
+        requires kept { at < length self.now.items }
+        ensures { result ≡ (used_at self.now.items at).place }
+    {
+        self.rows[..self.len][at].place
+    }
+
+    /// The first words of a row that was kept, with zeros past which it is whole.
+    #[inline(always)]
+    pub(crate) fn words_at(&self, at: usize) -> &[u64]
+        requires kept { at < length self.now.items }
+        ensures words { widened result.now ≡ (used_at self.now.items at).words }
+        ensures size { (4 ≤ length result.now) × (length result.now ≤ ROW_WORDS) }
+    {
+        let one = &self.rows[..self.len][at];
+        &self.words[one.start..one.end]
+    }
+
+    /// The sequence count with which a row that was kept was noted.
+    #[inline(always)]
+    pub(crate) fn count_at(&self, at: usize) -> u64
+        requires kept { at < length self.now.items }
+        ensures { result ≡ slice_index (used_at self.now.items at).words 0 }
+    {
+        self.words_at(at)[0]
+    }
+
+    /// Where a row that was kept says that its entry leads.
+    #[inline(always)]
+    pub(crate) fn target_at(&self, at: usize) -> Option<(u64, Kind)>
+        requires kept { at < length self.now.items }
+        ensures { TellsTarget (used_at self.now.items at).words result }
+    {
+        target(self.words_at(at))
+    }
+
+    /// The text of a link that a row that was kept has.
+    #[inline(always)]
+    pub(crate) fn text_at(&self, at: usize) -> LinkText
+        requires kept { at < length self.now.items }
+        requires spelled { SpellsText (used_at self.now.items at).words }
+        ensures { TellsText (used_at self.now.items at).words (Some result.text) }
+    {
+        LinkText::of(&widened(self.words_at(at)))
+    }
+
+    /// Whether a row that was kept tells of a key.
+    pub(crate) fn tells_at(&self, at: usize, key: Key<'_>) -> bool
+        requires kept { at < length self.now.items }
+        ensures { IsTrue result ↔ TellsOf (used_at self.now.items at).words (key_shown key.entry) }
+    {
+        tells_of(&widened(self.words_at(at)), key)
+    }
+
+    /// The words of the row that is being read.
+    #[inline(always)]
+    pub(crate) fn next(&self) -> &[u64]
+        ensures words { result.now ≡ self.now.next }
+        ensures size { length self.now.next ≡ ROW_WORDS }
+    {
+        &self.words[self.end..self.end + ROW_WORDS]
+    }
+
+    /// Puts a word into the row that is being read.
+    #[inline(always)]
+    pub(crate) fn put(&mut self, at: usize, word: u64)
+        requires at { at < ROW_WORDS }
+        ensures same { (self.new.items ≡ self.old.items) × (self.new.spent ≡ self.old.spent) }
+        ensures next { self.new.next ≡ set self.old.next at word }
+        ensures size { length self.new.next ≡ ROW_WORDS }
+    {
+        self.words[self.end + at] = word;
+    }
+
+    /// Reads the rest of the row that was noted last, whose head and number were read.
+    #[inline(always)]
+    pub(crate) fn read_rest(&mut self, reader: Reader<'_>, pass: &mut Pass, row: u64)
+        requires pass { Fits (table_of reader) pass.old × IsIdle pass.old }
+        requires row { row < (share pass.old).rows }
+        requires reading { IsReading (view pass.old) row self.old.next 3 }
+        ensures same { StaysOut pass.old pass.new }
+        ensures items { (self.new.items ≡ self.old.items) × (self.new.spent ≡ self.old.spent) }
+        ensures read { (v : View) → HasRead v (view pass.old) row self.old.next 3
+            → HasRead v (view pass.new) row self.new.next ROW_WORDS }
+    {
+        // One reference for all words, as each further step may have written what lies behind `self`.
+        let words = &mut self.words[self.end..self.end + ROW_WORDS];
+        read_words(reader, pass, row, words, 3, 14);
+        read_words(reader, pass, row, words, 14, 25);
+        read_words(reader, pass, row, words, 25, ROW_WORDS);
+    }
+
+    /// Keeps the row that was read, whose note has this place, and answers where it stands.
+    #[inline(always)]
+    pub(crate) fn keep(&mut self, row: u64, place: u64) -> usize
+        requires some { length self.old.items < MOST_USED }
+        requires told { widened (take (told_words self.old.next) self.old.next) ≡ self.old.next }
+        requires fits { 8 * (self.old.spent + told_words self.old.next) ≤ 40 * MOST_USED + MOST_BYTES }
+        ensures kept { self.new.items
+            ≡ self.old.items ++ record { row = row; place = place; words = self.old.next } ∷ [] }
+        ensures spent { self.new.spent ≡ self.old.spent + told_words self.old.next }
+        ensures last { result ≡ length self.old.items }
+    {
+        let at = self.len;
+        let start = self.end;
+        let end = start + told_words(self.next());
+        self.rows[at] = Stored {
+            row,
+            place,
+            start,
+            end,
+        };
+        self.len += 1;
+        self.end = end;
+        at
     }
 }
 
-/// The words of the used row that tells of a key, if one does.
+/// Reads words of the row that was noted last, from one up to another.
+// Inlined, for a few words at a time (measured): only so short a loop is unrolled.
 #[inline(always)]
-pub(crate) fn standing(used: &[Used], key: Key<'_>) -> Option<[u64; ROW_WORDS]>
-    requires spelled { AllSpelled used.now }
-    ensures some { IfSome result (IsStanding used.now (key_shown key.entry)) }
+fn read_words(
+    reader: Reader<'_>,
+    pass: &mut Pass,
+    row: u64,
+    words: &mut [u64],
+    from: usize,
+    to: usize,
+)
+    requires pass { Fits (table_of reader) pass.old × IsIdle pass.old }
+    requires row { row < (share pass.old).rows }
+    requires reading { IsReading (view pass.old) row words.old from }
+    requires some { (0 < from) × (from ≤ to) × (to ≤ ROW_WORDS) }
+    ensures same { StaysOut pass.old pass.new }
+    ensures fits { Fits (table_of reader.entry) pass.new }
+    ensures reading { IsReading (view pass.new) row words.new to }
+    ensures read { (v : View) → HasRead v (view pass.old) row words.old from
+        → HasRead v (view pass.new) row words.new to }
+{
+    for i in from..to {
+        words[i] = reader.read_word(pass, row, i as u64);
+    }
+}
+
+/// Where the row that was kept stands that tells of a key, if one does.
+#[inline(always)]
+pub(crate) fn standing(room: &Room, key: Key<'_>) -> Option<usize>
+    requires spelled { AllSpelled room.now.items }
+    ensures some { IfSome result (StandsAt room.now.items (key_shown key.entry)) }
     ensures none { IfNone result (let key = key_shown key.entry in
-        IsUntold (told_in used.now) key.number key.label) }
+        IsUntold (told_in room.now.items) key.number key.label) }
 {
     words_have_the_fact_they_spell();
-    for i in 0..used.len() {
-        if tells_of(&used[i].words, key) {
-            return Some(used[i].words);
+    for i in 0..room.many() {
+        if number(room.words_at(i)) == key.number && room.tells_at(i, key) {
+            return Some(i);
         }
     }
     None

@@ -10,18 +10,15 @@ ghost use Rattle.dc_walk.specs.Sources.{IsUntried};
 ghost use Rattle.dc_walk.specs.Unpins.{PinsInTurn, rows_used, with_spare, spare_of};
 ghost use Rattle.dc_walk.specs.Walks.{Went, Stopped, Walks};
 
-use crate::MOST_USED;
 use crate::answer::Fast;
 use crate::filter::KeyFilter;
 use crate::finder::Walker;
-use crate::long::has_long_name;
 use crate::look::Look;
 use crate::rows::Rows;
 use crate::settle::settle;
 use crate::source::Source;
-use crate::used::Used;
+use crate::used::Room;
 use crate::why::Why;
-use arrayvec::ArrayVec;
 use dc_plain::Reply;
 use dc_resolve::{Walked, walk};
 use dc_table::{Pass, Reader};
@@ -32,12 +29,12 @@ pub(crate) fn walk_rows<'x, S: Source>(
     source: &'x S,
     reader: Reader<'x>,
     pass: &'x mut Pass,
-    used: &'x mut ArrayVec<Used, MOST_USED>,
+    used: &'x mut Room,
     look: Look<'x>,
 ) -> Result<(Reply, bool), (Why, Option<u64>)>
     requires serves { S.serves source.now (table_of reader) }
     requires can { CanWalk (table_of reader) pass.old }
-    requires empty { used.old.items ≡ [] }
+    requires empty { (used.old.items ≡ []) × (used.old.spent ≡ 0) }
     ensures same { IsSamePass pass.old pass.new × IsIdle pass.new }
     ensures untried { IsUntried S.locks pass.old pass.new }
     ensures rows { AllInside (share pass.old).rows used.new.items }
@@ -57,6 +54,7 @@ pub(crate) fn walk_rows<'x, S: Source>(
         made: 0,
         filter: KeyFilter::new(),
         spare: None,
+        slow: false,
         why: None,
     };
     let mut walker = Walker { source, rows };
@@ -78,7 +76,7 @@ pub(crate) fn walk_by<S: Source>(
     source: &S,
     reader: Reader<'_>,
     pass: &mut Pass,
-    used: &mut ArrayVec<Used, MOST_USED>,
+    used: &mut Room,
     look: Look<'_>,
 ) -> (Fast, Option<u64>)
     requires serves { S.serves source.now (table_of reader) }
@@ -92,14 +90,8 @@ pub(crate) fn walk_by<S: Source>(
 {
     // Rows of an earlier walk would be taken for this one's, and their pins back.
     used.clear();
-    if has_long_name(look.path) {
-        return (Fast::Again(Why::Long), None);
-    }
     match walk_rows(source, reader, pass, used, look) {
-        Ok((reply, begun)) => {
-            let used = used.as_slice();
-            (settle(reader, pass, used, look, reply, begun), None)
-        }
+        Ok((reply, begun)) => (settle(reader, pass, used, look, reply, begun), None),
         Err((why, spare)) => (Fast::Again(why), spare),
     }
 }

@@ -14,7 +14,7 @@ pub enum Why {
     /// The row had the noted count, and has the found one now, which is higher. That the noted count is
     /// the one of the row whose answer was used stands only by reading.
     Changed { row: u64, noted: u64, found: u64 },
-    /// A name is longer than a row has room for, or one row more would be used than can be noted.
+    /// One row more would be used than can be noted. No name is too long for a row.
     Long,
     /// No row has the text of a link that must be followed.
     Link,
@@ -30,7 +30,7 @@ impl fmt::Display for Why {
             Why::Changed { row, noted, found } => {
                 write!(f, "row {row} went from count {noted} to {found}")
             }
-            Why::Long => f.write_str("a name or a path is too long for the rows"),
+            Why::Long => f.write_str("the path is too long for the rows"),
             Why::Link => f.write_str("no row has the text of the link"),
             Why::Memory => f.write_str("no memory for a row"),
         }

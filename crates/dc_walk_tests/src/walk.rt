@@ -12,7 +12,7 @@ mod probe;
 mod spoiled;
 
 use crate::calls::{mkdir, rename};
-use dc_names::{Kind, Name, parse};
+use dc_names::{Kind, NAME_MAX, Name, parse};
 use dc_plain::{Call, Follow, Key, Label, Reply};
 use dc_rows::{change as make, pin, shrink, unpin_all};
 use dc_table::{Pass, Shared};
@@ -112,13 +112,12 @@ fn the_point_is_the_clock(rt: HostRuntime) -> Result<(), Fail> {
 }
 
 #[test]
-fn a_name_without_room_is_long(rt: HostRuntime) -> Result<(), Fail> {
+fn a_name_is_sought_or_no_name(rt: HostRuntime) -> Result<(), Fail> {
     let (shared, mut p) = Shared::new(rt.alloc(), 1, 16).expect(&rt, "memory");
-    let mut text = [b'n'; 34];
+    let mut text = [b'n'; NAME_MAX + 2];
     text[0] = b'/';
-    let found = look(&shared, &mut p, &text);
-    assert!(rt; matches!(found, Some(Fast::Again(Why::Long))));
-    let found = look(&shared, &mut p, &text[..33]);
+    assert!(rt; look(&shared, &mut p, &text).is_none());
+    let found = look(&shared, &mut p, &text[..NAME_MAX + 1]);
     assert!(rt; matches!(found, Some(Fast::Again(Why::Miss(0)))));
     Ok(())
 }

@@ -5,6 +5,7 @@ use crate::probe::{Plan, told};
 use crate::told::Told;
 use dc_core::{Act, Core, Event, Refused};
 use dc_plain::{Call, Follow};
+use dc_row::ROW_WORDS;
 use std::alloc::Global;
 
 /// Does each event. One that wanted memory is done again; `None` where it is refused otherwise.
@@ -50,8 +51,8 @@ fn are_same(one: &Core, other: &Core) -> bool {
 /// The directory that is made and looked for.
 const PATH: &[u8] = b"/x";
 
-/// A change, a row that is filled with what it made, a look-up by that row, and a count under the lock.
-const ACTS: [Act<'static>; 26] = [
+/// A change, a row that is filled with what it made, and a look-up that notes the row.
+const FILL: [Act<'static>; 14] = [
     Act::Begin(Call::Mkdir {
         base: 1,
         path: PATH,
@@ -73,13 +74,10 @@ const ACTS: [Act<'static>; 26] = [
         follow: Follow::Yes,
     }),
     Act::Note(0),
-    Act::Read,
-    Act::Read,
-    Act::Read,
-    Act::Read,
-    Act::Read,
-    Act::Read,
-    Act::Read,
+];
+
+/// The end of the look-up, once the row is read, and a count under the lock.
+const END: [Act<'static>; 5] = [
     Act::Pivot,
     Act::Check(0),
     Act::Begin(Call::Stat {
@@ -92,8 +90,17 @@ const ACTS: [Act<'static>; 26] = [
 
 /// The events of one actor that takes these acts.
 fn events(alloc: Global) -> Result<Vec<Event<'static>>, Fault> {
-    let mut events = Vec::with_capacity(alloc, ACTS.len())?;
-    for act in ACTS {
+    let mut events = Vec::with_capacity(alloc, FILL.len() + ROW_WORDS - 1 + END.len())?;
+    for act in FILL {
+        events.push(Event { actor: 0, act })?;
+    }
+    for _ in 1..ROW_WORDS {
+        events.push(Event {
+            actor: 0,
+            act: Act::Read,
+        })?;
+    }
+    for act in END {
         events.push(Event { actor: 0, act })?;
     }
     Ok(events)

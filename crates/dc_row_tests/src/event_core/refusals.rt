@@ -4,6 +4,7 @@ use super::{fill, named};
 use dc_core::{Act, Core, Event, Refused};
 use dc_names::Kind;
 use dc_plain::{Call, Follow};
+use dc_row::ROW_WORDS;
 use std::alloc::Global;
 use std::test::Fail;
 
@@ -86,7 +87,7 @@ const ROWS: [Case; 21] = [
     (0, Act::Shut(4), Some(Refused::NoRow)),
     (0, Act::Write(4, 0, 0), Some(Refused::NoRow)), // nor such a word
     (0, Act::Write(0, 0, 1), Some(Refused::NoWord)), // and the row is even
-    (0, Act::Write(0, 8, 1), Some(Refused::NoWord)), // the same
+    (0, Act::Write(0, ROW_WORDS as u64, 1), Some(Refused::NoWord)), // the same
     (0, Act::Write(0, 1, 257), Some(Refused::Even)),
     (0, Act::Open(4), Some(Refused::NoRow)),
     (0, Act::Open(0), Some(Refused::Even)),
@@ -146,20 +147,20 @@ const UNALTERED: [Case; 15] = [
     (0, Act::Quit, Some(Refused::NoCall)),
 ];
 
-/// Actor 1 looks for `/a/b` by rows 0 and 1, of which row 1 is not read whole.
-const WALK: [Case; 24] = [
+/// An actor reads the words of a row after its count.
+const READ_WHOLE: [Case; ROW_WORDS - 1] = [(1, Act::Read, None); ROW_WORDS - 1];
+
+/// Actor 1 begins to look for `/a/b` by row 0.
+const WALK: [Case; 5] = [
     (1, Act::Quit, None),
     (1, Act::Begin(LOOK_AB), None),
     (1, Act::Read, Some(Refused::NoNote)), // there is none
     (1, Act::Check(0), Some(Refused::Early)), // and there is no note
     (1, Act::Note(0), None),
-    (1, Act::Read, None),
-    (1, Act::Read, None),
-    (1, Act::Read, None),
-    (1, Act::Read, None),
-    (1, Act::Read, None),
-    (1, Act::Read, None),
-    (1, Act::Read, None),
+];
+
+/// Row 0 is read, and row 1, but not whole.
+const READ: [Case; 12] = [
     (1, Act::Read, Some(Refused::NoNote)), // it is whole
     (1, Act::Check(0), Some(Refused::Early)),
     (1, Act::Note(1), None),
@@ -174,8 +175,8 @@ const WALK: [Case; 24] = [
     (1, Act::Check(0), Some(Refused::NoNote)), // it was checked
 ];
 
-/// Row 0 was filled anew. Row 2 gets other counts after its note.
-const CHANGED: [Case; 24] = [
+/// Row 0 was filled anew. Row 2 is noted.
+const REFILLED: [Case; 9] = [
     (1, Act::Check(0), Some(Refused::NoNote)), // and its row has another count
     (1, Act::Check(1), Some(Refused::NoNote)),
     (1, Act::Again, None),
@@ -185,13 +186,10 @@ const CHANGED: [Case; 24] = [
     (1, Act::Check(0), Some(Refused::NoNote)),
     (1, Act::Again, None),
     (1, Act::Note(2), None),
-    (1, Act::Read, None),
-    (1, Act::Read, None),
-    (1, Act::Read, None),
-    (1, Act::Read, None),
-    (1, Act::Read, None),
-    (1, Act::Read, None),
-    (1, Act::Read, None),
+];
+
+/// It was read, and gets other counts.
+const CHANGED: [Case; 8] = [
     (1, Act::Pivot, None),
     (0, Act::Take, None),
     (0, Act::Shut(2), None),
@@ -220,7 +218,7 @@ fn first_other(core: &mut Core, alloc: Global, cases: &[Case]) -> usize {
 fn each_act_is_refused_for_each_reason(rt: HostRuntime) -> Result<(), Fail> {
     let alloc = rt.alloc();
     let mut core = Core::new(alloc, 1, 2, 16)?;
-    let lists: [&[Case]; 7] = [
+    let lists: [&[Case]; 9] = [
         &NO_ACTOR,
         &NO_LOCK_NO_CALL,
         &LOCKED,
@@ -228,6 +226,8 @@ fn each_act_is_refused_for_each_reason(rt: HostRuntime) -> Result<(), Fail> {
         &TOUCHED,
         &UNALTERED,
         &WALK,
+        &READ_WHOLE,
+        &READ,
     ];
     for (i, cases) in lists.iter().enumerate() {
         assert_eq!(rt;
@@ -243,6 +243,11 @@ fn each_act_is_refused_for_each_reason(rt: HostRuntime) -> Result<(), Fail> {
         0,
         &named(1, b"a", Some((2, Kind::Dir)))?,
     )?;
+    assert_eq!(rt; first_other(&mut core, alloc, &REFILLED), REFILLED.len());
+    assert_eq!(rt;
+        first_other(&mut core, alloc, &READ_WHOLE),
+        READ_WHOLE.len()
+    );
     assert_eq!(rt; first_other(&mut core, alloc, &CHANGED), CHANGED.len());
     assert_eq!(rt; (core.finished().len(), core.clock()), (2, 1));
     Ok(())

@@ -278,7 +278,8 @@ fn schedules_are_one_tree(rt: HostRuntime) -> Result<(), Fail> {
     let alloc = rt.alloc();
     let mut three = Three::new(alloc)?;
     let mut number = 7;
-    for _ in 0..20000 {
+    // A row's words are one event each: with fewer turns hardly a row is written.
+    for _ in 0..100_000 {
         number = drawn(number);
         three.turn(alloc, number)?;
     }

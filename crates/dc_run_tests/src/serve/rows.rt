@@ -15,13 +15,13 @@ const ROWS: [(&str, &str); 18] = [
         "0 symlink l /l\n0 look /l\n0 llook /l\n",
         "0 ok 2 @0\n0 no 40 @1\n0 is 2 link @1\n",
     ),
-    // Eight links are followed, nine aren't.
+    // Nine links are followed.
     (
         "0 create /f\n0 symlink f /l8\n0 symlink l8 /l7\n0 symlink l7 /l6\n0 symlink l6 /l5\n\
          0 symlink l5 /l4\n0 symlink l4 /l3\n0 symlink l3 /l2\n0 symlink l2 /l1\n\
          0 symlink l1 /l0\n0 look /l1\n0 look /l0\n",
         "0 ok 2 @0\n0 ok 3 @1\n0 ok 4 @2\n0 ok 5 @3\n0 ok 6 @4\n0 ok 7 @5\n0 ok 8 @6\n\
-         0 ok 9 @7\n0 ok 10 @8\n0 ok 11 @9\n0 is 2 file @10\n0 no 40 @10\n",
+         0 ok 9 @7\n0 ok 10 @8\n0 ok 11 @9\n0 is 2 file @10\n0 is 2 file @10\n",
     ),
     // A rename between two names of one file changes and counts nothing.
     (

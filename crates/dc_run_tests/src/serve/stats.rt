@@ -27,11 +27,11 @@ const ROWS: [(&str, &str); 6] = [
          not without the lock: 1 Miss, 1 Link, 0 Long, 0 Busy, 0 Changed\n\
          rows in use: 3, evictions: 0, sleeps: 0",
     ),
-    // A name of 33 bytes fits no row.
+    // A name of 33 bytes fits a row.
     (
-        "0 look /abcdefghijklmnopqrstuvwxyz0123456\n0 look /abcdefghijklmnopqrstuvwxyz012345\n",
-        "look-ups: 0 without the lock, 1 by filled rows, 1 under the lock, 0 of no path\n\
-         not without the lock: 1 Miss, 0 Link, 1 Long, 0 Busy, 0 Changed\n\
+        "0 look /abcdefghijklmnopqrstuvwxyz0123456\n0 look /abcdefghijklmnopqrstuvwxyz0123456\n",
+        "look-ups: 1 without the lock, 1 by filled rows, 0 under the lock, 0 of no path\n\
+         not without the lock: 1 Miss, 0 Link, 0 Long, 0 Busy, 0 Changed\n\
          rows in use: 1, evictions: 0, sleeps: 0",
     ),
     // One bucket has four rows: the fifth name takes the row of the first.

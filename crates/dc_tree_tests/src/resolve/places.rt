@@ -19,7 +19,7 @@ fn at(dir: u64, last: Last<'_>, slash: bool) -> Placed<'_> {
 
 #[test]
 fn places(rt: HostRuntime) -> Result<(), Fail> {
-    let cases: [(u64, &[u8], Placed<'_>); 17] = [
+    let cases: [(u64, &[u8], Placed<'_>); 18] = [
         (1, b"/d/f", at(2, named(b"f"), false)),
         (1, b"/d/new//", at(2, named(b"new"), true)),
         (1, b"///", at(1, Last::Root, false)),
@@ -32,7 +32,16 @@ fn places(rt: HostRuntime) -> Result<(), Fail> {
         (1, b"/l", at(1, named(b"l"), false)),
         (1, b"/r/g", at(4, named(b"g"), false)),
         (1, b"/c8/g", at(2, named(b"g"), false)),
-        (1, b"/c9/g", Placed::Refused(Refusal::TooManyLinks)),
+        (
+            1,
+            b"/c8/../c8/../c8/../c8/../c8/g",
+            at(2, named(b"g"), false),
+        ),
+        (
+            1,
+            b"/c8/../c8/../c8/../c8/../c9/g",
+            Placed::Refused(Refusal::TooManyLinks),
+        ),
         (1, b"/d/q/g", Placed::Refused(Refusal::NotDirectory)),
         (1, b"/none/g", Placed::Refused(Refusal::NotFound)),
         (3, b"g", Placed::Refused(Refusal::NotFound)),

@@ -13,7 +13,7 @@ fn walked(base: u64, path: &[u8], follow: Follow) -> Result<Walked, TextFault> {
 
 #[test]
 fn walks(rt: HostRuntime) -> Result<(), Fail> {
-    let cases: [(u64, &[u8], Follow, Walked); 34] = [
+    let cases: [(u64, &[u8], Follow, Walked); 36] = [
         (1, b"/d/f", Follow::Yes, Walked::Found(3, Kind::File)),
         (1, b"//d//f", Follow::Yes, Walked::Found(3, Kind::File)),
         (2, b"f", Follow::Yes, Walked::Found(3, Kind::File)),
@@ -81,9 +81,16 @@ fn walks(rt: HostRuntime) -> Result<(), Fail> {
         ),
         (1, b"/bad", Follow::Yes, Walked::Stopped),
         (1, b"/c8", Follow::Yes, Walked::Found(2, Kind::Dir)),
+        // Forty links, and one more.
         (
             1,
-            b"/c9",
+            b"/c8/../c8/../c8/../c8/../c8",
+            Follow::Yes,
+            Walked::Found(2, Kind::Dir),
+        ),
+        (
+            1,
+            b"/c8/../c8/../c8/../c8/../c9",
             Follow::Yes,
             Walked::Refused(Refusal::TooManyLinks),
         ),
@@ -91,7 +98,13 @@ fn walks(rt: HostRuntime) -> Result<(), Fail> {
         (1, b"/c7/q", Follow::Yes, Walked::Found(3, Kind::File)),
         (
             1,
-            b"/c8/q",
+            b"/c8/../c8/../c8/../c8/../c7/q",
+            Follow::Yes,
+            Walked::Found(3, Kind::File),
+        ),
+        (
+            1,
+            b"/c8/../c8/../c8/../c8/../c8/q",
             Follow::Yes,
             Walked::Refused(Refusal::TooManyLinks),
         ),

@@ -47,7 +47,7 @@ fn causes_are_told(rt: HostRuntime) -> Result<(), Fail> {
         (Why::Miss(2), "no row has the name after 2 questions"),
         (Why::Busy(7), "row 7 is being changed"),
         (changed, "row 3 went from count 2 to 4"),
-        (Why::Long, "a name or a path is too long for the rows"),
+        (Why::Long, "the path is too long for the rows"),
         (Why::Link, "no row has the text of the link"),
         (Why::Memory, "no memory for a row"),
     ] {

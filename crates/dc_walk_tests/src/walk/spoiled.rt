@@ -14,6 +14,7 @@ use super::{change, count, is_answered, look};
 use crate::calls::mkdir;
 use dc_names::Kind;
 use dc_plain::{Call, Reply};
+use dc_row::widened;
 use dc_rows::shrink;
 use dc_table::{Pass, Shared};
 use dc_walk::Fast;
@@ -31,11 +32,11 @@ const PATH: &[u8] = b"/a/b/c";
 /// last.
 const PLACES: usize = 6;
 
-/// The words of the rows, after their counts.
-const FACTS: [[u64; 7]; 3] = [
-    [16_777_473, 1, 2, 97, 0, 0, 0],
-    [16_777_473, 2, 3, 98, 0, 0, 0],
-    [16_777_473, 3, 4, 99, 0, 0, 0],
+/// The first words of the rows, with count 0. The others are zero.
+const FACTS: [[u64; 5]; 3] = [
+    [0, 16_777_473, 1, 2, 97],
+    [0, 16_777_473, 2, 3, 98],
+    [0, 16_777_473, 3, 4, 99],
 ];
 
 /// Whether the path led to the directory that was made last.
@@ -125,7 +126,10 @@ fn turn<R: Wait>(
 
 /// Whether a row was read with the count that its place has, and with the words that it has at all times.
 fn is_row(words: &Words, row: usize, count: u64) -> bool {
-    words[0] == count && FACTS.get(row).is_some_and(|fact| words[1..] == fact[..])
+    words[0] == count
+        && FACTS
+            .get(row)
+            .is_some_and(|fact| words[1..] == widened(fact)[1..])
 }
 
 /// What a check of the row finds: that it was filled again since it was noted, or not.

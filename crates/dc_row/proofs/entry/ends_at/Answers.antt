@@ -1,16 +1,19 @@
-use Rattle.std.proofs.Common.{eqb, arith, w8}
-use Rattle.std.proofs.lemmas.Bool.{eqb-true, eq-eqb}
-use Rattle.std.proofs.lemmas.Nat.{one_shl}
-use Rattle.std.proofs.lemmas.Simd.{bitmask_splat}
-use Rattle.dc_row.specs.declared.TheConstants.{ROW_TEXT}
-use Rattle.dc_row.proofs.Lanes.{zeros_tell}
+use Rattle.std.proofs.Common.{arith, rules}
+use Rattle.dc_names.specs.Words.{bytes_in}
+use Rattle.dc_row.proofs.Texts.{one_more_end, word_ends}
 use Rattle.dc_row.proofs.entry.ends_at.Goals as goal
 
-pub returns : goal.returns
-returns c =
-    let mask = bitmask_splat w8 eqb c.args.room ROW_TEXT 0 c.fits-room.0 (omega arith) in
-    let bit = one_shl c.args.len 64 (omega arith) in
-    let tells = zeros_tell c.args.room c.args.len c.fits-room.0 c.requires.fits in (
-      λ yes. tells.0 (omega (arith, mask, bit, eqb-true _ _ yes)),
-      λ ends. eq-eqb _ _ (omega (arith, mask, bit, tells.1 ends)),
-    )
+pub returns-then-not-has_bytes : goal.returns-then-not-has_bytes
+unfolding bytes_in
+returns-then-not-has_bytes c = (
+  λ no. absurd (cc),
+  λ ends.
+      let yes = c.has_bytes.ensures.1 (word_ends c.args.words.now c.to_le_bytes-bytes.result c.args.len c.text.i c.min.result c.to_le_bytes-bytes.ensures (omega arith) (omega arith) (λ k low. (λ lt. omega arith, λ lt. omega arith)) ends) in
+      absurd (cc),
+)
+
+pub text-preserved : goal.text-preserved
+unfolding bytes_in
+text-preserved c =
+    let yes = c.has_bytes.ensures.0 (search rules) in
+    one_more_end c.args.words.now c.to_le_bytes-bytes.result c.args.len c.text.i c.min.result c.to_le_bytes-bytes.ensures (omega arith) (λ k low. (λ lt. omega arith, λ lt. omega arith)) yes c.text.invariant

@@ -6,8 +6,16 @@ use Rattle.dc_plain.specs.KeysShown.{key_shown}
 use Rattle.dc_plain.specs.Requests.{request_of}
 use Rattle.dc_ops.specs.Keys.{AreDistinct}
 use Rattle.dc_rows.proofs.Altering.{rows_stay, retold_call, stage_committed, well_same, touched_same, can_commit, store_after, clock_after, limit_after, history_same, home_again}
+use Rattle.dc_plain.specs.Trees.{Tree}
+use Rattle.dc_table.specs.Passes.{share}
+use Rattle.dc_table.specs.Rows.{Rest}
+use Rattle.dc_rows.proofs.Commits.{from_rest}
 use Rattle.dc_rows.proofs.Stages.{then_only, tree_same}
 use Rattle.dc_rows.proofs.changes.alter.Goals as goal
+
+pub shut_keys-requires-clause-stage : goal.shut_keys-requires-clause-stage
+shut_keys-requires-clause-stage c = let p = c.args.holder.now.pass.now in let x = c.args.kept.now in
+    from_rest _ _ _ _ _ _ (subst (λ (t : Tree). Rest t (share p).rows (words_of p) x.index x.shrinker) c.requires.home.tree c.requires.home.rest)
 
 pub commit-requires : goal.commit-requires
 commit-requires c = let shown = ap (map key_shown) c.as_slice-keys.ensures.value ∙ c.keys-keys.ensures in

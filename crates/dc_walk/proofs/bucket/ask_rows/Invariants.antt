@@ -1,10 +1,10 @@
-use Rattle.std.proofs.Common.{◌≡◌}
+use Rattle.std.proofs.Common.{◌≡◌, ◌+◌}
 use Rattle.dc_plain.specs.KeysShown.{key_shown}
 use Rattle.dc_table.specs.Passes.{known}
 use Rattle.dc_table.specs.Shares.{HasNotTried}
 use Rattle.dc_walk.specs.Asking.{GoesOn}
-use Rattle.dc_walk.specs.Causes.{Looked}
 use Rattle.dc_walk.specs.Findings.{SameRows, IsFinding, now_in}
+use Rattle.dc_walk.specs.Sights.{LookedWhole}
 use Rattle.dc_walk.proofs.bucket.ask_rows.Given as goal
 
 abbrev pub invariant-loop-k : goal.invariant-loop-k
@@ -13,8 +13,10 @@ invariant-loop-k l = record {
   untried : HasNotTried (known l.fn.rows.pass.now) (known l.rows.pass.now);
   why : l.rows.why ≡ l.fn.rows.why;
   spare : l.rows.spare ≡ l.fn.rows.spare;
-  used : l.rows.used.now ≡ l.fn.rows.used.now;
+  slow : l.rows.slow ≡ l.fn.rows.slow;
+  used : l.rows.used.now.items ≡ l.fn.rows.used.now.items;
+  spent : l.rows.used.now.spent ≡ l.fn.rows.used.now.spent;
   on : GoesOn (now_in l.fn.rows) (now_in l.rows);
-  finding : IsFinding l.rows l.k;
-  looked : Looked (now_in l.rows) l.fn.lane.first (key_shown l.fn.key) l.odd l.k;
+  finding : IsFinding l.rows (l.fn.earlier + l.k);
+  looked : LookedWhole (now_in l.rows) l.fn.lane.first (key_shown l.fn.key) l.fn.extent l.k l.odd;
 }

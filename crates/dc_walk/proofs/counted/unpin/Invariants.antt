@@ -3,5 +3,5 @@ use Rattle.dc_walk.specs.Unpins.{rows_used}
 use Rattle.dc_walk.proofs.counted.unpin.Given as goal
 
 -- the rows so far stand in the list
-abbrev pub invariant-loop-one : goal.invariant-loop-one
-invariant-loop-one g l = l.rows.items ≡ rows_used (take l.one-index l.used)
+abbrev pub invariant-loop-at : goal.invariant-loop-at
+invariant-loop-at g l = l.rows.items ≡ rows_used (take l.at l.used.items)

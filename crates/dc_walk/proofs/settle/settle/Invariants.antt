@@ -15,5 +15,5 @@ invariant-loop-c l =
       stays : StaysOut l.fn.pass l.pass;
       reply : l.reply ≡ l.initial.reply;
       later : before.book.seen ≤ l.at;
-      checking : IsChecking (look_shown l.fn.look) (answer_of l.initial.reply) (map use_shown l.fn.used) before l.at l.c (view l.pass);
+      checking : IsChecking (look_shown l.fn.look) (answer_of l.initial.reply) (map use_shown l.fn.used.items) before l.at l.c (view l.pass);
     }

@@ -4,8 +4,7 @@ use Rattle.dc_events.specs.Effects.{begins}
 use Rattle.dc_plain.specs.Requests.{request_of}
 use Rattle.dc_table.specs.Holders.{table_of}
 use Rattle.dc_table.specs.Passes.{view, Fits, StaysOut}
-use Rattle.dc_walk.specs.Probes.{probed}
-use Rattle.dc_walk.proofs.Probed.{read_of}
+use Rattle.dc_walk.specs.Probes.{probed, read_of}
 use Rattle.dc_walk_tests.proofs.walk.probe.probe.Given as goal
 
 abbrev pub invariant-loop-i : goal.invariant-loop-i

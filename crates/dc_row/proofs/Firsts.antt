@@ -1,0 +1,52 @@
+-- A row by its first words.
+use Rattle.std.proofs.Common.{◌≡◌, ℕ, ◌+◌, ◌-◌, ◌/◌, ◌%◌, ◌<◌, ◌≤◌, List, ◌++◌, min, length, length-take-le, length-append, get_or, take, replicate, Option, Some, inl, inr, ap, sym, ◌∙◌, arith}
+use Rattle.std.proofs.lemmas.Bool.{cases_lt}
+use Rattle.std.proofs.lemmas.List.{get_or_append_left, get_or-append_right, get_or-replicate, get_or-take, length-replicate}
+use Rattle.std.proofs.Math.Nat.{min-eq_left}
+use Rattle.dc_plain.specs.Facts.{Label, Target}
+use Rattle.dc_plain.specs.Facts.Fact.{Leads}
+use Rattle.dc_row.specs.Narrow.{told_words, widened, words_for, RowsEndInZeros}
+use Rattle.dc_row.specs.Decoding.{target_by}
+use Rattle.dc_row.specs.Spelling.{fields_of, kind_code, target_number, Spells}
+use Rattle.dc_row.specs.declared.TheConstants.{ROW_WORDS}
+use Rattle.dc_row.specs.declared.layout.TheConstants.{KIND_UNIT, TAGS}
+use Rattle.dc_row.proofs.Compared.{all_same}
+use Rattle.dc_row.proofs.Decoded.{kind_is, target_so}
+use Rattle.dc_row.proofs.Read.{length_is, text_fits}
+use Rattle.dc_row.proofs.Written.{word_at-text, word_past}
+
+-- words that are zero from the n-th on are their first n, and zeros
+narrow_at : (words : List ℕ) (n m : ℕ) → length (take n words) ≡ n → ((i : ℕ) → n ≤ i → i < n + m → get_or words i 0 ≡ 0) → (k : ℕ) → k < n + m → get_or (take n words ++ replicate m 0) k 0 ≡ get_or words k 0
+narrow_at words n m short zeros k h = elim (cases_lt k n) [
+  | inl l ↦ get_or_append_left (take n words) (replicate m 0) 0 k (omega arith) ∙ get_or-take n words k 0 l
+  | inr late ↦ get_or-append_right (take n words) (replicate m 0) n k 0 short late ∙ (get_or-replicate m (k - n) 0 0 (omega arith) ∙ sym (zeros k late h))
+]
+
+narrow : (words : List ℕ) (n : ℕ) → n ≤ ROW_WORDS → length words ≡ ROW_WORDS → ((i : ℕ) → n ≤ i → i < ROW_WORDS → get_or words i 0 ≡ 0) → widened (take n words) ≡ words
+narrow words n few size zeros =
+    let short : length (take n words) ≡ n = length-take-le n words (omega arith) in
+    let many = ROW_WORDS - length (take n words) in
+    let all : n + many ≡ ROW_WORDS = omega arith in
+    let whole : length (take n words ++ replicate many 0) ≡ length words = length-append (take n words) (replicate many 0) ∙ (ap (λ (m : ℕ). length (take n words) + m) (length-replicate many 0) ∙ omega arith) in
+    all_same (take n words ++ replicate many 0) words whole (λ k h. narrow_at words n many short (λ i late lt. zeros i late (omega arith)) k (omega arith))
+
+pub ends_in_zeros : RowsEndInZeros
+ends_in_zeros words fact s =
+    let fits = text_fits s in
+    let f = fields_of (Some fact) in
+    let size : told_words words ≡ words_for (length f.text) = ap (λ (n : ℕ). min (words_for n) ROW_WORDS) (length_is s) ∙ min-eq_left (omega arith) in
+    record {
+      size = size;
+      zeros = narrow words (told_words words) (omega arith) s.size (λ i late few. s.spelled i (omega arith) few ∙ word_at-text f i (omega arith) ∙ word_past f.text (i - 4) (omega arith));
+    }
+
+-- a word of a row is that of its first words, where these have it
+first_word : (words : List ℕ) (i : ℕ) → i < length words → get_or (widened words) i 0 ≡ get_or words i 0
+first_word words i l = get_or_append_left words (replicate (ROW_WORDS - length words) 0) 0 i l
+
+-- an entry leads where the first four words say
+pub narrow_target : (words : List ℕ) (kind value : ℕ) → kind ≡ get_or words 1 0 / KIND_UNIT % TAGS → value ≡ get_or words 3 0 → 4 ≤ length words → (d : ℕ) (label : Label) (target : Option Target) → Spells (widened words) (Some (Leads d label target)) → target_by kind value ≡ target
+narrow_target words kind value kind_so value_so long d label target s =
+    let is : kind ≡ kind_code target = kind_so ∙ (ap (λ (w : ℕ). w / KIND_UNIT % TAGS) (sym (first_word words 1 (omega arith))) ∙ kind_is s) in
+    let leads : value ≡ target_number target = value_so ∙ (sym (first_word words 3 (omega arith)) ∙ s.spelled 3 (omega arith) (omega arith)) in
+    (λ i. target_by (is i) (leads i)) ∙ target_so target

@@ -1,0 +1,161 @@
+-- A room whose rows are read and kept.
+use Rattle.std.proofs.Common.{◌≡◌, ℕ, zero, suc, ◌+◌, ◌*◌, ◌-◌, ◌<◌, ◌≤◌, List, [], ◌∷◌, ◌++◌, length, length-take-le, map, get_or, set, take, drop, replicate, Bool, true, false, cond, ◌&&◌, ◌==◌, nat_lt, slice_range, Some, None, refl, ap, sym, ◌∙◌, subst, arith}
+use Rattle.std.proofs.lemmas.Bool.Decides.{nat_tests}
+use Rattle.std.proofs.lemmas.Grind.{common_steps}
+use Rattle.std.proofs.Math.Seq.{drop-append_seam, take-append_seam, take-set-lt}
+use borrow.Rule.Slice.PartMut.{post_of, put_mid}
+use Rattle.std.proofs.lemmas.List.{get_or_append_left, drop-set-add, drop-take, length-drop, get_or-map, get_or-take, length-map}
+use Rattle.std.proofs.lemmas.Bool.{or_parts}
+use Rattle.std.specs.List.{list_any}
+use Rattle.dc_names.specs.Bytes.{is_empty, pieces}
+use Rattle.dc_names.specs.Paths.{Part, bytes_of, fault_of, is_long}
+use Rattle.dc_names.specs.Paths.Part.{Name, Dot, DotDot}
+use Rattle.dc_names.specs.declared.limits.TheConstants.{NAME_MAX, PATH_MAX}
+use Rattle.dc_names.specs.declared.fault.TextFault.TheVariants.{Empty, Long, Zero}
+use Rattle.dc_plain.specs.Facts.{Fact, Key, key_of}
+use Rattle.dc_plain.specs.Facts.Label.{Entry, Parent, Text}
+use Rattle.dc_plain.specs.Facts.Fact.{Leads, Reads}
+use Rattle.dc_row.specs.Narrow.{told_words, widened, RowsEndInZeros}
+use Rattle.dc_row.specs.Spelling.{fields_of, has_room, has_spelling, TellsOf}
+use Rattle.dc_resolve.specs.Asked.{label_of}
+use Rattle.dc_row.specs.declared.TheConstants.{ROW_WORDS, ROW_TEXT}
+use Rattle.dc_walk.specs.declared.TheConstants.{MOST_BYTES, MOST_USED}
+use Rattle.dc_walk.specs.Rooms.{key_bytes, no_place, no_use, stored_at, used_at, used_in, HasWords, IsBelow, IsRoom, Keeps, Kept, Used}
+use Rattle.dc_walk.specs.declared.used.Stored.{Stored}
+
+-- with the same rows a room has words for the same
+pub words_still : (r s : Kept) (n : ℕ) → s.items ≡ r.items → s.spent ≡ r.spent → HasWords r n → HasWords s n
+words_still r s n items spent has = let many : length s.items ≡ length r.items = ap (λ (us : List Used). length us) items in omega arith
+
+pub keeps_from : (r s t : Kept) (n : ℕ) → s.items ≡ r.items → s.spent ≡ r.spent → Keeps s t n → Keeps r t n
+keeps_from r s t n items spent keeps = let many : length s.items ≡ length r.items = ap (λ (us : List Used). length us) items in omega arith
+
+-- what was asked for is spent, and words for the rest are left
+pub words_left : (r s : Kept) (n m : ℕ) → Keeps r s n → HasWords r (n + m) → HasWords s m
+words_left r s n m keeps has = omega arith
+
+-- an empty room has words for a walk of a path
+pub begins_with_words : (r : Kept) (path : ℕ) → r.items ≡ [] → r.spent ≡ 0 → path ≤ PATH_MAX → HasWords r (2 + path + 40 * (2 * ROW_TEXT))
+begins_with_words r path items spent fits = let none : length r.items ≡ 0 = ap (λ (us : List Used). length us) items in omega arith
+
+long_of : (e l z : Bool) → cond e (Some Empty) (cond l (Some Long) (cond z (Some Zero) None)) ≡ None → l ≡ false
+long_of true l z none = absurd cc
+long_of false true z none = absurd cc
+long_of false false z none = refl
+
+pub path_fits : (text : List ℕ) → fault_of text ≡ None → length text ≤ PATH_MAX
+path_fits text valid =
+    let short = or_parts (nat_lt PATH_MAX (length text)) (list_any (λ piece. nat_lt NAME_MAX (length piece)) (pieces text)) (long_of (is_empty text) (is_long text) (list_any (λ b. b == 0) text) valid) in
+    let test = short.0 in grind (arith, nat_tests)
+
+both : (a b : Bool) → (a && b) ≡ true → (a ≡ true) × (b ≡ true)
+both true b e = (refl, e)
+both false b e = absurd cc
+
+room_for : (text : List ℕ) → has_room text ≡ true → length text ≤ ROW_TEXT
+room_for text room = grind (arith, common_steps)
+
+-- the text of a row of a key has no more bytes than are counted for the key
+text_size : (fact : Fact) → has_spelling (Some fact) ≡ true → length (fields_of (Some fact)).text ≤ key_bytes (key_of fact).label
+text_size (Leads d (Entry name) target) ok = omega arith
+text_size (Leads d Parent target) ok = omega arith
+text_size (Leads d Text target) ok = absurd cc
+text_size (Reads n text) ok = room_for text (both _ _ ok).1
+
+-- nor its words
+pub key_size : RowsEndInZeros → (key : Key) {words : List ℕ} → TellsOf words key → 8 * told_words words ≤ 40 + key_bytes key.label
+key_size law key {words} tells =
+    let size = (law words tells.fact tells.spelled).size in
+    let text : length (fields_of (Some tells.fact)).text ≤ key_bytes key.label = subst (λ (k : Key). length (fields_of (Some tells.fact)).text ≤ key_bytes k.label) tells.about (text_size tells.fact tells.spelled.allowed) in
+    omega arith
+
+pub has_room_for : (r : Kept) (n : ℕ) (key : Key) → 8 * n ≤ 40 + key_bytes key.label → length r.items < MOST_USED → HasWords r (key_bytes key.label) → 8 * (r.spent + n) ≤ 40 * MOST_USED + MOST_BYTES
+has_room_for r n key size some has = omega arith
+
+pub kept_so : (r s : Kept) (key : Key) (n : ℕ) → 8 * n ≤ 40 + key_bytes key.label → length s.items ≡ length r.items + 1 → s.spent ≡ r.spent + n → Keeps r s (key_bytes key.label)
+kept_so r s key n size one more = omega arith
+
+-- which bytes a part that is asked for has
+pub asked_size : (part : Part) → (part ≡ Dot → ⊥) → key_bytes (label_of part) ≡ length (bytes_of part)
+asked_size (Name name) asked = refl
+asked_size Dot asked = absurd (asked refl)
+asked_size DotDot asked = refl
+
+-- a place of the rows that are kept
+pub kept_many : (rows : List Stored) (len : ℕ) (words : List ℕ) → len ≤ length rows → length (map (used_in words) (take len rows)) ≡ len
+kept_many rows len words few = length-map (take len rows) (used_in words) ∙ length-take-le len rows few
+
+pub kept_at : (rows : List Stored) (len : ℕ) (words : List ℕ) (at : ℕ) → len ≤ length rows → at < length (map (used_in words) (take len rows)) → used_at (map (used_in words) (take len rows)) at ≡ used_in words (stored_at rows at)
+kept_at rows len words at few l =
+    let many = kept_many rows len words few in
+    let short = length-take-le len rows few in
+    get_or-map (used_in words) (take len rows) at no_place no_use (omega arith) ∙ ap (used_in words) (get_or-take len rows at no_place (omega arith))
+
+short_take : (n m : ℕ) (xs : List ℕ) → n ≤ m → take n (take m xs) ≡ take n xs
+short_take zero m xs le = refl
+short_take (suc n) zero xs le = absurd (omega arith)
+short_take (suc n) (suc m) [] le = refl
+short_take (suc n) (suc m) (x ∷ xs) le = ap (λ (ys : List ℕ). x ∷ ys) (short_take n m xs (omega arith))
+
+-- of words before an end only what stands there matters
+range_before : (xs : List ℕ) (end i j : ℕ) → i ≤ j → j ≤ end → slice_range (take end xs) i j ≡ slice_range xs i j
+range_before xs end i j le within =
+    let all : i + (end - i) ≡ end = omega arith in
+    ap (λ (ys : List ℕ). take (j - i) ys) (ap (λ (n : ℕ). drop i (take n xs)) (sym all) ∙ drop-take i (end - i) xs) ∙ short_take (j - i) (end - i) (drop i xs) (omega arith)
+
+same_range : (a b : List ℕ) (end i j : ℕ) → i ≤ j → j ≤ end → take end a ≡ take end b → slice_range a i j ≡ slice_range b i j
+same_range a b end i j le within same = sym (range_before a end i j le within) ∙ ap (λ (xs : List ℕ). slice_range xs i j) same ∙ range_before b end i j le within
+
+same_rows : (a b : List ℕ) (end : ℕ) → take end a ≡ take end b → (rows : List Stored) → ((i : ℕ) → i < length rows → IsBelow end (stored_at rows i)) → map (used_in a) rows ≡ map (used_in b) rows
+same_rows a b end same [] below = refl
+same_rows a b end same (s ∷ rows) below =
+    let first = below 0 (omega arith) in let head = first.head in
+    let here : used_in a s ≡ used_in b s = ap (λ (ws : List ℕ). record { row = s.row; place = s.place; words = widened ws }) (same_range a b end s.start s.end (omega arith) first.within same) in
+    let rest = same_rows a b end same rows (λ i l. below (suc i) (omega arith)) in
+    λ i. here i ∷ rest i
+
+module _ {rows : List Stored} {len : ℕ} {words : List ℕ} {end : ℕ} (is : IsRoom rows len words end) where
+  few_rows : len ≤ length rows
+  few_rows = let few = is.few in let many = is.many in omega arith
+
+  below_taken : (i : ℕ) → i < length (take len rows) → IsBelow end (stored_at (take len rows) i)
+  below_taken i l =
+      let short = length-take-le len rows few_rows in
+      let there : i < len = omega arith in
+      subst (IsBelow end) (sym (get_or-take len rows i no_place there)) (is.below i there)
+
+  -- other words behind the end leave the rows that are kept
+  pub rows_kept : (more : List ℕ) → take end more ≡ take end words → map (used_in more) (take len rows) ≡ map (used_in words) (take len rows)
+  rows_kept more same = same_rows more words end same (take len rows) below_taken
+
+  pub room_with : (more : List ℕ) → length more ≡ length words → IsRoom rows len more end
+  room_with more size = record { few = is.few; many = is.many; size = size ∙ is.size; fits = is.fits; below = is.below }
+
+-- the words behind the end are those of the row that is being read
+pub next_size : (words : List ℕ) (end : ℕ) → end + ROW_WORDS ≤ length words → length (slice_range words end (end + ROW_WORDS)) ≡ ROW_WORDS
+next_size words end fits =
+    let many : end + ROW_WORDS - end ≡ ROW_WORDS = omega arith in
+    ap (λ (n : ℕ). length (take n (drop end words))) many ∙ length-take-le ROW_WORDS (drop end words) (let left = length-drop end words in omega arith)
+
+pub next_set : (words : List ℕ) (end at w : ℕ) → at < ROW_WORDS → slice_range (set words (end + at) w) end (end + ROW_WORDS) ≡ set (slice_range words end (end + ROW_WORDS)) at w
+next_set words end at w inside = ap (λ (xs : List ℕ). take (end + ROW_WORDS - end) xs) (drop-set-add end words at w) ∙ take-set-lt (end + ROW_WORDS - end) (drop end words) at w (omega arith)
+
+pub next_put : (words row : List ℕ) (end k : ℕ) → end ≤ length words → length row ≡ ROW_WORDS → slice_range (put_mid end k words row) end (end + ROW_WORDS) ≡ row
+next_put words row end k fits size =
+    let front : length (take end words) ≡ end = length-take-le end words fits in
+    let many : end + ROW_WORDS - end ≡ length row = omega arith in
+    ap (λ (n : ℕ). take n (drop end (put_mid end k words row))) many
+    ∙ (ap (λ (n : ℕ). take (length row) (drop n (put_mid end k words row))) (sym front) ∙ (ap (take (length row)) (drop-append_seam (take end words) (row ++ post_of end k words)) ∙ take-append_seam row (post_of end k words)))
+
+-- a word of a row is that of its first words, where these have it
+pub first_word : (words : List ℕ) (i : ℕ) → i < length words → get_or (widened words) i 0 ≡ get_or words i 0
+first_word words i l = get_or_append_left words (replicate (ROW_WORDS - length words) 0) 0 i l
+
+fact_number : (fact : Fact) → (fields_of (Some fact)).number ≡ (key_of fact).number
+fact_number (Leads d label target) = refl
+fact_number (Reads n text) = refl
+
+-- a row that tells of a key has the key's number
+pub number_of : (words : List ℕ) (key : Key) → 4 ≤ length words → TellsOf (widened words) key → get_or words 2 0 ≡ key.number
+number_of words key long tells =
+    sym (first_word words 2 (omega arith)) ∙ (tells.spelled.spelled 2 (omega arith) (omega arith) ∙ (fact_number tells.fact ∙ ap (λ (k : Key). k.number) tells.about))
