@@ -4,4 +4,5 @@ pub mod Rows
 pub mod Spelling
 pub mod Decoding
 pub mod Narrow
+pub mod Short
 pub mod Laws

@@ -10,8 +10,8 @@ ghost use Rattle.dc_row.specs.Spelling.{Spells, SpellsEntry, SpellsNoEntry, Spel
 ghost use Rattle.dc_row.specs.declared.TheConstants.{ROW_WORDS, ROW_TEXT};
 
 use crate::reading::spelled_text;
-use crate::writing::text_word;
-use crate::{KIND_UNIT, LENGTH_UNIT, ROW_TEXT, ROW_WORDS, RowText, TAGS, kind, number, value};
+use crate::writing::{head_of, text_word};
+use crate::{LENGTH_UNIT, ROW_TEXT, ROW_WORDS, RowText, TAGS, kind, number, value};
 use dc_names::no_piece_is_longer;
 use dc_plain::{Key, Label};
 use std::simd::prelude::*;
@@ -119,7 +119,7 @@ fn is_spelled(words: &[u64], tag: u64, kind: u64, number: u64, value: u64, text:
     ensures bytes { AreBytes text.now }
     ensures is { IsTrue result ↔ IsSpelled words.now (fields tag kind number value text.now) }
 {
-    let head = tag + LENGTH_UNIT * text.len() as u64 + KIND_UNIT * kind;
+    let head = head_of(tag, kind, text);
     if words[1] != head || words[2] != number || words[3] != value {
         return false;
     }
@@ -147,7 +147,7 @@ fn are_zero(words: &[u64], from: usize) -> bool
 
 /// Whether an entry can have this kind and this number: one that leads nowhere has no number.
 #[inline(always)]
-fn is_target(kind: u64, value: u64) -> bool
+pub(crate) fn is_target(kind: u64, value: u64) -> bool
     ensures some { result ≡ true → let t = target_by kind value in
         (kind_code t ≡ kind) × (target_number t ≡ value) × (is_numbered t ≡ true) }
     ensures all { (target : Option Target) → kind ≡ kind_code target → value ≡ target_number target
@@ -162,7 +162,7 @@ fn is_target(kind: u64, value: u64) -> bool
 
 /// Whether an entry that leads to something of a kind can stand in a row.
 #[inline(always)]
-fn has_room(key: Key<'_>, kind: u64) -> bool
+pub(crate) fn has_room(key: Key<'_>, kind: u64) -> bool
     ensures spelling { (target : Option Target) → kind ≡ kind_code target →
         is_numbered target ≡ true → result ≡ has_spelling (entry_of (key_shown key.entry) target) }
     ensures room { result ≡ true → length (label_bytes (key_shown key.entry).label) ≤ ROW_TEXT }

@@ -5,6 +5,7 @@ ghost use Rattle.dc_plain.specs.Facts.{Fact};
 ghost use Rattle.dc_row.specs.Decoding.{SpelledIsRead};
 ghost use Rattle.dc_row.specs.Laws.{CountsTellNothing, HasOneSpelling};
 ghost use Rattle.dc_row.specs.Narrow.{RowsEndInZeros};
+ghost use Rattle.dc_row.specs.Short.{RowsHaveTheirText};
 ghost use Rattle.dc_row.specs.Spelling.{Spells};
 
 use crate::{EMPTY_ROW, decode};
@@ -34,6 +35,11 @@ pub fn counts_tell_nothing()
 /// The words of a row past its text are zero.
 pub fn rows_end_in_zeros()
     ensures { RowsEndInZeros }
+{}
+
+/// A row that spells an entry of a key has the key's text.
+pub fn rows_have_their_text()
+    ensures { RowsHaveTheirText }
 {}
 
 /// The words of an empty row spell no fact.

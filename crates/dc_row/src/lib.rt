@@ -9,6 +9,7 @@ mod layout;
 mod narrow;
 mod reading;
 mod row;
+mod short;
 mod text;
 mod writing;
 
@@ -17,12 +18,13 @@ pub use entry::{tells_of, text_of};
 pub use fields::{kind, length, number, tag, value};
 pub use laws::{
     counts_tell_nothing, empty_row_spells_nothing, rows_end_in_zeros, rows_have_one_spelling,
-    words_have_the_fact_they_spell, words_spell_one_row,
+    rows_have_their_text, words_have_the_fact_they_spell, words_spell_one_row,
 };
 pub use layout::{KIND_UNIT, LENGTH_UNIT, LENGTHS, TAGS};
 pub use narrow::{told_words, widened};
 pub use reading::{decode, spelled_text, target, text_in};
 pub use row::{Row, RowLabel};
+pub use short::{SHORT_TEXT, SHORT_WORDS, leads, short_words};
 pub use text::RowText;
 pub use writing::encode;
 

@@ -1,11 +1,12 @@
 //! The words that spell a row.
 
-ghost use Rattle.std.specs.Prelude.{◌≡◌, ◌≤◌, ◌<◌, ◌↔◌, ◌+◌, length, drop, slice_index, Some, IfSome, IsSome, IsTrue};
+ghost use Rattle.std.specs.Prelude.{◌≡◌, ◌≤◌, ◌<◌, ◌↔◌, ◌+◌, ◌*◌, length, drop, slice_index, Some, IfSome, IsSome, IsTrue};
 ghost use Rattle.dc_names.specs.Words.{AreBytes, word_of};
 ghost use Rattle.dc_plain.specs.Facts.Fact.{Reads};
 ghost use Rattle.dc_row.specs.Rows.{row_shown};
 ghost use Rattle.dc_row.specs.Spelling.{Spells, has_spelling, is_numbered, kind_code, target_number, text_word, fields, IsSpelled};
 ghost use Rattle.dc_row.specs.declared.TheConstants.{ROW_WORDS, ROW_TEXT};
+ghost use Rattle.dc_row.specs.declared.layout.TheConstants.{KIND_UNIT, LENGTH_UNIT};
 
 use crate::{KIND_UNIT, LENGTH_UNIT, ROW_WORDS, Row, RowLabel, RowText};
 use dc_names::{Kind, Name, pack, parse};
@@ -108,13 +109,26 @@ pub(crate) fn spell(tag: u64, kind: u64, number: u64, value: u64, text: &[u8]) -
     ensures count { slice_index result 0 ≡ 0 }
 {
     let mut words = [0; ROW_WORDS];
-    words[1] = tag + LENGTH_UNIT * text.len() as u64 + KIND_UNIT * kind;
+    words[1] = head_of(tag, kind, text);
     words[2] = number;
     words[3] = value;
     for i in 4..ROW_WORDS {
         words[i] = text_word(text, i - 4);
     }
     words
+}
+
+/// The head of a row with a tag, a kind and a text.
+// Inlined, as is `text_word`: each row that is compared asks for it.
+#[inline(always)]
+pub(crate) fn head_of(tag: u64, kind: u64, text: &[u8]) -> u64
+    requires tag { tag ≤ 2 }
+    requires kind { kind ≤ 3 }
+    requires room { length text.now ≤ ROW_TEXT }
+    ensures head { result ≡ tag + LENGTH_UNIT * length text.now + KIND_UNIT * kind }
+    ensures bytes { AreBytes text.now }
+{
+    tag + LENGTH_UNIT * text.len() as u64 + KIND_UNIT * kind
 }
 
 /// Eight bytes of a text in one word, with zeros past its end.

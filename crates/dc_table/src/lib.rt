@@ -68,7 +68,13 @@ pub(crate) const FREE: u64 = 0;
 pub(crate) const TAKEN: u64 = 1;
 
 /// How often a pass that found the lock taken looks at its word before it sleeps.
-pub(crate) const MOST_LOOKS: u64 = 1_000;
+pub(crate) const MOST_LOOKS: u64 = 20;
+
+/// How many pauses of the processor come after the first of its looks. Each is some 5 to 60 nanoseconds.
+pub(crate) const FEWEST_PAUSES: u64 = 64;
+
+/// How often that number doubles.
+pub(crate) const MOST_DOUBLINGS: u64 = 5;
 
 /// The first word of the rows.
 pub(crate) const FIRST_ROW: usize = 2;

@@ -15,7 +15,7 @@ use crate::holder::Holder;
 use crate::plays::{Answer, Asked, Commit, Give, Put, Raise, Take};
 use crate::shared::Shared;
 use crate::table::{Guarded, Pass};
-use crate::{CLOCK, FIRST_ROW, FREE, LOCK, MOST_LOOKS, TAKEN};
+use crate::{CLOCK, FEWEST_PAUSES, FIRST_ROW, FREE, LOCK, MOST_DOUBLINGS, MOST_LOOKS, TAKEN};
 use dc_events::events_keep_the_rule;
 use dc_plain::Call;
 use dc_row::ROW_WORDS;
@@ -23,6 +23,13 @@ use std::hint;
 use std::marker::Brand;
 use std::sync::Wait;
 use std::sync::atomic::Ordering::{Relaxed, SeqCst};
+
+/// Lets the time of so many pauses of the processor go by.
+fn pause(times: u64) {
+    for _ in 0..times {
+        hint::spin_loop();
+    }
+}
 
 impl Shared {
     /// Tries the lock, and takes what it guards out of its slot.
@@ -97,11 +104,13 @@ impl Shared {
     /// Watches the lock for a while, and answers whether it was seen free. A holder needs it for far less
     /// time than a thread takes to fall asleep and to be woken.
     fn comes_free(&self) -> bool {
-        for _ in 0..MOST_LOOKS {
+        for look in 0..MOST_LOOKS {
             if self.table.shared.peek(LOCK) == FREE {
                 return true;
             }
-            hint::spin_loop();
+            // A look takes the word's cache line from the holder, who has to wait for it at its next step
+            // there. So the pauses double, and the holder has the line to itself most of the time.
+            pause(FEWEST_PAUSES << look.min(MOST_DOUBLINGS));
         }
         false
     }

@@ -6,6 +6,7 @@ pub mod Walked
 pub mod Sighted
 pub mod Lookings
 pub mod Rooms
+pub mod Shorts
 pub mod Standing
 pub mod Questions
 pub mod Ended

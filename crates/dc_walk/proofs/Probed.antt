@@ -9,7 +9,7 @@ use Rattle.dc_events.specs.Views.{View, Note}
 use Rattle.dc_events.specs.Effects.{noted, read}
 use Rattle.dc_events.specs.Walks.{no_note, extended}
 use Rattle.dc_table.specs.Walking.{CanRead}
-use Rattle.dc_walk.specs.Probes.{probed, fresh_note, read_of, HasRead}
+use Rattle.dc_walk.specs.Probes.{probed, fresh_note, read_of, HasRead, IsEarly}
 
 last_place : (xs : List Note) (x : Note) → length (xs ++ x ∷ []) - 1 ≡ length xs
 last_place xs x = let size : length (xs ++ x ∷ []) ≡ length xs + 1 = length-append xs (x ∷ []) in omega arith
@@ -113,3 +113,19 @@ count_first (x ∷ xs) size = refl
 pub rest_size : (words : List ℕ) → length words ≡ ROW_WORDS → length (drop 1 words) + 1 ≡ ROW_WORDS
 rest_size [] size = absurd (omega (arith, size))
 rest_size (x ∷ xs) size = let all : suc (length xs) ≡ ROW_WORDS = size in let is : length xs + 1 ≡ ROW_WORDS = omega arith in is
+
+-- a word more of a row that is being read
+module _ {p : View} (v : View) (row count : ℕ) (words : List ℕ) (is : p ≡ probed v row count words) where
+  pub can_go_on : IsEarly v → (i : ℕ) → length words + 1 ≡ i → i < ROW_WORDS → CanRead p row i
+  can_go_on early i next inside = subst (λ q. CanRead q row i) (sym is) (can_read_so v row count words early.busy early.fresh i next inside)
+
+  pub goes_on : (q : View) (w : ℕ) → q ≡ read p w → q ≡ probed v row count (words ++ w ∷ [])
+  goes_on q w e = e ∙ ap (λ u. read u w) is ∙ read_so v row count words w
+
+-- a row by its count, its head and its number
+pub top_read : (v w : View) (row count head number : ℕ) (words : List ℕ) → length words ≡ ROW_WORDS → take 3 words ≡ count ∷ head ∷ number ∷ [] → w ≡ probed v row count (head ∷ number ∷ []) → HasRead v w row words 3
+top_read v w row count head number [] size first is = absurd (omega (arith, size))
+top_read v w row count head number (x ∷ words) size first is = record {
+  size = size;
+  read = is ∙ ap₂ (λ (n : ℕ) (ws : List ℕ). probed v row n ws) (ap (λ (ws : List ℕ). get_or ws 0 0) (sym first)) (ap (λ (ws : List ℕ). drop 1 ws) (sym first));
+}

@@ -91,7 +91,7 @@ kept_at rows len words at few l =
     let short = length-take-le len rows few in
     get_or-map (used_in words) (take len rows) at no_place no_use (omega arith) ∙ ap (used_in words) (get_or-take len rows at no_place (omega arith))
 
-short_take : (n m : ℕ) (xs : List ℕ) → n ≤ m → take n (take m xs) ≡ take n xs
+pub short_take : (n m : ℕ) (xs : List ℕ) → n ≤ m → take n (take m xs) ≡ take n xs
 short_take zero m xs le = refl
 short_take (suc n) zero xs le = absurd (omega arith)
 short_take (suc n) (suc m) [] le = refl
@@ -145,6 +145,13 @@ next_put words row end k fits size =
     let front : length (take end words) ≡ end = length-take-le end words fits in
     let many : end + ROW_WORDS - end ≡ length row = omega arith in
     ap (λ (n : ℕ). take n (drop end (put_mid end k words row))) many
+    ∙ (ap (λ (n : ℕ). take (length row) (drop n (put_mid end k words row))) (sym front) ∙ (ap (take (length row)) (drop-append_seam (take end words) (row ++ post_of end k words)) ∙ take-append_seam row (post_of end k words)))
+
+-- or they begin with what was put there
+pub next_begins : (words row : List ℕ) (end k : ℕ) → end ≤ length words → length row ≤ ROW_WORDS → take (length row) (slice_range (put_mid end k words row) end (end + ROW_WORDS)) ≡ row
+next_begins words row end k fits few =
+    let front : length (take end words) ≡ end = length-take-le end words fits in
+    short_take (length row) (end + ROW_WORDS - end) (drop end (put_mid end k words row)) (omega arith)
     ∙ (ap (λ (n : ℕ). take (length row) (drop n (put_mid end k words row))) (sym front) ∙ (ap (take (length row)) (drop-append_seam (take end words) (row ++ post_of end k words)) ∙ take-append_seam row (post_of end k words)))
 
 -- a word of a row is that of its first words, where these have it

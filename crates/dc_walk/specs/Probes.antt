@@ -1,14 +1,14 @@
 -- What a probe of a row makes of a view.
-use Rattle.std.specs.Prelude.{◌≡◌, ℕ, ◌+◌, ◌-◌, List, [], ◌∷◌, ◌++◌, true, false, length, get_or, take, drop}
+use Rattle.std.specs.Prelude.{◌≡◌, ℕ, ◌+◌, ◌-◌, ◌<◌, ◌≤◌, ◌↔◌, List, [], ◌∷◌, ◌++◌, Bool, true, false, Option, Some, None, IsTrue, length, get_or, take, drop}
+use Rattle.dc_plain.specs.Facts.{Key}
+use Rattle.dc_row.specs.Narrow.{told_words}
+use Rattle.dc_row.specs.Spelling.{TellsOf}
 use Rattle.dc_plain.specs.Requests.{Request}
 use Rattle.dc_row.specs.declared.TheConstants.{ROW_WORDS}
+use Rattle.dc_row.specs.declared.short.TheConstants.{SHORT_WORDS}
 use Rattle.dc_events.specs.Views.{Note, Walk, View}
-use Rattle.dc_events.specs.Views.Fault.{Busy}
-use Rattle.dc_events.specs.Effects.{faulted}
-use Rattle.dc_walk.specs.declared.probe.Extent as rust_extent
-use Rattle.dc_walk.specs.declared.probe.Extent.TheVariants as extents
-use Rattle.dc_walk.specs.declared.probe.Probed as rust_probe
-use Rattle.dc_walk.specs.declared.probe.Probed.TheVariants as probes
+use Rattle.dc_walk.specs.Rooms.{Kept}
+use Rattle.dc_walk.specs.declared.probe.Top.{Top}
 
 -- a note that no check has seen
 abbrev pub fresh_note : ℕ → ℕ → List ℕ → Note
@@ -53,8 +53,38 @@ pub record IsReading (w : View) (row : ℕ) (words : List ℕ) (i : ℕ) : Type 
   pub early : IsEarly before
   pub has : HasRead before w row words i
 
--- what a probe makes of a view by the words that it has read, all of them where it was asked for all
-abbrev pub Reads : View → ℕ → rust_extent.Extent → List ℕ → View → rust_probe.Probed → Type 0
-Reads v row extent words w probes.Odd = w ≡ faulted v (Busy row)
-Reads v row extent words w probes.Head = (extent ≡ extents.Head) × HasRead v w row words 3
-Reads v row extent words w probes.Whole = (length words ≡ ROW_WORDS) × (w ≡ seen_whole v row words)
+-- a row was noted after the view was this, and its top was read
+abbrev pub ReadsTop : View → View → ℕ → Top → Type 0
+ReadsTop v w row top = w ≡ probed v row top.count (top.head ∷ top.number ∷ [])
+
+-- the walk goes on, and has read a row's top
+pub record IsReadingTop (w : View) (row : ℕ) (top : Top) : Type 0 where
+  pub before : View
+  pub early : IsEarly before
+  pub read : ReadsTop before w row top
+
+-- the words of a row by its top, its value and those behind
+abbrev pub row_of : Top → ℕ → List ℕ → List ℕ
+row_of top value rest = top.count ∷ top.head ∷ top.number ∷ value ∷ rest
+
+-- words behind a value are these four, and zeros past them
+pub record IsText (text rest : List ℕ) : Type 0 where
+  pub first : (i : ℕ) → i < length rest → i < SHORT_WORDS → get_or rest i 0 ≡ get_or text i 0
+  pub past : (i : ℕ) → i < length rest → SHORT_WORDS ≤ i → get_or rest i 0 ≡ 0
+
+-- a row was read whole, its value and whether its text has these words were seen
+pub record ReadsShort (v w : View) (row : ℕ) (top : Top) (text : List ℕ) (value : ℕ) (is_its : Bool) : Type 0 where
+  pub rest : List ℕ
+  pub size : length rest + 4 ≡ ROW_WORDS
+  pub read : w ≡ seen_whole v row (row_of top value rest)
+  pub its : IsTrue is_its ↔ IsText text rest
+
+-- a row was read whole
+pub record ReadsWhole (v w : View) (row : ℕ) (words : List ℕ) : Type 0 where
+  pub size : length words ≡ ROW_WORDS
+  pub read : w ≡ seen_whole v row words
+
+-- it was read whole and tells of another key, or of none; or it tells of the key and is kept as the last
+abbrev pub TakesIn : View → View → ℕ → ℕ → Key → Kept → Kept → Option ℕ → Type 0
+TakesIn v w row place key r s None = (words : List ℕ) × ReadsWhole v w row words × (TellsOf words key → ⊥) × (s.items ≡ r.items) × (s.spent ≡ r.spent)
+TakesIn v w row place key r s (Some at) = (words : List ℕ) × ReadsWhole v w row words × TellsOf words key × (s.items ≡ r.items ++ record { row = row; place = place; words = words } ∷ []) × (s.spent ≡ r.spent + told_words words) × (at ≡ length r.items)

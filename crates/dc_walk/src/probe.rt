@@ -1,20 +1,21 @@
 //! A row that is noted and read.
 
-ghost use Rattle.std.specs.Prelude.{◌≡◌, ◌<◌, true, false};
+ghost use Rattle.std.specs.Prelude.{◌≡◌, ◌<◌, ◌≤◌, [], ◌∷◌, length, true, IfSome, IfNone};
 ghost use Rattle.dc_events.specs.Effects.{begins, faulted};
+ghost use Rattle.dc_events.specs.Views.{View};
 ghost use Rattle.dc_events.specs.Views.Fault.{Busy};
 ghost use Rattle.dc_plain.specs.Requests.{request_of};
+ghost use Rattle.dc_row.specs.declared.TheConstants.{ROW_WORDS};
 ghost use Rattle.dc_table.specs.Holders.{table_of};
 ghost use Rattle.dc_table.specs.Passes.{view, share, Fits, IsIdle, StaysOut};
-ghost use Rattle.dc_walk.specs.Probes.{IsEarly, HasRead, Reads};
+ghost use Rattle.dc_walk.specs.Probes.{HasRead, IsEarly, IsReading, IsReadingTop, ReadsShort, ReadsTop};
 
-use crate::used::Room;
 use dc_plain::{Call, Key, Label};
-use dc_row::{length, number, tag};
+use dc_row::{LENGTH_UNIT, LENGTHS, ROW_WORDS, SHORT_WORDS, TAGS};
 use dc_table::{Pass, Reader};
 
 /// How much of a row is read.
-#[derive(Clone, Copy, PartialEq, Eq)]
+#[derive(Clone, Copy)]
 pub(crate) enum Extent {
     /// Its head and its number, and the rest only if these are a key's.
     Head,
@@ -22,90 +23,113 @@ pub(crate) enum Extent {
     Whole,
 }
 
-/// What a probe of a row has read.
-pub(crate) enum Probed {
-    /// Nothing, since the row is being changed.
-    Odd,
-    /// The head and the number, which aren't the key's.
-    Head,
-    /// The whole row.
-    Whole,
+/// The first words of a row that was noted: its count, its head and its number.
+#[derive(Clone, Copy)]
+pub(crate) struct Top {
+    pub count: u64,
+    pub head: u64,
+    pub number: u64,
 }
 
-/// Whether words may tell of a key, by their head and their number alone. Nothing rests on it but time:
+/// Whether a row may tell of a key, by its head and its number alone. Nothing rests on it but time:
 /// before a walk gives up for a key it reads the rows whole.
 #[inline(always)]
-fn may_tell(words: &[u64], key: Key<'_>) -> bool {
-    let (wanted, text) = match key.label {
+pub(crate) fn may_tell(top: Top, key: Key<'_>) -> bool {
+    let (tag, text) = match key.label {
         Label::Text => (2, None),
         Label::Name(_) | Label::DotDot => (1, Some(key.label.bytes().len() as u64)),
     };
-    number(words) == key.number
-        && tag(words) == wanted
-        && text.is_none_or(|len| length(words) == len)
+    top.number == key.number
+        && top.head % TAGS == tag
+        && text.is_none_or(|len| top.head / LENGTH_UNIT % LENGTHS == len)
 }
 
-/// Notes a row and reads its head and its number into a room, its count first. `first` begins the walk of
-/// the call. Of an odd row, which it answers by no, nothing more is read than the count.
+/// Notes a row and reads its head and its number. `first` begins the walk of the call. Of an odd row
+/// nothing more is read than the count.
 #[inline(always)]
-fn read_head(
+pub(crate) fn read_top(
     reader: Reader<'_>,
     pass: &mut Pass,
-    room: &mut Room,
     call: &Call<'_>,
     row: u64,
     first: bool,
-) -> bool
+) -> Option<Top>
     requires pass { Fits (table_of reader) pass.old × IsIdle pass.old }
     requires row { row < (share pass.old).rows }
     requires early { IsEarly (begins first (view pass.old) (request_of call.now)) }
     ensures same { StaysOut pass.old pass.new }
-    ensures fits { Fits (table_of reader.entry) pass.new }
-    ensures items { (room.new.items ≡ room.old.items) × (room.new.spent ≡ room.old.spent) }
-    ensures read { result ≡ true → HasRead (begins first (view pass.old) (request_of call.now))
-        (view pass.new) row room.new.next 3 }
-    ensures odd { result ≡ false → view pass.new
-        ≡ faulted (begins first (view pass.old) (request_of call.now)) (Busy row) }
+    ensures read { IfSome result (ReadsTop (begins first (view pass.old) (request_of call.now))
+        (view pass.new) row) }
+    ensures odd { IfNone result (view pass.new
+        ≡ faulted (begins first (view pass.old) (request_of call.now)) (Busy row)) }
 {
-    // For the proof: that the row has its words.
-    let _words = room.next();
     // The count before the words: words that are written meanwhile have a higher count, which the check
     // after the pivot finds. Read after them, a count could be that of a later fact.
     let Ok(count) = reader.note(pass, call, row, first) else {
-        return false;
+        return None;
     };
-    room.put(0, count);
-    room.put(1, reader.read_word(pass, row, 1));
-    room.put(2, reader.read_word(pass, row, 2));
-    true
+    let head = reader.read_word(pass, row, 1);
+    let number = reader.read_word(pass, row, 2);
+    Some(Top {
+        count,
+        head,
+        number,
+    })
 }
 
-/// Notes a row and reads it into a room as far as it is asked to. `first` begins the walk of the call.
+/// Reads the rest of a row whose top was read, and answers its value, and whether the words behind are
+/// those of a short text. They are compared as they come, and not kept.
+// Inlined: the text's words stay in registers.
 #[inline(always)]
-pub(crate) fn probe(
+pub(crate) fn read_short(
     reader: Reader<'_>,
     pass: &mut Pass,
-    room: &mut Room,
-    call: &Call<'_>,
     row: u64,
-    first: bool,
-    key: Key<'_>,
-    extent: Extent,
-) -> Probed
+    top: Top,
+    text: &[u64; SHORT_WORDS],
+) -> (u64, bool)
     requires pass { Fits (table_of reader) pass.old × IsIdle pass.old }
     requires row { row < (share pass.old).rows }
-    requires early { IsEarly (begins first (view pass.old) (request_of call.now)) }
+    requires reading { IsReadingTop (view pass.old) row top }
     ensures same { StaysOut pass.old pass.new }
-    ensures items { (room.new.items ≡ room.old.items) × (room.new.spent ≡ room.old.spent) }
-    ensures reads { Reads (begins first (view pass.old) (request_of call.now)) row extent room.new.next
-        (view pass.new) result }
+    ensures read { (v : View) → ReadsTop v (view pass.old) row top →
+        ReadsShort v (view pass.new) row top text.now result.0 result.1 }
 {
-    if !read_head(reader, pass, room, call, row, first) {
-        return Probed::Odd;
+    let value = reader.read_word(pass, row, 3);
+    let mut is_its = true;
+    for i in 0..SHORT_WORDS {
+        let word = reader.read_word(pass, row, 4 + i as u64);
+        is_its = is_its && word == text[i];
     }
-    if extent == Extent::Head && !may_tell(room.next(), key) {
-        return Probed::Head;
+    let mut past = 0;
+    for i in 4 + SHORT_WORDS..ROW_WORDS {
+        past |= reader.read_word(pass, row, i as u64);
     }
-    room.read_rest(reader, pass, row);
-    Probed::Whole
+    (value, is_its && past == 0)
+}
+
+/// Reads words of the row that was noted last, from one up to another.
+// Inlined, for a few words at a time (measured): only so short a loop is unrolled.
+#[inline(always)]
+pub(crate) fn read_words(
+    reader: Reader<'_>,
+    pass: &mut Pass,
+    row: u64,
+    words: &mut [u64],
+    from: usize,
+    to: usize,
+)
+    requires pass { Fits (table_of reader) pass.old × IsIdle pass.old }
+    requires row { row < (share pass.old).rows }
+    requires reading { IsReading (view pass.old) row words.old from }
+    requires some { (0 < from) × (from ≤ to) × (to ≤ ROW_WORDS) }
+    ensures same { StaysOut pass.old pass.new }
+    ensures fits { Fits (table_of reader.entry) pass.new }
+    ensures reading { IsReading (view pass.new) row words.new to }
+    ensures read { (v : View) → HasRead v (view pass.old) row words.old from
+        → HasRead v (view pass.new) row words.new to }
+{
+    for i in from..to {
+        words[i] = reader.read_word(pass, row, i as u64);
+    }
 }

@@ -1,22 +1,33 @@
 //! A look at one row for what it tells of a key.
 
-ghost use Rattle.std.specs.Prelude.{◌≡◌, ◌<◌, ◌+◌, None, length};
+ghost use Rattle.std.specs.Prelude.{◌≡◌, ◌≢◌, ◌<◌, ◌≤◌, ◌+◌, None, length, true};
+ghost use Rattle.dc_events.specs.Views.{View};
+ghost use Rattle.dc_plain.specs.Facts.{label_bytes};
+ghost use Rattle.dc_plain.specs.Facts.Label.{Text};
 ghost use Rattle.dc_plain.specs.KeysShown.{key_shown};
 ghost use Rattle.dc_resolve.specs.Needs.{IsUntold};
-ghost use Rattle.dc_table.specs.Passes.{known, share};
+ghost use Rattle.dc_row.specs.declared.short.TheConstants.{SHORT_TEXT};
+ghost use Rattle.dc_table.specs.Holders.{table_of};
+ghost use Rattle.dc_table.specs.Passes.{known, view, share, Fits, IsIdle, StaysOut};
 ghost use Rattle.dc_table.specs.Shares.{HasNotTried};
 ghost use Rattle.dc_walk.specs.Asking.{GoesOn};
 ghost use Rattle.dc_walk.specs.Filters.{key_hash};
 ghost use Rattle.dc_walk.specs.Findings.{SameRows, IsFinding, now_in, outcome_in, said_in};
+ghost use Rattle.dc_walk.specs.Probes.{IsReadingTop, ReadsTop, TakesIn};
 ghost use Rattle.dc_walk.specs.Rooms.{key_bytes, HasWords};
 ghost use Rattle.dc_walk.specs.Sights.{Saw};
 ghost use Rattle.dc_names.specs.declared.limits.TheConstants.{BUCKET_ROWS};
 ghost use Rattle.dc_walk.specs.declared.TheConstants.{MOST_USED};
 
-use crate::probe::{Extent, Probed, probe};
+use crate::probe::{Extent, Top, may_tell, read_short, read_top};
 use crate::rows::Rows;
-use dc_plain::Key;
-use dc_row::{rows_end_in_zeros, tells_of, words_have_the_fact_they_spell};
+use crate::used::Room;
+use dc_plain::{Key, Label};
+use dc_row::{
+    SHORT_TEXT, leads, rows_end_in_zeros, rows_have_their_text, short_words, tells_of, told_words,
+    words_have_the_fact_they_spell,
+};
+use dc_table::{Pass, Reader};
 
 /// What a row answers.
 pub(crate) enum Seen {
@@ -26,6 +37,114 @@ pub(crate) enum Seen {
     Other,
     /// It tells of the key, and is the last of the used rows.
     Tells(usize),
+}
+
+/// Whether a key's row is an entry with a short text.
+#[inline(always)]
+fn is_short(key: Key<'_>) -> bool
+    ensures { result ≡ true → let label = (key_shown key.entry).label in
+        (label ≢ Text) × (length (label_bytes label) ≤ SHORT_TEXT) }
+{
+    match key.label {
+        Label::Text => false,
+        Label::Name(_) | Label::DotDot => key.label.bytes().len() <= SHORT_TEXT,
+    }
+}
+
+/// Reads the rest of a row whose top was read, for a key with a short text, and keeps the row if it tells
+/// of the key.
+#[inline(always)]
+fn take_short(
+    room: &mut Room,
+    reader: Reader<'_>,
+    pass: &mut Pass,
+    row: u64,
+    place: u64,
+    top: Top,
+    key: Key<'_>,
+) -> Option<usize>
+    requires pass { Fits (table_of reader) pass.old × IsIdle pass.old }
+    requires row { row < (share pass.old).rows }
+    requires reading { IsReadingTop (view pass.old) row top }
+    requires some { length room.old.items < MOST_USED }
+    requires words { HasWords room.old (key_bytes (key_shown key).label) }
+    requires entry { (key_shown key).label ≢ Text }
+    requires short { length (label_bytes (key_shown key).label) ≤ SHORT_TEXT }
+    ensures same { StaysOut pass.old pass.new }
+    ensures takes { (v : View) → ReadsTop v (view pass.old) row top →
+        TakesIn v (view pass.new) row place (key_shown key.entry) room.old room.new result }
+{
+    rows_end_in_zeros();
+    rows_have_their_text();
+    let text = key.label.bytes();
+    let words = short_words(text);
+    let (value, is_its) = read_short(reader, pass, row, top, &words);
+    if !is_its || !leads(top.head, top.number, value, key) {
+        return None;
+    }
+    let first = [
+        top.count, top.head, top.number, value, words[0], words[1], words[2], words[3],
+    ];
+    room.put(&first);
+    Some(room.keep(row, place, 4 + text.len().div_ceil(8)))
+}
+
+/// Reads the rest of a row whose top was read into a room, where it stays if it tells of a key.
+// Kept out of line: few rows have long names, and a link has one text.
+#[inline(never)]
+fn take_wide(
+    room: &mut Room,
+    reader: Reader<'_>,
+    pass: &mut Pass,
+    row: u64,
+    place: u64,
+    top: Top,
+    key: Key<'_>,
+) -> Option<usize>
+    requires pass { Fits (table_of reader) pass.old × IsIdle pass.old }
+    requires row { row < (share pass.old).rows }
+    requires reading { IsReadingTop (view pass.old) row top }
+    requires some { length room.old.items < MOST_USED }
+    requires words { HasWords room.old (key_bytes (key_shown key).label) }
+    ensures same { StaysOut pass.old pass.new }
+    ensures takes { (v : View) → ReadsTop v (view pass.old) row top →
+        TakesIn v (view pass.new) row place (key_shown key.entry) room.old room.new result }
+{
+    rows_end_in_zeros();
+    room.put(&[top.count, top.head, top.number]);
+    room.read_rest(reader, pass, row);
+    if !tells_of(room.next(), key) {
+        return None;
+    }
+    let told = told_words(room.next());
+    Some(room.keep(row, place, told))
+}
+
+/// Reads the rest of a row whose top was read, and keeps the row if it tells of a key.
+#[inline(always)]
+fn take_in(
+    room: &mut Room,
+    reader: Reader<'_>,
+    pass: &mut Pass,
+    row: u64,
+    place: u64,
+    top: Top,
+    key: Key<'_>,
+) -> Option<usize>
+    requires pass { Fits (table_of reader) pass.old × IsIdle pass.old }
+    requires row { row < (share pass.old).rows }
+    requires reading { IsReadingTop (view pass.old) row top }
+    requires some { length room.old.items < MOST_USED }
+    requires words { HasWords room.old (key_bytes (key_shown key).label) }
+    ensures same { StaysOut pass.old pass.new }
+    ensures takes { (v : View) → ReadsTop v (view pass.old) row top →
+        TakesIn v (view pass.new) row place (key_shown key.entry) room.old room.new result }
+{
+    if is_short(key) {
+        take_short(room, reader, pass, row, place, top, key)
+    } else {
+        take_wide(room, reader, pass, row, place, top, key)
+    }
 }
 
 /// Looks at a row for what it tells of a key, with the key's hash. Where it does it is the last of the
@@ -62,28 +181,20 @@ pub(crate) fn look_at(
     let call = rows.look.call();
     let first = !rows.begun;
     rows.begun = true;
-    match probe(
-        rows.reader,
-        rows.pass,
-        rows.used,
-        &call,
-        row,
-        first,
-        key,
-        extent,
-    ) {
-        Probed::Odd => return Seen::Odd,
-        Probed::Head => {
-            rows.made += 1;
-            return Seen::Other;
-        }
-        Probed::Whole => {}
-    }
+    let Some(top) = read_top(rows.reader, rows.pass, &call, row, first) else {
+        return Seen::Odd;
+    };
     let place = rows.made;
     rows.made += 1;
-    if !tells_of(rows.used.next(), key) {
-        return Seen::Other;
+    match extent {
+        Extent::Head if !may_tell(top, key) => return Seen::Other,
+        Extent::Head | Extent::Whole => {}
     }
-    rows.filter.add(hash);
-    Seen::Tells(rows.used.keep(row, place))
+    match take_in(rows.used, rows.reader, rows.pass, row, place, top, key) {
+        Some(at) => {
+            rows.filter.add(hash);
+            Seen::Tells(at)
+        }
+        None => Seen::Other,
+    }
 }

@@ -20,6 +20,8 @@ use dc_table::{Pass, Reader};
 
 /// Makes the pivot of a walk that came to a reply, and checks the rows that it used. `begun` says
 /// whether the walk noted a row.
+// Inlined (measured): the reply needn't go through memory.
+#[inline(always)]
 pub(crate) fn settle(
     reader: Reader<'_>,
     pass: &mut Pass,

@@ -1,9 +1,9 @@
 //! The rows whose answers a walk rests on.
 
-ghost use Rattle.std.specs.Prelude.{◌≡◌, ◌<◌, ◌≤◌, ◌+◌, ◌*◌, ◌==◌, ◌∷◌, ◌++◌, ◌↔◌, [], Some, length, set, slice_index, take, IfSome, IfNone, IsTrue};
+ghost use Rattle.std.specs.Prelude.{◌≡◌, ◌<◌, ◌≤◌, ◌+◌, ◌*◌, ◌==◌, ◌∷◌, ◌++◌, ◌↔◌, [], Some, length, slice_index, take, IfSome, IfNone, IsTrue};
 ghost use Rattle.dc_plain.specs.KeysShown.{key_shown};
 ghost use Rattle.dc_resolve.specs.Needs.{IsUntold};
-ghost use Rattle.dc_row.specs.Narrow.{told_words, widened};
+ghost use Rattle.dc_row.specs.Narrow.{widened};
 ghost use Rattle.dc_row.specs.Spelling.{SpellsText, TellsOf, TellsTarget, TellsText};
 ghost use Rattle.dc_row.specs.declared.TheConstants.{ROW_WORDS};
 ghost use Rattle.dc_events.specs.Views.{View};
@@ -15,12 +15,11 @@ ghost use Rattle.dc_walk.specs.Rooms.{used_at};
 ghost use Rattle.dc_walk.specs.declared.TheConstants.{MOST_USED, MOST_BYTES};
 
 use crate::link::LinkText;
+use crate::probe::read_words;
 use crate::{MOST_USED, ROOM_WORDS};
 use dc_names::Kind;
 use dc_plain::Key;
-use dc_row::{
-    ROW_WORDS, number, target, tells_of, told_words, widened, words_have_the_fact_they_spell,
-};
+use dc_row::{ROW_WORDS, number, target, tells_of, widened, words_have_the_fact_they_spell};
 use dc_table::{Pass, Reader};
 use std::marker::Model;
 
@@ -177,15 +176,15 @@ impl Room {
         &self.words[self.end..self.end + ROW_WORDS]
     }
 
-    /// Puts a word into the row that is being read.
+    /// Puts a row's first words where the row that is being read stands.
     #[inline(always)]
-    pub(crate) fn put(&mut self, at: usize, word: u64)
-        requires at { at < ROW_WORDS }
+    pub(crate) fn put(&mut self, first: &[u64])
+        requires few { length first.now ≤ ROW_WORDS }
         ensures same { (self.new.items ≡ self.old.items) × (self.new.spent ≡ self.old.spent) }
-        ensures next { self.new.next ≡ set self.old.next at word }
+        ensures first { take (length first.now) self.new.next ≡ first.now }
         ensures size { length self.new.next ≡ ROW_WORDS }
     {
-        self.words[self.end + at] = word;
+        self.words[self.end..self.end + first.len()].copy_from_slice(first);
     }
 
     /// Reads the rest of the row that was noted last, whose head and number were read.
@@ -206,20 +205,21 @@ impl Room {
         read_words(reader, pass, row, words, 25, ROW_WORDS);
     }
 
-    /// Keeps the row that was read, whose note has this place, and answers where it stands.
+    /// Keeps the row that was read, whose note has this place, by so many of its first words, and answers
+    /// where it stands.
     #[inline(always)]
-    pub(crate) fn keep(&mut self, row: u64, place: u64) -> usize
+    pub(crate) fn keep(&mut self, row: u64, place: u64, told: usize) -> usize
         requires some { length self.old.items < MOST_USED }
-        requires told { widened (take (told_words self.old.next) self.old.next) ≡ self.old.next }
-        requires fits { 8 * (self.old.spent + told_words self.old.next) ≤ 40 * MOST_USED + MOST_BYTES }
-        ensures kept { self.new.items
-            ≡ self.old.items ++ record { row = row; place = place; words = self.old.next } ∷ [] }
-        ensures spent { self.new.spent ≡ self.old.spent + told_words self.old.next }
+        requires told { (4 ≤ told) × (told ≤ ROW_WORDS) }
+        requires fits { 8 * (self.old.spent + told) ≤ 40 * MOST_USED + MOST_BYTES }
+        ensures kept { self.new.items ≡ self.old.items
+            ++ record { row = row; place = place; words = widened (take told self.old.next) } ∷ [] }
+        ensures spent { self.new.spent ≡ self.old.spent + told }
         ensures last { result ≡ length self.old.items }
     {
         let at = self.len;
         let start = self.end;
-        let end = start + told_words(self.next());
+        let end = start + told;
         self.rows[at] = Stored {
             row,
             place,
@@ -229,32 +229,6 @@ impl Room {
         self.len += 1;
         self.end = end;
         at
-    }
-}
-
-/// Reads words of the row that was noted last, from one up to another.
-// Inlined, for a few words at a time (measured): only so short a loop is unrolled.
-#[inline(always)]
-fn read_words(
-    reader: Reader<'_>,
-    pass: &mut Pass,
-    row: u64,
-    words: &mut [u64],
-    from: usize,
-    to: usize,
-)
-    requires pass { Fits (table_of reader) pass.old × IsIdle pass.old }
-    requires row { row < (share pass.old).rows }
-    requires reading { IsReading (view pass.old) row words.old from }
-    requires some { (0 < from) × (from ≤ to) × (to ≤ ROW_WORDS) }
-    ensures same { StaysOut pass.old pass.new }
-    ensures fits { Fits (table_of reader.entry) pass.new }
-    ensures reading { IsReading (view pass.new) row words.new to }
-    ensures read { (v : View) → HasRead v (view pass.old) row words.old from
-        → HasRead v (view pass.new) row words.new to }
-{
-    for i in from..to {
-        words[i] = reader.read_word(pass, row, i as u64);
     }
 }
 

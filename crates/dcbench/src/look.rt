@@ -63,6 +63,8 @@ fn look_slowly<R: Wait>(
 }
 
 /// Looks a path up, and counts how it was answered.
+// Inlined: else the answer goes through memory once more, which is the benchmark's time and not the cache's.
+#[inline(always)]
 pub fn look<R: Wait>(
     rt: &R,
     alloc: Global,

@@ -3,7 +3,7 @@ use Rattle.dc_row.specs.declared.TheConstants.{ROW_WORDS}
 use Rattle.dc_table.specs.Passes.{view}
 use Rattle.dc_walk.proofs.Probed.{can_read, read_next}
 use Rattle.dc_walk.proofs.Seats.{fits_still, row_still, stays_again}
-use Rattle.dc_walk.proofs.used.read_words.Goals as goal
+use Rattle.dc_walk.proofs.probe.read_words.Goals as goal
 
 pub read_word-requires : goal.read_word-requires
 read_word-requires c = let i = c.loop-i.invariant in let r = i.reading in

@@ -2,7 +2,7 @@ use Rattle.dc_events.specs.Views.{View}
 use Rattle.dc_table.specs.Holders.{table_of}
 use Rattle.dc_table.specs.Passes.{view, Fits, StaysOut}
 use Rattle.dc_walk.specs.Probes.{HasRead, IsReading}
-use Rattle.dc_walk.proofs.used.read_words.Given as goal
+use Rattle.dc_walk.proofs.probe.read_words.Given as goal
 
 abbrev pub invariant-loop-i : goal.invariant-loop-i
 invariant-loop-i l = record {

@@ -1,0 +1,104 @@
+-- A row that is compared with a short text while it is read.
+use Rattle.std.proofs.Common.{◌≡◌, ◌≢◌, ℕ, zero, suc, ◌+◌, ◌-◌, ◌<◌, ◌≤◌, ◌↔◌, List, [], ◌∷◌, ◌++◌, Some, inl, inr, length, get_or, take, refl, ap, sym, ◌∙◌, subst, arith, length-append}
+use Rattle.std.proofs.Math.Seq.{get_or-append_seam}
+use Rattle.std.proofs.lemmas.Bool.{cases_eq, cases_lt}
+use Rattle.std.proofs.lemmas.List.{get_or_append_left}
+use Rattle.dc_plain.specs.Facts.{Fact, Key, key_of, label_bytes}
+use Rattle.dc_plain.specs.Facts.Label.{Text}
+use Rattle.dc_plain.specs.Facts.Fact.{Leads, Reads}
+use Rattle.dc_row.specs.declared.TheConstants.{ROW_WORDS}
+use Rattle.dc_row.specs.declared.short.TheConstants.{SHORT_WORDS}
+use Rattle.dc_row.specs.Short.{HasHead, HasText}
+use Rattle.dc_row.specs.Spelling.{fields_of, text_word}
+use Rattle.dc_events.specs.Views.{View}
+use Rattle.dc_walk.specs.Probes.{probed, row_of, IsText}
+use Rattle.dc_walk.specs.declared.probe.Top.{Top}
+
+-- so many words behind the value were read, and what is known of them says whether they are the text's
+pub record ReadsSome (v w : View) (row : ℕ) (top : Top) (text : List ℕ) (value n : ℕ) (Its : Type 0) : Type 0 where
+  pub rest : List ℕ
+  pub size : length rest ≡ n
+  pub read : w ≡ probed v row top.count (top.head ∷ top.number ∷ value ∷ rest)
+  pub its : Its ↔ IsText text rest
+
+-- one word more, which is the text's, or one past it
+module _ (text rest : List ℕ) (w : ℕ) where
+  size : length (rest ++ w ∷ []) ≡ length rest + 1
+  size = length-append rest (w ∷ [])
+
+  before : (i : ℕ) → i < length rest → get_or (rest ++ w ∷ []) i 0 ≡ get_or rest i 0
+  before i l = get_or_append_left rest (w ∷ []) 0 i l
+
+  last : get_or (rest ++ w ∷ []) (length rest) 0 ≡ w
+  last = get_or-append_seam rest w [] 0
+
+  -- what holds of each word so far, and of this one
+  each : (P : ℕ → ℕ → Type 0) → ((i : ℕ) → i < length rest → P i (get_or rest i 0)) → P (length rest) w → (i : ℕ) → i < length (rest ++ w ∷ []) → P i (get_or (rest ++ w ∷ []) i 0)
+  each P all here i l = let is = size in elim (cases_eq i (length rest)) [ inl same ↦ subst (λ (k : ℕ). P k (get_or (rest ++ w ∷ []) k 0)) (sym same) (subst (P (length rest)) (sym last) here) | inr other ↦ subst (P i) (sym (before i (omega arith))) (all i (omega arith)) ]
+
+  old : IsText text (rest ++ w ∷ []) → IsText text rest
+  old is = record {
+    first = λ i l few. sym (before i l) ∙ is.first i (let s = size in omega arith) few;
+    past = λ i l many. sym (before i l) ∙ is.past i (let s = size in omega arith) many;
+  }
+
+  pub first_more : length rest < SHORT_WORDS → {P Q : Type 0} → (P ↔ IsText text rest) → (Q ↔ (P × (w ≡ get_or text (length rest) 0))) → Q ↔ IsText text (rest ++ w ∷ [])
+  first_more few so step = (
+    λ q. let both = step.0 q in let is = so.0 both.0 in record {
+      first = each (λ i x. i < SHORT_WORDS → x ≡ get_or text i 0) is.first (λ l. both.1);
+      past = each (λ i x. SHORT_WORDS ≤ i → x ≡ 0) is.past (λ many. absurd (omega arith));
+    },
+    λ is. step.1 (so.1 (old is), sym last ∙ is.first (length rest) (let s = size in omega arith) few),
+  )
+
+  pub past_more : SHORT_WORDS ≤ length rest → {P Q : Type 0} → (P ↔ IsText text rest) → (Q ↔ (P × (w ≡ 0))) → Q ↔ IsText text (rest ++ w ∷ [])
+  past_more many so step = (
+    λ q. let both = step.0 q in let is = so.0 both.0 in record {
+      first = each (λ i x. i < SHORT_WORDS → x ≡ get_or text i 0) is.first (λ l. absurd (omega arith));
+      past = each (λ i x. SHORT_WORDS ≤ i → x ≡ 0) is.past (λ l. both.1);
+    },
+    λ is. step.1 (so.1 (old is), sym last ∙ is.past (length rest) (let s = size in omega arith) many),
+  )
+
+module _ (top : Top) (value : ℕ) (rest : List ℕ) where
+  pub row_size : length rest + 4 ≡ ROW_WORDS → length (row_of top value rest) ≡ ROW_WORDS
+  row_size size = let is : suc (suc (suc (suc (length rest)))) ≡ ROW_WORDS = omega arith in is
+
+  pub has_head : length rest + 4 ≡ ROW_WORDS → HasHead (row_of top value rest) top.head top.number value
+  has_head size = record { size = row_size size; head = refl; number = refl; value = refl }
+
+  behind : (i : ℕ) → 4 ≤ i → get_or (row_of top value rest) i 0 ≡ get_or rest (i - 4) 0
+  behind zero l = absurd (omega arith)
+  behind (suc zero) l = absurd (omega arith)
+  behind (suc (suc zero)) l = absurd (omega arith)
+  behind (suc (suc (suc zero))) l = absurd (omega arith)
+  behind (suc (suc (suc (suc i)))) l = let same : suc (suc (suc (suc i))) - 4 ≡ i = omega arith in ap (λ (k : ℕ). get_or rest k 0) (sym same)
+
+  -- the words of a text in a row, by those of the text
+  module _ (bytes text : List ℕ) (size : length rest + 4 ≡ ROW_WORDS) (words : (i : ℕ) → i < SHORT_WORDS → get_or text i 0 ≡ text_word bytes i) (past : (i : ℕ) → SHORT_WORDS ≤ i → text_word bytes i ≡ 0) where
+    pub has_text : IsText text rest → HasText (row_of top value rest) bytes
+    has_text is i some few = behind i some ∙ elim (cases_lt (i - 4) SHORT_WORDS) [ inl short ↦ is.first (i - 4) (omega arith) short ∙ words (i - 4) short | inr long ↦ is.past (i - 4) (omega arith) long ∙ sym (past (i - 4) long) ]
+
+    word_at : HasText (row_of top value rest) bytes → (i : ℕ) → i < length rest → get_or rest i 0 ≡ text_word bytes i
+    word_at has i l =
+        let at : i + 4 - 4 ≡ i = omega arith in
+        subst (λ (k : ℕ). get_or rest k 0 ≡ text_word bytes k) at (sym (behind (i + 4) (omega arith)) ∙ has (i + 4) (omega arith) (omega arith))
+
+    pub is_text : HasText (row_of top value rest) bytes → IsText text rest
+    is_text has = record {
+      first = λ i l few. word_at has i l ∙ sym (words i few);
+      past = λ i l many. word_at has i l ∙ past i many;
+    }
+
+-- the first eight words of such a row
+pub first_eight : (top : Top) (value : ℕ) (text rest : List ℕ) → length rest + 4 ≡ ROW_WORDS → IsText text rest → take 8 (row_of top value rest) ≡ top.count ∷ top.head ∷ top.number ∷ value ∷ get_or text 0 0 ∷ get_or text 1 0 ∷ get_or text 2 0 ∷ get_or text 3 0 ∷ []
+first_eight top value text [] size is = absurd (omega (arith, size))
+first_eight top value text (a ∷ []) size is = absurd (omega (arith, size))
+first_eight top value text (a ∷ b ∷ []) size is = absurd (omega (arith, size))
+first_eight top value text (a ∷ b ∷ c ∷ []) size is = absurd (omega (arith, size))
+first_eight top value text (a ∷ b ∷ c ∷ d ∷ rest) size is = λ i. top.count ∷ top.head ∷ top.number ∷ value ∷ is.first 0 (omega arith) (omega arith) i ∷ is.first 1 (omega arith) (omega arith) i ∷ is.first 2 (omega arith) (omega arith) i ∷ is.first 3 (omega arith) (omega arith) i ∷ []
+
+-- the text of a row of a key's entry
+pub text_of_key : (fact : Fact) (key : Key) → key_of fact ≡ key → key.label ≢ Text → (fields_of (Some fact)).text ≡ label_bytes key.label
+text_of_key (Leads d label target) key about other = ap (λ (k : Key). label_bytes k.label) about
+text_of_key (Reads n text) key about other = absurd (other (sym (ap (λ (k : Key). k.label) about)))

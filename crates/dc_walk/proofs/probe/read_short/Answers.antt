@@ -1,0 +1,82 @@
+use Rattle.std.proofs.Common.{◌≡◌, ℕ, ◌+◌, ◌↔◌, [], ◌∷◌, ◌++◌, IsTrue, bit_or, get_or, length, refl, ap₂, sym, ◌∙◌, subst, arith, length-append}
+use Rattle.std.proofs.lemmas.Bool.{eq-eqb, eqb-true}
+use Rattle.std.proofs.lemmas.Nat.{le_or_l, le_or_r}
+use Rattle.std.specs.Int.Bits.{or_zero_l}
+use Rattle.dc_table.specs.Passes.{view}
+use Rattle.dc_walk.proofs.Probed.{can_go_on, goes_on}
+use Rattle.dc_walk.proofs.Seats.{fits_still, row_still, stays_again}
+use Rattle.dc_walk.proofs.Shorts.{first_more, past_more}
+use Rattle.dc_walk.proofs.probe.read_short.Goals as goal
+use Rattle.dc_walk.proofs.probe.read_short.Goals.{then-is_its, else-is_its}
+
+pub read_word-value-requires : goal.read_word-value-requires
+read_word-value-requires c = let r = c.requires.reading in let t = c.args.top in record {
+  can = (
+    record { fits = c.requires.pass.0; idle = c.requires.pass.1; inside = c.requires.row },
+    can_go_on r.before c.args.row t.count (t.head ∷ t.number ∷ []) r.read r.early 3 refl (omega arith),
+  );
+}
+
+pub read_word-word-requires : goal.read_word-word-requires
+read_word-word-requires c = let i = c.loop-i.invariant in let r = c.requires.reading in let t = c.args.top in
+    let s = i.read r.before r.read in let size = s.size in record {
+      can = (
+        record { fits = i.fits; idle = i.stays.idle; inside = row_still c.requires.row i.stays.same },
+        can_go_on r.before c.args.row t.count (t.head ∷ t.number ∷ c.read_word-value.result ∷ s.rest) s.read r.early (4 + c.loop-i.i) (omega arith) (omega arith),
+      );
+    }
+
+pub read_word-requires : goal.read_word-requires
+read_word-requires c = let i = c.loop-i-2.invariant in let r = c.requires.reading in let t = c.args.top in
+    let s = i.read r.before r.read in let size = s.size in record {
+      can = (
+        record { fits = i.fits; idle = i.stays.idle; inside = row_still c.requires.row i.stays.same },
+        can_go_on r.before c.args.row t.count (t.head ∷ t.number ∷ c.read_word-value.result ∷ s.rest) s.read r.early c.loop-i-2.i (omega arith) (omega arith),
+      );
+    }
+
+pub loop-i-init : goal.loop-i-init
+loop-i-init c = let e = c.read_word-value.ensures in let t = c.args.top in record {
+  fits = fits_still c.requires.pass.0 e.same.same;
+  stays = e.same;
+  read = λ v h. record {
+    rest = [];
+    size = refl;
+    read = goes_on v c.args.row t.count (t.head ∷ t.number ∷ []) h (view c.read_word-value.new.pass) c.read_word-value.result e.view;
+    its = (λ is. record { first = λ i l. absurd (omega arith); past = λ i l. absurd (omega arith) }, λ is. refl);
+  };
+}
+
+pub loop-i-preserved : goal.loop-i-preserved
+loop-i-preserved c = let i = c.loop-i.invariant in let e = c.read_word-word.ensures in let t = c.args.top in let w = c.read_word-word.result in let text = c.args.text.now in record {
+  fits = fits_still i.fits e.same.same;
+  stays = stays_again i.stays e.same;
+  read = λ v h. let s = i.read v h in let size = s.size in let more = length-append s.rest (w ∷ []) in
+      let step : (n : ℕ) → n ≡ c.loop-i.i → IsTrue c.if-is_its.is_its ↔ (IsTrue c.loop-i.is_its × (w ≡ get_or text n 0)) = λ n same. elim c.if-is_its.branch [
+        | then-is_its b ↦ (
+          λ q. (b.if-is_its.true, subst (λ (k : ℕ). w ≡ get_or text k 0) (sym same) (eqb-true _ _ (sym b.is_its-is ∙ q))),
+          λ both. b.is_its-is ∙ eq-eqb _ _ (subst (λ (k : ℕ). w ≡ get_or text k 0) same both.1),
+        )
+        | else-is_its b ↦ (let no = b.if-is_its.false in let new = b.is_its-is in (λ q. absurd cc, λ both. let is = both.0 in absurd cc))
+      ] in record {
+        rest = s.rest ++ w ∷ [];
+        size = omega arith;
+        read = goes_on v c.args.row t.count (t.head ∷ t.number ∷ c.read_word-value.result ∷ s.rest) s.read (view c.read_word-word.new.pass) w e.view;
+        its = first_more text s.rest w (omega arith) s.its (step (length s.rest) size);
+      };
+}
+
+pub loop-i-2-preserved : goal.loop-i-2-preserved
+loop-i-2-preserved c = let i = c.loop-i-2.invariant in let e = c.read_word.ensures in let t = c.args.top in let w = c.read_word.result in let past = c.loop-i-2.past in record {
+  fits = fits_still i.fits e.same.same;
+  stays = stays_again i.stays e.same;
+  read = λ v h. let s = i.read v h in let size = s.size in let more = length-append s.rest (w ∷ []) in let begun = c.loop-i-2.auto.i in let left = le_or_l past w in let right = le_or_r past w in record {
+    rest = s.rest ++ w ∷ [];
+    size = omega arith;
+    read = goes_on v c.args.row t.count (t.head ∷ t.number ∷ c.read_word-value.result ∷ s.rest) s.read (view c.read_word.new.pass) w e.view;
+    its = past_more c.args.text.now s.rest w (omega arith) s.its (
+      λ q. let none = q.1 in ((q.0, omega arith), omega arith),
+      λ q. (q.0.0, ap₂ bit_or q.0.1 q.1 ∙ or_zero_l 0),
+    );
+  };
+}

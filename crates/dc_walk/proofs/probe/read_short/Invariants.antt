@@ -1,0 +1,23 @@
+use Rattle.std.proofs.Common.{◌≡◌, ◌-◌, IsTrue}
+use Rattle.dc_events.specs.Views.{View}
+use Rattle.dc_table.specs.Holders.{table_of}
+use Rattle.dc_table.specs.Passes.{view, Fits, StaysOut}
+use Rattle.dc_walk.specs.Probes.{ReadsTop}
+use Rattle.dc_walk.proofs.Shorts.{ReadsSome}
+use Rattle.dc_walk.proofs.probe.read_short.Given as goal
+
+-- the words so far were compared
+abbrev pub invariant-loop-i : goal.invariant-loop-i
+invariant-loop-i l = record {
+  fits : Fits (table_of l.fn.reader) l.pass;
+  stays : StaysOut l.fn.pass l.pass;
+  read : (v : View) → ReadsTop v (view l.fn.pass) l.fn.row l.fn.top → ReadsSome v (view l.pass) l.fn.row l.fn.top l.fn.text l.value l.i (IsTrue l.is_its);
+}
+
+-- and those past the text
+abbrev pub invariant-loop-i-2 : goal.invariant-loop-i-2
+invariant-loop-i-2 l = record {
+  fits : Fits (table_of l.fn.reader) l.pass;
+  stays : StaysOut l.fn.pass l.pass;
+  read : (v : View) → ReadsTop v (view l.fn.pass) l.fn.row l.fn.top → ReadsSome v (view l.pass) l.fn.row l.fn.top l.fn.text l.value (l.i - 4) (IsTrue l.is_its × (l.past ≡ 0));
+}
