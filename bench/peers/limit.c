@@ -2,7 +2,8 @@
  *
  * Word 0 is the clock, word 1 the lock, and row r has the words from 2 + 36r on: its count, its header (tag 1, the
  * length from bit 8, the kind from bit 24), the number of its directory, the target's number or 0, and the name in 32
- * words. A bucket has four rows. Each load and each store is sequentially consistent.
+ * words. The row of a link's text has tag 2, the link's number, a 0, and the text, which begins at the root. A bucket
+ * has four rows. Each load and each store is sequentially consistent.
  *
  * Behind the rows stands a table of all names, which is read and changed by who has the lock. A change makes the counts
  * of its names' rows odd, adds one to the clock, writes what the rows tell now, and makes the counts even. */
@@ -17,8 +18,9 @@
 #include <sys/syscall.h>
 #include <unistd.h>
 
-enum { BUCKETS = 1024, BUCKET_ROWS = 4, ROW = 36, NAME_WORDS = 32, MOST_NOTES = 256, ENTRY = 1, ROOT = 1 };
-enum { NONE, DIRECTORY, PLAIN_FILE };
+enum { BUCKETS = 1024, BUCKET_ROWS = 4, ROW = 36, NAME_WORDS = 32, MOST_NOTES = 256, ENTRY = 1, TEXT = 2, ROOT = 1 };
+enum { NONE, DIRECTORY, PLAIN_FILE, LINK };
+enum { MOST_LINKS = 40, TEXT_ROOM = 8 * NAME_WORDS, LINK_TEXTS = 1 << 13 };
 enum { HEADS = 1 << 17, WALKS = 8, TRIES = 20, MOST_DOUBLINGS = 9 };
 
 /* What a walk by rows finds: what the path leads to or that it leads nowhere, that a name has no row, or that a row
@@ -62,6 +64,8 @@ struct entry {
 };
 
 static struct entry *heads[HEADS];
+/* The text of each link, by its number. */
+static const char *texts[LINK_TEXTS];
 /* The row of each bucket that is given up next. */
 static unsigned char turns[BUCKETS];
 
@@ -114,6 +118,28 @@ static inline enum answer find(uint64_t number, uint64_t hash, const uint64_t na
     return counts % 2 ? DISTURBED : MISSED;
 }
 
+/* Reads the row of a link's text, as find reads that of a key. */
+static enum answer find_text(uint64_t number, char text[TEXT_ROOM], size_t *length, struct note *note)
+{
+    uint64_t counts = 0;
+    for (size_t i = 0; i < BUCKET_ROWS; i++) {
+        size_t row = row_of(hash_number(number), i);
+        uint64_t count = words[row];
+        uint64_t header = words[row + 1];
+        counts |= count;
+        if (count % 2 || (header & 0xff) != TEXT || words[row + 2] != number || words[row + 3])
+            continue;
+        uint64_t packed[NAME_WORDS];
+        for (size_t j = 0; j < NAME_WORDS; j++)
+            packed[j] = words[row + 4 + j];
+        memcpy(text, packed, TEXT_ROOM);
+        *length = header >> 8;
+        *note = (struct note){row, count};
+        return FOUND;
+    }
+    return counts % 2 ? DISTURBED : MISSED;
+}
+
 static int all_stand(const struct note *notes, size_t count)
 {
     for (size_t i = 0; i < count; i++)
@@ -122,10 +148,19 @@ static int all_stand(const struct note *notes, size_t count)
     return 1;
 }
 
-static enum answer walk(const char *path, size_t length)
+/* The notes of a walk, and how many links it followed. */
+struct walked {
+    struct note notes[MOST_NOTES];
+    size_t used, links;
+};
+
+static enum answer follow(struct walked *walked, struct told *told);
+
+/* Goes over a path from the root, and over the text of each link in place of the link. */
+static inline __attribute__((always_inline)) enum answer go_over(struct walked *walked, const char *path, size_t length,
+                                                                 struct told *found)
 {
-    static _Thread_local struct note notes[MOST_NOTES];
-    size_t used = 0, at = 0;
+    size_t used = walked->used, at = 0;
     struct told told = {ROOT, DIRECTORY};
     while (at < length && told.kind == DIRECTORY) {
         at += 1;
@@ -136,15 +171,51 @@ static enum answer walk(const char *path, size_t length)
         if (at - begin > 8 * NAME_WORDS || used == MOST_NOTES)
             return MISSED;
         pack(path + begin, at - begin, name);
-        enum answer answer = find(told.target, hash, name, at - begin, &told, &notes[used]);
+        enum answer answer = find(told.target, hash, name, at - begin, &told, &walked->notes[used]);
         if (answer != FOUND)
             return answer;
         used += 1;
+        if (told.kind != LINK)
+            continue;
+        struct told through = told;
+        walked->used = used;
+        answer = follow(walked, &through);
+        if (answer != FOUND)
+            return answer;
+        used = walked->used;
+        told = through;
     }
+    walked->used = used;
+    *found = at == length ? told : (struct told){0, NONE};
+    return FOUND;
+}
+
+/* Where the text of a link leads. */
+static __attribute__((noinline)) enum answer follow(struct walked *walked, struct told *told)
+{
+    char text[TEXT_ROOM];
+    size_t length;
+    if (walked->links++ == MOST_LINKS || walked->used == MOST_NOTES)
+        return MISSED;
+    enum answer answer = find_text(told->target, text, &length, &walked->notes[walked->used]);
+    if (answer != FOUND)
+        return answer;
+    walked->used += 1;
+    return go_over(walked, text, length, told);
+}
+
+static enum answer walk(const char *path, size_t length)
+{
+    static _Thread_local struct walked walked;
+    struct told told;
+    walked.used = walked.links = 0;
+    enum answer answer = go_over(&walked, path, length, &told);
+    if (answer != FOUND)
+        return answer;
     (void)atomic_load(&words[0]);
-    if (!all_stand(notes, used))
+    if (!all_stand(walked.notes, walked.used))
         return DISTURBED;
-    return told.kind != NONE && at == length ? FOUND : ABSENT;
+    return told.kind == NONE ? ABSENT : FOUND;
 }
 
 /* Takes the lock. Who finds it taken looks again after pauses that double, so that its holder has the word to itself,
@@ -250,8 +321,28 @@ static void fill(const struct key *key, struct told told)
     words[row]++;
 }
 
+/* Writes the row of a link's text, if it has none. */
+static void fill_text(uint64_t number)
+{
+    char old[TEXT_ROOM];
+    uint64_t text[NAME_WORDS];
+    size_t length = strlen(texts[number]), old_length;
+    struct note note;
+    if (length > TEXT_ROOM || find_text(number, old, &old_length, &note) == FOUND)
+        return;
+    size_t row = row_for(hash_number(number));
+    pack(texts[number], length, text);
+    words[row]++;
+    words[row + 1] = TEXT | (uint64_t)length << 8;
+    words[row + 2] = number;
+    words[row + 3] = 0;
+    for (size_t i = 0; i < NAME_WORDS; i++)
+        words[row + 4 + i] = text[i];
+    words[row]++;
+}
+
 /* Looks a path up in the table, and fills the rows that it wants. */
-static int look_held(const char *path)
+static struct told told_held(const char *path)
 {
     struct told told = {ROOT, DIRECTORY};
     while (*path && told.kind == DIRECTORY) {
@@ -259,8 +350,17 @@ static int look_held(const char *path)
         told = told_of(*link_of(&key));
         if (!row_with(&key))
             fill(&key, told);
+        if (told.kind == LINK) {
+            fill_text(told.target);
+            told = told_held(texts[told.target]);
+        }
     }
-    return !*path && told.kind != NONE;
+    return *path ? (struct told){0, NONE} : told;
+}
+
+static int look_held(const char *path)
+{
+    return told_held(path).kind != NONE;
 }
 
 int peer_look(const char *path, size_t length)
@@ -352,6 +452,16 @@ int peer_make(char kind, const char *path)
         change(&key, (struct told){next_number++, kind == 'd' ? DIRECTORY : PLAIN_FILE});
     give();
     return made;
+}
+
+int peer_link(const char *text, const char *path)
+{
+    struct key key;
+    if (next_number == LINK_TEXTS || !last_of(path, &key) || *link_of(&key))
+        return 0;
+    texts[next_number] = text;
+    set(&key, (struct told){next_number++, LINK});
+    return 1;
 }
 
 int peer_unlink(const char *path)

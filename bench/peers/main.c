@@ -1,6 +1,6 @@
 /* Times a peer's look-ups and changes, as `dcbench look` and `dcbench change` time those of the cache.
  *
- * usage: PEER read|absent|mixed|churn|change THREADS MILLISECONDS TREE
+ * usage: PEER read|absent|links|mixed|churn|change THREADS MILLISECONDS TREE
  *
  * TREE has the lines that `dcbench tree` writes. Each path that is asked is looked up once. Then each thread looks 64
  * of them up in a turn, in a random order, until the time is over. With `mixed` it renames a file of its own to and
@@ -18,9 +18,9 @@
 
 enum { TURN = 64, LEAST_ORDER = 16384, MOST_THREADS = 64, MOST_TURNS = 1000000, LONGEST = 4200, MOST_PAIRS = 50 };
 
-enum work { READ, ABSENT, MIXED, CHURN, CHANGE, WORKS };
+enum work { READ, ABSENT, LINKS, MIXED, CHURN, CHANGE, WORKS };
 
-static const char *const work_names[WORKS] = {"read", "absent", "mixed", "churn", "change"};
+static const char *const work_names[WORKS] = {"read", "absent", "links", "mixed", "churn", "change"};
 
 /* How many look-ups go before each change. */
 static const size_t looks_to_a_change[WORKS] = {[MIXED] = 19, [CHURN] = 1};
@@ -89,6 +89,19 @@ static void ask(const char *text, const char *ending)
     asked[asked_count++] = (struct path){copy, strlen(copy)};
 }
 
+/* Makes what a line of the tree names, and answers whether it could: `l TEXT PATH` is a link. */
+static int make(const char *line)
+{
+    const char *path = strrchr(line, ' ');
+    if (line[0] == 'l' && peer_link && path > line + 1) {
+        char *text = with(line + 2, "");
+        text[path - line - 2] = 0;
+        return peer_link(with("/", text), with(path + 1, ""));
+    }
+    return strchr("dcf", line[0]) && peer_make(line[0] == 'd' ? 'd' : 'f', with(line + 2, ""));
+}
+
+/* Reads the tree. Files of lines with an f are asked, and the paths of lines with a p. */
 static void read_tree(const char *name)
 {
     static char line[2 * LONGEST];
@@ -97,9 +110,9 @@ static void read_tree(const char *name)
         give_up("the tree can't be read");
     while (fgets(line, sizeof line, file)) {
         line[strcspn(line, "\n")] = 0;
-        if (strlen(line) < 3 || !strchr("dcf", line[0]) || !peer_make(line[0] == 'd' ? 'd' : 'f', with(line + 2, "")))
+        if (strlen(line) < 3 || (line[0] != 'p' && !make(line)))
             give_up("a line of the tree is refused");
-        if (line[0] == 'f')
+        if (line[0] == 'f' || line[0] == 'p')
             ask(line + 2, kind == ABSENT ? ".no" : "");
     }
     fclose(file);
@@ -259,7 +272,7 @@ int main(int count, char **words)
 {
     static struct worker workers[MOST_THREADS];
     if (!read_words(count, words)) {
-        fprintf(stderr, "usage: %s read|absent|mixed|churn|change THREADS MILLISECONDS TREE\n", peer_name);
+        fprintf(stderr, "usage: %s read|absent|links|mixed|churn|change THREADS MILLISECONDS TREE\n", peer_name);
         return 2;
     }
     peer_begin();

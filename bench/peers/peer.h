@@ -17,6 +17,10 @@ void peer_leave(void);
 /* Makes a directory ('d') or a file ('f'), and answers whether it could. */
 int peer_make(char kind, const char *path);
 
+/* Makes a link with a text, which stays where it is too, and answers whether it could. Only a peer that follows links
+ * has it. */
+int peer_link(const char *text, const char *path) __attribute__((weak));
+
 /* Renames a file to a name that is absent, and unlinks one. They answer whether they could. */
 int peer_rename(const char *old, const char *new);
 int peer_unlink(const char *path);
