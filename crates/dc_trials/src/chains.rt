@@ -1,0 +1,155 @@
+//! The longest chain of links that is followed, and the longest name and text that a row has room for.
+
+ghost use Rattle.dc_cache.specs.Passes.{Fits};
+ghost use Rattle.std.specs.Prelude.{◌<◌};
+ghost use Rattle.std.specs.Thread.{IsSync};
+
+use crate::answers::{is_made, symlink};
+use crate::steps::{Act, Step, play};
+use dc_cache::{Dcache, Follow, Kind, Pass, Reply, Why};
+use dc_names::{MOST_LINKS, NAME_MAX};
+use std::alloc::Global;
+use std::sync::Wait;
+use std::test::Fail;
+use std::thread;
+use std::thread::{Builder, Threads};
+
+/// How many links the chain has.
+const LINKS: u8 = MOST_LINKS as u8;
+
+/// The point after the chain and two directories are made.
+const MADE: u64 = 2 + MOST_LINKS;
+
+/// The path of a link of the chain, or of the directory that it ends in.
+fn path_of(number: u8) -> [u8; 4]
+    requires { number < 100 }
+{
+    [b'/', b'l', b'0' + number / 10, b'0' + number % 10]
+}
+
+/// A text that leads this way to a name of the chain: as many bytes as a row has room for.
+fn text_to(way: [u8; 5], number: u8) -> [u8; NAME_MAX]
+    requires { number < 100 }
+{
+    let mut text = [b'/'; NAME_MAX];
+    text[..5].copy_from_slice(&way);
+    text[NAME_MAX - 4..].copy_from_slice(&path_of(number));
+    text
+}
+
+/// Makes a link of the chain, and says whether it was made.
+fn is_linked<R: Wait>(
+    rt: &R,
+    alloc: Global,
+    cache: &Dcache,
+    pass: &mut Pass,
+    way: [u8; 5],
+    number: u8,
+) -> bool
+    requires pass { Fits cache.now pass.old }
+    requires few { number < 99 }
+    ensures { Fits cache.now pass.new }
+{
+    let (text, path) = (text_to(way, number + 1), path_of(number));
+    let made = cache.change(rt, alloc, pass, &symlink(&text, &path));
+    let before = 2 + u64::from(number);
+    is_made(&made, &Reply::Done(before + 2), before)
+}
+
+/// Makes each link of the chain, and says whether each was made.
+fn is_chained<R: Wait>(rt: &R, alloc: Global, cache: &Dcache, pass: &mut Pass, way: [u8; 5]) -> bool
+    requires { Fits cache.now pass.old }
+    ensures { Fits cache.now pass.new }
+{
+    let mut all = true;
+    for number in 0..LINKS {
+        all &= is_linked(rt, alloc, cache, pass, way, number);
+    }
+    all
+}
+
+/// Looks the end of the chain up, and what is above it, by each kind of walk.
+fn look<R: Wait>(rt: &R, alloc: Global, cache: &Dcache, pass: &mut Pass) -> Option<usize>
+    requires { Fits cache.now pass.old }
+    ensures { Fits cache.now pass.new }
+{
+    let end = || Reply::Found(3, Kind::Dir);
+    let above = || Reply::Found(1, Kind::Dir);
+    let steps = [
+        Step::Stat(b"/l00", Reply::Stat(3, Kind::Dir, 0), MADE),
+        Step::Again(b"/l00", Why::Miss(0)),
+        Step::Look(b"/l00", Follow::Yes, end(), MADE),
+        Step::Fast(b"/l00", end(), MADE),
+        Step::Counted(b"/l00", end(), MADE),
+        Step::Look(b"/l00/..", Follow::Yes, above(), MADE),
+        Step::Fast(b"/l00/..", above(), MADE),
+    ];
+    play(rt, alloc, cache, pass, &steps)
+}
+
+/// The same in a thread with the smallest stack that there is, or `None` where none can be started.
+fn look_in_a_thread<R: Threads + Wait + Sync>(
+    rt: &R,
+    alloc: Global,
+    cache: &Dcache,
+    pass: &mut Pass,
+) -> Option<Option<usize>>
+    requires pass { Fits cache.now pass.old }
+    requires sync { IsSync R.row }
+{
+    thread::scope(
+        thread::scope_env(),
+        rt,
+        move |scope| -> Option<Option<usize>>
+            requires { IsSync R.row × Fits cache.now pass.now }
+        {
+            let started = Builder::new().stack_size(1).spawn_scoped(
+                scope,
+                move || -> Option<usize>
+                    requires { Fits cache.now pass.now }
+                { look(rt, alloc, cache, pass) },
+            );
+            Some(started.ok()?.join(rt))
+        },
+    )
+}
+
+/// As many texts are gone over one within another as links are followed, and each is a local of its call.
+/// They lead on in the directory of the links, or through one beside them.
+// `rt try` doesn't optimise, so under it the walks by rows run out of this stack of 128 KiB (256 are enough).
+// As `rt test` and `rt ci` build this test, they need 48 (measured).
+#[test]
+fn the_longest_chain_fits_on_the_smallest_stack(rt: HostRuntime) -> Result<(), Fail> {
+    let alloc = rt.alloc();
+    for way in [*b"././/", *b"d/../"] {
+        let (cache, mut pass) = Dcache::new(alloc, 1024, 64).expect(&rt, "memory");
+        let steps = [
+            Step::Change(Act::Mkdir(b"/d"), Reply::Done(2), 0),
+            Step::Change(Act::Mkdir(b"/l40"), Reply::Done(3), 1),
+        ];
+        assert_eq!(rt; play(&rt, alloc, &cache, &mut pass, &steps), None);
+        assert!(rt; is_chained(&rt, alloc, &cache, &mut pass, way));
+        assert_eq!(rt; look_in_a_thread(&rt, alloc, &cache, &mut pass), Some(None));
+    }
+    Ok(())
+}
+
+/// The longest name stands in a row, and so does a link's text as long, which is that name here.
+#[test]
+fn the_longest_name_and_text_stand_in_rows(rt: HostRuntime) -> Result<(), Fail> {
+    let (cache, mut pass) = Dcache::new(rt.alloc(), 256, 16).expect(&rt, "memory");
+    let mut path = [b'n'; NAME_MAX + 1];
+    path[0] = b'/';
+    let path = path.as_slice();
+    let file = || Reply::Found(2, Kind::File);
+    let steps = [
+        Step::Change(Act::Create(path), Reply::Done(2), 0),
+        Step::Change(Act::Symlink(&path[1..], b"/t"), Reply::Done(3), 1),
+        Step::Look(path, Follow::Yes, file(), 2),
+        Step::Fast(path, file(), 2),
+        Step::Look(b"/t", Follow::Yes, file(), 2),
+        Step::Fast(b"/t", file(), 2),
+    ];
+    assert_eq!(rt; play(&rt, rt.alloc(), &cache, &mut pass, &steps), None);
+    Ok(())
+}
