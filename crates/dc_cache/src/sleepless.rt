@@ -125,12 +125,16 @@ impl Sleepless {
     }
 
     /// Where a path leads, by the rows of the cache alone, as `look_fast`, of a text that may be no path:
-    /// then it is refused, by one load of the clock.
+    /// then it is refused, by one load of the clock. `Again` says why the rows don't answer for a path.
     #[must_use]
     pub fn look_text(&self, pass: &mut Pass, base: u64, path: &[u8], follow: Follow) -> Fast
         requires pass { FitsSleepless self.now pass.old }
         ensures same { FitsSleepless self.now pass.new × (share pass.new ≡ share pass.old) }
         ensures answered { IfFast pass.old pass.new (Look base path.now follow) result }
+        ensures keeps { IfAgain result (Keeps base path.now follow (buckets_of pass.old)
+            (view pass.old) (view pass.new) result) }
+        ensures untried { HasNotTried (known pass.old) (known pass.new) }
+        ensures loads { (view pass.new).loads ≤ (view pass.old).loads + MOST_LOADS }
     {
         match parse(path) {
             Ok(text) => match self.look_fast(pass, base, text, follow) {

@@ -1,16 +1,18 @@
 //! What the calls that never wait do. Each tries for the lock once, and wakes nobody: who calls them on a
 //! table on which passes wait does that afterwards.
 
-ghost use Rattle.std.specs.Prelude.{◌≡◌, ◌≤◌, Some, IfSome, IfNone};
+ghost use Rattle.std.specs.Prelude.{◌≡◌, ◌+◌, ◌≤◌, Some, IfSome, IfNone};
 ghost use Rattle.dc_cache.specs.Answers.{Answered, Made, Told};
 ghost use Rattle.dc_cache.specs.Losses.{if_made, parted, TakesAway};
-ghost use Rattle.dc_cache.specs.Passes.{view, share, FitsTable, Missed, Shrinks};
+ghost use Rattle.dc_cache.specs.Passes.{known, view, share, FitsTable, Missed, Shrinks};
 ghost use Rattle.dc_events.specs.Rows.{most};
 ghost use Rattle.dc_names.specs.Paths.{fault_of};
 ghost use Rattle.dc_ops.specs.Asked.{IsChange, IsSought, IsToldAtLength};
 ghost use Rattle.dc_plain.specs.Requests.{request_of};
 ghost use Rattle.dc_plain.specs.Requests.Request.{Look};
 ghost use Rattle.dc_table.specs.Changes.{NothingNew};
+ghost use Rattle.dc_table.specs.Shares.{HasNotTried};
+ghost use Rattle.dc_walk.specs.declared.TheConstants.{MOST_LOADS};
 
 use crate::cache::Pass;
 use crate::gone::{Gone, going};
@@ -34,6 +36,8 @@ pub(crate) fn refuse(
     requires fault { fault_of path.now ≡ Some fault }
     ensures same { FitsTable shared.now pass.new × (share pass.new ≡ share pass.old) }
     ensures answered { Answered pass.old pass.new (Look base path.now follow) result }
+    ensures untried { HasNotTried (known pass.old) (known pass.new) }
+    ensures loads { (view pass.new).loads ≤ (view pass.old).loads + MOST_LOADS }
 {
     let call = Call::Look { base, path, follow };
     let at = shared.reader().pivot(&mut pass.seat, &call, true);

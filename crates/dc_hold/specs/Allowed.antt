@@ -1,13 +1,14 @@
 -- What each call of a hold may come to, from its pass before to its pass after.
-use Rattle.std.specs.Prelude.{◌≡◌, ◌↔◌, ℕ, ◌-◌, ◌*◌, ◌^◌, ◌≤◌, ◌++◌, min, length, take, drop, Bool, true, List, Option, Some, None, Result, Ok, Err, MatchOption}
+use Rattle.std.specs.Prelude.{◌≡◌, ◌↔◌, ℕ, ◌+◌, ◌-◌, ◌*◌, ◌^◌, ◌≤◌, ◌++◌, min, length, take, drop, Bool, true, List, Option, Some, Result, Ok, MatchOption}
 use Rattle.dc_names.specs.Tables.{fit_a_table}
 use Rattle.dc_names.specs.declared.NoMemory.{NoMemory}
 use Rattle.dc_names.specs.declared.limits.TheConstants.{BUCKET_ROWS}
 use Rattle.dc_plain.specs.declared.call.Reply.{Reply}
 use Rattle.dc_plain.specs.declared.call.Reply.TheVariants as replies
 use Rattle.dc_table.specs.Changes.{NothingNew}
-use Rattle.dc_table.specs.Shares.{first_known, kept_half, new_half}
+use Rattle.dc_table.specs.Shares.{first_known, kept_half, new_half, HasNotTried}
 use Rattle.dc_rows.specs.declared.fault.ChangeFault.{ChangeFault}
+use Rattle.dc_walk.specs.declared.TheConstants.{MOST_LOADS}
 use Rattle.dc_walk.specs.declared.answer.Fast as walk
 use Rattle.dc_cache.specs.Answers.{Answered, IfFast, Loaded, Made, Told}
 use Rattle.dc_cache.specs.Calls.{Request, Stamped}
@@ -28,12 +29,14 @@ pub record IsSplit (p q other : Pass) : Type 0 where
   pub kept : known q ≡ kept_half (known p)
   pub cut : known other ≡ new_half (known p)
 
--- a look-up by the rows alone
+-- a look-up by the rows alone, which doesn't try for the lock, and makes so many loads at most
 abbrev pub Fast : Type 0
 Fast = walk.Fast
 
-abbrev pub MayFind : Request → Pass → Pass → Fast → Type 0
-MayFind call p q fast = IfFast p q call fast
+pub record MayFind (call : Request) (p q : Pass) (fast : Fast) : Type 0 where
+  pub answered : IfFast p q call fast
+  pub untried : HasNotTried (known p) (known q)
+  pub loads : (view q).loads ≤ (view p).loads + MOST_LOADS
 
 -- a look-up that may ask the tree
 abbrev pub MayLook : Request → Pass → Pass → Option Stamped → Type 0

@@ -11,7 +11,6 @@ use Rattle.dc_cache.specs.declared.gone.Gone.{Gone}
 use Rattle.dc_hold.specs.Numbers.{kind_number, why_number, status_of_fault}
 use Rattle.dc_hold.specs.declared.status.Status.{Status}
 use Rattle.dc_hold.specs.declared.status.Status.TheVariants as statuses
-use Rattle.dc_hold.specs.declared.told.Found.{Found}
 use Rattle.dc_hold.specs.declared.told.Lost.{Lost}
 use Rattle.dc_hold.specs.declared.told.Told.{Told}
 
