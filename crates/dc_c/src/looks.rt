@@ -60,7 +60,7 @@ pub extern "C" fn gb_look_fast(
 ) -> i32
     ensures looks { MatchOption (follow_by follow)
         (Refuses Found BadArgument pass.old pass.new result found.old found.new)
-        (λ how. LooksFast (look base path.now how) pass.old pass.new result found.old found.new) }
+        (λ how. LooksFast base path.now how pass.old pass.new result found.old found.new) }
 {
     let Some(follow) = follow_of(follow) else {
         return Status::BadArgument.number();

@@ -3,17 +3,19 @@ use Rattle.std.specs.Prelude.{◌≡◌, ◌↔◌, ℕ, ◌+◌, ◌-◌, ◌*�
 use Rattle.dc_names.specs.Tables.{fit_a_table}
 use Rattle.dc_names.specs.declared.NoMemory.{NoMemory}
 use Rattle.dc_names.specs.declared.limits.TheConstants.{BUCKET_ROWS}
+use Rattle.dc_plain.specs.declared.call.Follow.{Follow}
 use Rattle.dc_plain.specs.declared.call.Reply.{Reply}
 use Rattle.dc_plain.specs.declared.call.Reply.TheVariants as replies
 use Rattle.dc_table.specs.Changes.{NothingNew}
 use Rattle.dc_table.specs.Shares.{first_known, kept_half, new_half, HasNotTried}
 use Rattle.dc_rows.specs.declared.fault.ChangeFault.{ChangeFault}
+use Rattle.dc_walk.specs.Fasts.{Keeps, IfAgain}
 use Rattle.dc_walk.specs.declared.TheConstants.{MOST_LOADS}
 use Rattle.dc_walk.specs.declared.answer.Fast as walk
 use Rattle.dc_cache.specs.Answers.{Answered, IfFast, Loaded, Made, Told}
-use Rattle.dc_cache.specs.Calls.{Request, Stamped}
+use Rattle.dc_cache.specs.Calls.{Request, Stamped, look}
 use Rattle.dc_cache.specs.Losses.{TakesAway}
-use Rattle.dc_cache.specs.Passes.{known, view, Missed, SameCache, Shrinks}
+use Rattle.dc_cache.specs.Passes.{buckets_of, known, view, Missed, SameCache, Shrinks}
 use Rattle.dc_cache.specs.declared.cache.Pass.{Pass}
 use Rattle.dc_cache.specs.declared.gone.Gone as cache
 use Rattle.dc_hold.specs.Numbers.{bytes_of}
@@ -29,12 +31,17 @@ pub record IsSplit (p q other : Pass) : Type 0 where
   pub kept : known q ≡ kept_half (known p)
   pub cut : known other ≡ new_half (known p)
 
--- a look-up by the rows alone, which doesn't try for the lock, and makes so many loads at most
+-- what becomes of a link at a path's end
+abbrev pub How : Type 0
+How = Follow
+
+-- a look-up by the rows alone: it doesn't try for the lock, makes so many loads at most, and gives up for a cause that it met
 abbrev pub Fast : Type 0
 Fast = walk.Fast
 
-pub record MayFind (call : Request) (p q : Pass) (fast : Fast) : Type 0 where
-  pub answered : IfFast p q call fast
+pub record MayFind (base : ℕ) (path : List ℕ) (how : How) (p q : Pass) (fast : Fast) : Type 0 where
+  pub answered : IfFast p q (look base path how) fast
+  pub keeps : IfAgain fast (Keeps base path how (buckets_of p) (view p) (view q) fast)
   pub untried : HasNotTried (known p) (known q)
   pub loads : (view q).loads ≤ (view p).loads + MOST_LOADS
 

@@ -5,12 +5,11 @@ ghost use Rattle.std.specs.Arc.{arc_value};
 ghost use Rattle.dc_cache.specs.Answers.{Answered, Loaded, Made, Told};
 ghost use Rattle.dc_cache.specs.Calls.{look, stat, readlink, list, request_of};
 ghost use Rattle.dc_cache.specs.Losses.{TakesAway};
-ghost use Rattle.dc_cache.specs.Passes.{buckets_of, view, FitsSleepless, IsChange, Missed, Shrinks};
+ghost use Rattle.dc_cache.specs.Passes.{view, FitsSleepless, IsChange, Missed, Shrinks};
 ghost use Rattle.dc_hold.specs.Allowed.{IsFirst, IsSplit, MayFind};
 ghost use Rattle.dc_hold.specs.Fitting.{fits_prop};
 ghost use Rattle.dc_hold.specs.Numbers.{status_of_sizes};
 ghost use Rattle.dc_table.specs.Changes.{NothingNew};
-ghost use Rattle.dc_walk.specs.Fasts.{Keeps, IfAgain};
 
 use crate::status::Status;
 use dc_cache::{Call, ChangeFault, Fast, Follow, Gone, NoMemory, NotYet, Pass, Sleepless, Stamped};
@@ -89,9 +88,7 @@ impl Hold {
     /// Where a path leads, by the rows alone, as `Sleepless::look_text`.
     #[must_use]
     pub fn look_fast(&mut self, base: u64, path: &[u8], follow: Follow) -> Fast
-        ensures answered { MayFind (look base path.now follow) self.old.pass self.new.pass result }
-        ensures keeps { IfAgain result (Keeps base path.now follow (buckets_of self.old.pass)
-            (view self.old.pass) (view self.new.pass) result) }
+        ensures answered { MayFind base path.now follow self.old.pass self.new.pass result }
     {
         self.common
             .cache
