@@ -241,8 +241,9 @@ struct gb_gate {
     void (*wake)(struct gb_gate *gate);
 };
 
-/* How often a call is tried with pauses in between, and then with yields, before its thread sleeps. */
-enum { GB_PAUSES = 64, GB_YIELDS = 16 };
+/* How often a call is tried with pauses in between, and then with yields, before its thread sleeps. The pauses begin
+ * with so many, and double so often: a try takes the lock's cache line from its holder, who then waits for it. */
+enum { GB_PAUSES = 20, GB_YIELDS = 16, GB_FIRST_PAUSES = 64, GB_DOUBLINGS = 5 };
 
 static inline void gb_pause(void)
 {
@@ -251,6 +252,14 @@ static inline void gb_pause(void)
 #elif defined(__aarch64__)
     __asm__ volatile("yield");
 #endif
+}
+
+/* The pauses after a try, so many of which were refused before. */
+static inline void gb_pause_for(uint32_t refused)
+{
+    uint32_t doublings = refused < GB_DOUBLINGS ? refused : (uint32_t)GB_DOUBLINGS;
+    for (uint32_t i = 0; i < (uint32_t)GB_FIRST_PAUSES << doublings; i++)
+        gb_pause();
 }
 
 /* Wakes a sleeper, if there is one. For whoever has just given the lock back. */
@@ -388,7 +397,7 @@ static inline int gb_turn_again(struct gb_turn *turn, int answer)
     if (turn->tries < GB_PAUSES + GB_YIELDS)
         turn->tries++;
     if (turn->tries <= GB_PAUSES)
-        gb_pause();
+        gb_pause_for(turn->tries - 1);
     else if (turn->tries < GB_PAUSES + GB_YIELDS)
         gb_yield();
     else {
