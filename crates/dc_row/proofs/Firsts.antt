@@ -1,17 +1,18 @@
 -- A row by its first words.
 use Rattle.std.proofs.Common.{◌≡◌, ℕ, ◌+◌, ◌-◌, ◌/◌, ◌%◌, ◌<◌, ◌≤◌, List, ◌++◌, min, length, length-take-le, length-append, get_or, take, replicate, Option, Some, inl, inr, ap, sym, ◌∙◌, arith}
 use Rattle.std.proofs.lemmas.Bool.{cases_lt}
-use Rattle.std.proofs.lemmas.List.{get_or_append_left, get_or-append_right, get_or-replicate, get_or-take, length-replicate}
+use Rattle.std.proofs.lemmas.List.{get_or_append_left, get_or-append_right, get_or-replicate, get_or_past, get_or-take, length-replicate}
 use Rattle.std.proofs.Math.Nat.{min-eq_left}
 use Rattle.dc_plain.specs.Facts.{Label, Target}
 use Rattle.dc_plain.specs.Facts.Fact.{Leads}
 use Rattle.dc_row.specs.Narrow.{told_words, widened, words_for, RowsEndInZeros}
 use Rattle.dc_row.specs.Decoding.{target_by}
-use Rattle.dc_row.specs.Spelling.{fields_of, kind_code, target_number, Spells}
+use Rattle.dc_row.specs.Spelling.{fields_of, kind_code, target_number, Fields, IsSpelled, Spells}
 use Rattle.dc_row.specs.declared.TheConstants.{ROW_WORDS}
 use Rattle.dc_row.specs.declared.layout.TheConstants.{KIND_UNIT, TAGS}
 use Rattle.dc_row.proofs.Compared.{all_same}
 use Rattle.dc_row.proofs.Decoded.{kind_is, target_so}
+use Rattle.dc_row.proofs.Packed.{get_or-padded}
 use Rattle.dc_row.proofs.Read.{length_is, text_fits}
 use Rattle.dc_row.proofs.Written.{word_at-text, word_past}
 
@@ -40,13 +41,35 @@ ends_in_zeros words fact s =
       zeros = narrow words (told_words words) (omega arith) s.size (λ i late few. s.spelled i (omega arith) few ∙ word_at-text f i (omega arith) ∙ word_past f.text (i - 4) (omega arith));
     }
 
--- a word of a row is that of its first words, where these have it
-first_word : (words : List ℕ) (i : ℕ) → i < length words → get_or (widened words) i 0 ≡ get_or words i 0
-first_word words i l = get_or_append_left words (replicate (ROW_WORDS - length words) 0) 0 i l
+-- a word of a row is that of its first words, or zero past them
+pub wide_word : (words : List ℕ) (i : ℕ) → get_or (widened words) i 0 ≡ get_or words i 0
+wide_word words i = get_or-padded words (ROW_WORDS - length words) i
+
+pub wide_size : (words : List ℕ) → length words ≤ ROW_WORDS → length (widened words) ≡ ROW_WORDS
+wide_size words few = length-append words (replicate (ROW_WORDS - length words) 0) ∙ (ap (λ (m : ℕ). length words + m) (length-replicate (ROW_WORDS - length words) 0) ∙ omega arith)
+
+-- words that are zero from a place on, to their end
+pub zero_from : (words : List ℕ) (from : ℕ) → ((i : ℕ) → from ≤ i → i < length words → get_or words i 0 ≡ 0) → (i : ℕ) → from ≤ i → get_or words i 0 ≡ 0
+zero_from words from zeros i late = elim (cases_lt i (length words)) [ inl l ↦ zeros i late l | inr past ↦ get_or_past words i 0 past ]
+
+-- a whole row is its first words
+pub whole : (words : List ℕ) → length words ≡ ROW_WORDS → widened words ≡ words
+whole words size = all_same (widened words) words (wide_size words (omega arith) ∙ sym size) (λ k h. wide_word words k)
+
+pub wide_spelled : (words : List ℕ) (f : Fields) → IsSpelled words f → IsSpelled (widened words) f
+wide_spelled words f is i pos lt = wide_word words i ∙ is i pos lt
+
+pub narrow_spelled : (words : List ℕ) (f : Fields) → IsSpelled (widened words) f → IsSpelled words f
+narrow_spelled words f is i pos lt = sym (wide_word words i) ∙ is i pos lt
+
+-- the kind and the value of an entry
+pub wide_kind : (words : List ℕ) {kind d : ℕ} {label : Label} {target : Option Target} → kind ≡ get_or words 1 0 / KIND_UNIT % TAGS → Spells (widened words) (Some (Leads d label target)) → kind ≡ kind_code target
+wide_kind words is s = is ∙ (ap (λ (w : ℕ). w / KIND_UNIT % TAGS) (sym (wide_word words 1)) ∙ kind_is s)
+
+pub wide_value : (words : List ℕ) {value d : ℕ} {label : Label} {target : Option Target} → value ≡ get_or words 3 0 → Spells (widened words) (Some (Leads d label target)) → value ≡ target_number target
+wide_value words is s = is ∙ (sym (wide_word words 3) ∙ s.spelled 3 (omega arith) (omega arith))
 
 -- an entry leads where the first four words say
 pub narrow_target : (words : List ℕ) (kind value : ℕ) → kind ≡ get_or words 1 0 / KIND_UNIT % TAGS → value ≡ get_or words 3 0 → 4 ≤ length words → (d : ℕ) (label : Label) (target : Option Target) → Spells (widened words) (Some (Leads d label target)) → target_by kind value ≡ target
 narrow_target words kind value kind_so value_so long d label target s =
-    let is : kind ≡ kind_code target = kind_so ∙ (ap (λ (w : ℕ). w / KIND_UNIT % TAGS) (sym (first_word words 1 (omega arith))) ∙ kind_is s) in
-    let leads : value ≡ target_number target = value_so ∙ (sym (first_word words 3 (omega arith)) ∙ s.spelled 3 (omega arith) (omega arith)) in
-    (λ i. target_by (is i) (leads i)) ∙ target_so target
+    (λ i. target_by (wide_kind words kind_so s i) (wide_value words value_so s i)) ∙ target_so target

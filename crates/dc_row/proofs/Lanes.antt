@@ -2,7 +2,7 @@
 use Rattle.std.proofs.Common.{◌≡◌, ◌≢◌, ◌↔◌, ℕ, zero, suc, ◌+◌, ◌-◌, ◌/◌, ◌%◌, ◌^◌, ◌<◌, ◌≤◌, List, [], ◌∷◌, cond, eqb, length, get_or, map, refl, ap, ◌∙◌, arith}
 use Rattle.std.specs.Int.{bytes_low_first}
 use Rattle.std.specs.Simd.Lanes.{mask_l}
-use Rattle.std.proofs.Math.Nat.{pow-suc, pow-le-pow_right}
+use Rattle.std.proofs.Math.Nat.{pow-suc, pow-le-pow_right, zero-div}
 use Rattle.std.proofs.lemmas.Bool.{ne_eqb}
 use Rattle.dc_names.specs.Words.{bytes_in}
 use Rattle.dc_row.specs.Decoding.{HasBytes}
@@ -23,6 +23,11 @@ bytes_size word = refl
 pub byte_small : (word i : ℕ) → get_or (bytes_in word) (i % 8) 0 < 256
 unfolding bytes_in
 byte_small word i = let at = byte_low_first 0 8 word (i % 8) (omega arith) in omega (arith, at)
+
+-- and those of zero are zero
+pub zero_byte : (i : ℕ) → get_or (bytes_in 0) (i % 8) 0 ≡ 0
+unfolding bytes_in
+zero_byte i = byte_low_first 0 8 0 (i % 8) (omega arith) ∙ ap (λ (n : ℕ). n % 256) (zero-div (256 ^ (0 + i % 8)))
 
 -- the bits of the zeros among some bytes
 abbrev pub zeros : List ℕ → ℕ

@@ -4,20 +4,21 @@ use Rattle.std.specs.Int.{sum_through, byte_worth}
 use Rattle.std.proofs.lemmas.Bool.{and_from, cases_eq, cases_lt, ne_eqb, not_from_false}
 use Rattle.std.proofs.lemmas.Bool.Decides.{nat_tests}
 use Rattle.std.proofs.lemmas.Grind.{common_steps}
-use Rattle.std.proofs.lemmas.List.{get_or_append_left, get_or-append_right, get_or_past}
+use Rattle.std.proofs.lemmas.List.{get_or_append_left, get_or-append_right, get_or-drop, get_or_past}
 use Rattle.std.proofs.lemmas.Nat.{from_le_bytes-to_le_bytes_8}
 use Rattle.dc_names.specs.Laws.{NoPieceIsLonger}
 use Rattle.dc_names.specs.Words.{AreBytes, word_of, bytes_in}
 use Rattle.dc_plain.specs.Facts.{Fact}
 use Rattle.dc_plain.specs.Facts.Fact.{Reads}
 use Rattle.dc_row.specs.Decoding.{EndsAt, HasBytes, IsRoomOf, byte_in, bytes_from}
+use Rattle.dc_row.specs.Narrow.{widened}
 use Rattle.dc_row.specs.Rooms.{padded}
 use Rattle.dc_row.specs.Spelling.{Spells, SpellsText, IsSpelled, fields, fields_of, is_path, text_word, word_at}
 use Rattle.dc_row.specs.declared.TheConstants.{ROW_WORDS, ROW_TEXT, ROW_ROOM}
 use Rattle.dc_row.proofs.Compared.{all_same}
 use Rattle.dc_row.proofs.Decoded.{byte_so}
 use Rattle.dc_row.proofs.Packed.{get_or-padded}
-use Rattle.dc_row.proofs.Lanes.{byte_small, bytes_size}
+use Rattle.dc_row.proofs.Lanes.{byte_small, bytes_size, zero_byte}
 use Rattle.dc_row.proofs.Paths.{path_from, path_parts}
 use Rattle.dc_row.proofs.Read.{both, front_is, head_is, part_at, part_short, text_fits}
 use Rattle.dc_row.proofs.Written.{word_at-text}
@@ -61,6 +62,31 @@ one_more_word words room part past i late is fits before k lt =
           let byte : k - at ≡ k % 8 = omega arith in
           get_or-append_right (take at room) (part ++ past) at k 0 size here ∙ get_or_append_left part past 0 (k - at) (omega arith) ∙ ap (λ (bs : List ℕ). get_or bs (k - at) 0) is ∙ (λ j. get_or (bytes_in (get_or words (word j) 0)) (byte j) 0)
     ]
+
+-- the room behind it stays empty
+pub still_empty : (words room part : List ℕ) (i m : ℕ) → 4 ≤ i → part ≡ bytes_in (get_or words i 0) → 8 * (i - 4) ≤ length room → ((k : ℕ) → 8 * (i - 4) ≤ k → get_or room k 0 ≡ 0) → (k : ℕ) → 8 * (i + 1 - 4) ≤ k → get_or (take (8 * (i - 4)) room ++ (part ++ drop m (drop (8 * (i - 4)) room))) k 0 ≡ 0
+still_empty words room part i m late is fits none k past =
+    let at = 8 * (i - 4) in
+    let size : length (take at room) ≡ at = length-take-le at room fits in
+    let eight : length part ≡ 8 = ap length is ∙ bytes_size (get_or words i 0) in
+    get_or-append_right (take at room) (part ++ drop m (drop at room)) at k 0 size (omega arith) ∙ get_or-append_right part (drop m (drop at room)) 8 (k - at) 0 eight (omega arith) ∙ get_or-drop m (drop at room) (k - at - 8) 0 ∙ get_or-drop at room (m + (k - at - 8)) 0 ∙ none (at + (m + (k - at - 8))) (omega arith)
+
+-- past the words there are no bytes
+pub byte_past : (words : List ℕ) (i : ℕ) → 4 ≤ length words → 8 * (length words - 4) ≤ i → byte_in words i ≡ 0
+byte_past words i long past = ap (λ (w : ℕ). get_or (bytes_in w) (i % 8) 0) (get_or_past words (4 + i / 8) 0 (omega arith)) ∙ zero_byte i
+
+-- a row has the bytes of its first words
+pub wide_byte : (words : List ℕ) (i : ℕ) → byte_in (widened words) i ≡ byte_in words i
+wide_byte words i = ap (λ (w : ℕ). get_or (bytes_in w) (i % 8) 0) (get_or-padded words (ROW_WORDS - length words) (4 + i / 8))
+
+pub wide_room : {words room : List ℕ} → IsRoomOf words room → IsRoomOf (widened words) room
+wide_room {words} r = record { size = r.size; bytes = λ i within. r.bytes i within ∙ sym (wide_byte words i) }
+
+pub wide_ends : (words : List ℕ) (len : ℕ) → EndsAt words len → EndsAt (widened words) len
+wide_ends words len ends i within = subst (λ (b : ℕ). (i < len) ↔ (b ≢ 0)) (sym (wide_byte words i)) (ends i within)
+
+pub narrow_ends : (words : List ℕ) (len : ℕ) → EndsAt (widened words) len → EndsAt words len
+narrow_ends words len ends i within = subst (λ (b : ℕ). (i < len) ↔ (b ≢ 0)) (wide_byte words i) (ends i within)
 
 -- the part of a text in one word
 pub word_ends : (words part : List ℕ) (len i n : ℕ) → part ≡ bytes_in (get_or words i 0) → 4 ≤ i → i < ROW_WORDS → ((k : ℕ) → k < 8 → (k < n) ↔ (8 * (i - 4) + k < len)) → EndsAt words len → HasBytes part n

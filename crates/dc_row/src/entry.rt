@@ -5,10 +5,12 @@ ghost use Rattle.dc_names.specs.Words.{AreBytes};
 ghost use Rattle.dc_plain.specs.Facts.{Target, label_bytes};
 ghost use Rattle.dc_plain.specs.Facts.Fact.{Reads};
 ghost use Rattle.dc_plain.specs.KeysShown.{key_shown};
+ghost use Rattle.dc_row.specs.Narrow.{widened};
 ghost use Rattle.dc_row.specs.Decoding.{target_by, EndsAt, HasBytes};
 ghost use Rattle.dc_row.specs.Spelling.{Spells, SpellsEntry, SpellsNoEntry, SpellsText, TellsOf, TellsText, entry_of, has_spelling, is_numbered, kind_code, target_number, fields, IsSpelled};
 ghost use Rattle.dc_row.specs.declared.TheConstants.{ROW_WORDS, ROW_TEXT};
 
+use crate::fields::word;
 use crate::reading::spelled_text;
 use crate::writing::{head_of, text_word};
 use crate::{LENGTH_UNIT, ROW_TEXT, ROW_WORDS, RowText, TAGS, kind, number, value};
@@ -24,8 +26,20 @@ use std::simd::prelude::*;
 pub fn tells_of(words: &[u64], key: Key<'_>) -> bool
     ensures { IsTrue result ↔ TellsOf words.now (key_shown key.entry) }
 {
+    words.len() == ROW_WORDS && tells_by_first(words, key)
+}
+
+/// Whether a row with these first words, and zeros past them, spells a fact of a key. Of a short text few
+/// words are looked at.
+#[must_use]
+// Inlined, as is `tells_of`.
+#[inline(always)]
+pub fn tells_by_first(words: &[u64], key: Key<'_>) -> bool
+    requires size { (4 ≤ length words.now) × (length words.now ≤ ROW_WORDS) }
+    ensures { IsTrue result ↔ TellsOf (widened words.now) (key_shown key.entry) }
+{
     // Most rows of a bucket are of another directory: one word tells, and no text is looked at.
-    if words.len() != ROW_WORDS || number(words) != key.number {
+    if number(words) != key.number {
         return false;
     }
     match key.label {
@@ -49,12 +63,12 @@ pub fn text_of(words: &[u64]) -> Option<RowText>
     }
 }
 
-/// Whether the words spell the text of a link.
+/// Whether a row with these first words spells the text of a link.
 // Inlined, as are the functions below, for the sake of `tells_of`.
 #[inline(always)]
 fn is_text(words: &[u64]) -> bool
-    requires size { length words.now ≡ ROW_WORDS }
-    ensures { IsTrue result ↔ SpellsText words.now }
+    requires size { (4 ≤ length words.now) × (length words.now ≤ ROW_WORDS) }
+    ensures { IsTrue result ↔ SpellsText (widened words.now) }
 {
     let len = words[1] / LENGTH_UNIT;
     if words[1] % TAGS != 2 || len == 0 || len > ROW_TEXT as u64 || words[2] == 0 || words[3] != 0 {
@@ -68,11 +82,15 @@ fn is_text(words: &[u64]) -> bool
 /// Whether the bytes for a text are so many, without a zero byte, and zeros after them.
 #[inline(always)]
 fn ends_at(words: &[u64], len: u64) -> bool
-    requires size { length words.now ≡ ROW_WORDS }
+    requires size { (4 ≤ length words.now) × (length words.now ≤ ROW_WORDS) }
     requires fits { len ≤ ROW_TEXT }
     ensures { IsTrue result ↔ EndsAt words.now len }
 {
-    'text: for i in 4..ROW_WORDS {
+    // Past the words there are zeros, which no text has.
+    if len > 8 * (words.len() as u64 - 4) {
+        return false;
+    }
+    'text: for i in 4..words.len() {
         let bytes = u8x8::from_array(words[i].to_le_bytes());
         let before = 8 * (i as u64 - 4);
         if !has_bytes(bytes, len.saturating_sub(before).min(8)) {
@@ -93,14 +111,14 @@ fn has_bytes(bytes: u8x8, len: u64) -> bool
     zeros == (1 << 8) - (1 << len)
 }
 
-/// Whether the words spell an entry of a key, wherever it leads.
+/// Whether a row with these first words spells an entry of a key, wherever it leads.
 // Inlined (measured): a call has fewer instructions, but the words would go through memory, and the
 // copy of them that is kept would wait for it.
 #[inline(always)]
 fn is_entry_of(words: &[u64], key: Key<'_>) -> bool
-    requires size { length words.now ≡ ROW_WORDS }
-    ensures spelled { result ≡ true → SpellsEntry words.now (key_shown key.entry) }
-    ensures none { result ≡ false → SpellsNoEntry words.now (key_shown key.entry) }
+    requires size { (4 ≤ length words.now) × (length words.now ≤ ROW_WORDS) }
+    ensures spelled { result ≡ true → SpellsEntry (widened words.now) (key_shown key.entry) }
+    ensures none { result ≡ false → SpellsNoEntry (widened words.now) (key_shown key.entry) }
 {
     let (kind, value) = (kind(words), value(words));
     if !is_target(kind, value) || !has_room(key, kind) {
@@ -112,7 +130,7 @@ fn is_entry_of(words: &[u64], key: Key<'_>) -> bool
 /// Whether the words after the sequence count are those of a row with these fields.
 #[inline(always)]
 fn is_spelled(words: &[u64], tag: u64, kind: u64, number: u64, value: u64, text: &[u8]) -> bool
-    requires size { length words.now ≡ ROW_WORDS }
+    requires size { (4 ≤ length words.now) × (length words.now ≤ ROW_WORDS) }
     requires tag { tag ≤ 2 }
     requires kind { kind ≤ 3 }
     requires room { length text.now ≤ ROW_TEXT }
@@ -125,7 +143,7 @@ fn is_spelled(words: &[u64], tag: u64, kind: u64, number: u64, value: u64, text:
     }
     let end = 4 + text.len().div_ceil(8);
     'text: for i in 4..end {
-        if words[i] != text_word(text, i - 4) {
+        if word(words, i) != text_word(text, i - 4) {
             return false;
         }
     }

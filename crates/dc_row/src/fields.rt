@@ -45,7 +45,8 @@ pub fn value(words: &[u64]) -> u64
 }
 
 /// A word of the row, or 0 past its end.
-fn word(words: &[u64], at: usize) -> u64
+#[inline(always)]
+pub(crate) fn word(words: &[u64], at: usize) -> u64
     ensures { result ≡ slice_index words.now at }
 {
     words.get(at).copied().unwrap_or(0)

@@ -14,7 +14,7 @@ mod text;
 mod writing;
 
 use dc_names::NAME_MAX;
-pub use entry::{tells_of, text_of};
+pub use entry::{tells_by_first, tells_of, text_of};
 pub use fields::{kind, length, number, tag, value};
 pub use laws::{
     counts_tell_nothing, empty_row_spells_nothing, rows_end_in_zeros, rows_have_one_spelling,

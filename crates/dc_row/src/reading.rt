@@ -86,24 +86,25 @@ pub fn text_in(words: &[u64]) -> Option<RowText>
     RowText::of(&room_of(words)[..len])
 }
 
-/// The text of the link that the words spell.
+/// The text of the link that a row with these first words, and zeros past them, spells.
 #[must_use]
 #[inline(always)]
 pub fn spelled_text(words: &[u64]) -> RowText
-    requires spelled { SpellsText words.now }
-    ensures told { TellsText words.now (Some result) }
+    requires size { (4 ≤ length words.now) × (length words.now ≤ ROW_WORDS) }
+    requires spelled { SpellsText (widened words.now) }
+    ensures told { TellsText (widened words.now) (Some result) }
 {
     RowText::from_room(room_of(words), length(words) as usize)
 }
 
-/// All the bytes that the words have for a text, side by side.
+/// All the bytes that the words have for a text, side by side, with zeros past them.
 #[inline(always)]
 fn room_of(words: &[u64]) -> [u8; ROW_ROOM]
-    requires size { length words.now ≡ ROW_WORDS }
+    requires size { (4 ≤ length words.now) × (length words.now ≤ ROW_WORDS) }
     ensures { IsRoomOf words.now result }
 {
     let mut room = [0; ROW_ROOM];
-    for i in 4..ROW_WORDS {
+    for i in 4..words.len() {
         let at = 8 * (i - 4);
         room[at..at + 8].copy_from_slice(&words[i].to_le_bytes());
     }

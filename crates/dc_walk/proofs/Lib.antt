@@ -7,6 +7,7 @@ pub mod Sighted
 pub mod Lookings
 pub mod Rooms
 pub mod Shorts
+pub mod Wides
 pub mod Standing
 pub mod Questions
 pub mod Ended

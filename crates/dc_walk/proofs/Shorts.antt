@@ -11,7 +11,7 @@ use Rattle.dc_row.specs.declared.short.TheConstants.{SHORT_WORDS}
 use Rattle.dc_row.specs.Short.{HasHead, HasText}
 use Rattle.dc_row.specs.Spelling.{fields_of, text_word}
 use Rattle.dc_events.specs.Views.{View}
-use Rattle.dc_walk.specs.Probes.{probed, row_of, IsText}
+use Rattle.dc_walk.specs.Probes.{probed, row_of, AreZero, IsText}
 use Rattle.dc_walk.specs.declared.probe.Top.{Top}
 
 -- so many words behind the value were read, and what is known of them says whether they are the text's
@@ -58,6 +58,13 @@ module _ (text rest : List ℕ) (w : ℕ) where
       past = each (λ i x. SHORT_WORDS ≤ i → x ≡ 0) is.past (λ l. both.1);
     },
     λ is. step.1 (so.1 (old is), sym last ∙ is.past (length rest) (let s = size in omega arith) many),
+  )
+
+  -- words that are all zero
+  pub zero_more : {P Q : Type 0} → (P ↔ AreZero rest) → (Q ↔ (P × (w ≡ 0))) → Q ↔ AreZero (rest ++ w ∷ [])
+  zero_more so step = (
+    λ q. let both = step.0 q in each (λ i x. x ≡ 0) (so.0 both.0) both.1,
+    λ all. step.1 (so.1 (λ i l. sym (before i l) ∙ all i (let s = size in omega arith)), sym last ∙ all (length rest) (let s = size in omega arith)),
   )
 
 module _ (top : Top) (value : ℕ) (rest : List ℕ) where

@@ -79,6 +79,17 @@ pub record ReadsShort (v w : View) (row : ℕ) (top : Top) (text : List ℕ) (va
   pub read : w ≡ seen_whole v row (row_of top value rest)
   pub its : IsTrue is_its ↔ IsText text rest
 
+-- all of these words are zero
+abbrev pub AreZero : List ℕ → Type 0
+AreZero words = (i : ℕ) → i < length words → get_or words i 0 ≡ 0
+
+-- a row was read whole, of which these are the first words, and whether zeros are past them was seen
+pub record ReadsFirst (v w : View) (row : ℕ) (first : List ℕ) (narrow : Bool) : Type 0 where
+  pub rest : List ℕ
+  pub size : length (first ++ rest) ≡ ROW_WORDS
+  pub read : w ≡ seen_whole v row (first ++ rest)
+  pub zeros : IsTrue narrow ↔ AreZero rest
+
 -- a row was read whole
 pub record ReadsWhole (v w : View) (row : ℕ) (words : List ℕ) : Type 0 where
   pub size : length words ≡ ROW_WORDS

@@ -1,7 +1,9 @@
 //! The text of a link that a walk follows.
 
-ghost use Rattle.std.specs.Prelude.{Some};
+ghost use Rattle.std.specs.Prelude.{◌≤◌, Some, length};
+ghost use Rattle.dc_row.specs.Narrow.{widened};
 ghost use Rattle.dc_row.specs.Spelling.{SpellsText, TellsText};
+ghost use Rattle.dc_row.specs.declared.TheConstants.{ROW_WORDS};
 
 use dc_resolve::Bytes;
 use dc_row::{RowText, spelled_text};
@@ -13,11 +15,12 @@ pub(crate) struct LinkText {
 }
 
 impl LinkText {
-    /// The text that the words of a row spell, which were tested before.
+    /// The text that a row with these first words spells, which were tested before.
     #[inline(always)]
     pub(crate) fn of(words: &[u64]) -> LinkText
-        requires spelled { SpellsText words.now }
-        ensures told { TellsText words.now (Some result.text) }
+        requires size { (4 ≤ length words.now) × (length words.now ≤ ROW_WORDS) }
+        requires spelled { SpellsText (widened words.now) }
+        ensures told { TellsText (widened words.now) (Some result.text) }
     {
         LinkText {
             text: spelled_text(words),
@@ -28,6 +31,7 @@ impl LinkText {
 impl Bytes for LinkText {
     ghost bytes = { λ link. link.text };
 
+    #[inline(always)]
     fn bytes(&self) -> &[u8] {
         self.text.bytes()
     }

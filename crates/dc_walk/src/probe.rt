@@ -1,6 +1,6 @@
 //! A row that is noted and read.
 
-ghost use Rattle.std.specs.Prelude.{◌≡◌, ◌<◌, ◌≤◌, [], ◌∷◌, length, true, IfSome, IfNone};
+ghost use Rattle.std.specs.Prelude.{◌≡◌, ◌<◌, ◌≤◌, [], ◌∷◌, length, take, true, IfSome, IfNone};
 ghost use Rattle.dc_events.specs.Effects.{begins, faulted};
 ghost use Rattle.dc_events.specs.Views.{View};
 ghost use Rattle.dc_events.specs.Views.Fault.{Busy};
@@ -8,7 +8,7 @@ ghost use Rattle.dc_plain.specs.Requests.{request_of};
 ghost use Rattle.dc_row.specs.declared.TheConstants.{ROW_WORDS};
 ghost use Rattle.dc_table.specs.Holders.{table_of};
 ghost use Rattle.dc_table.specs.Passes.{view, share, Fits, IsIdle, StaysOut};
-ghost use Rattle.dc_walk.specs.Probes.{HasRead, IsEarly, IsReading, IsReadingTop, ReadsShort, ReadsTop};
+ghost use Rattle.dc_walk.specs.Probes.{HasRead, IsEarly, IsReading, IsReadingTop, ReadsFirst, ReadsShort, ReadsTop};
 
 use dc_plain::{Call, Key, Label};
 use dc_row::{LENGTH_UNIT, LENGTHS, ROW_WORDS, SHORT_WORDS, TAGS};
@@ -108,6 +108,31 @@ pub(crate) fn read_short(
     (value, is_its && past == 0)
 }
 
+/// Reads the words of the row that was noted last from one on, and answers whether they are zero. They are
+/// not kept.
+#[inline(always)]
+pub(crate) fn are_past(
+    reader: Reader<'_>,
+    pass: &mut Pass,
+    row: u64,
+    words: &[u64],
+    from: usize,
+) -> bool
+    requires pass { Fits (table_of reader) pass.old × IsIdle pass.old }
+    requires row { row < (share pass.old).rows }
+    requires some { (0 < from) × (from ≤ ROW_WORDS) }
+    requires reading { IsReading (view pass.old) row words.now from }
+    ensures same { StaysOut pass.old pass.new }
+    ensures read { (v : View) → HasRead v (view pass.old) row words.now from
+        → ReadsFirst v (view pass.new) row (take from words.now) result }
+{
+    let mut past = 0;
+    for i in from..ROW_WORDS {
+        past |= reader.read_word(pass, row, i as u64);
+    }
+    past == 0
+}
+
 /// Reads words of the row that was noted last, from one up to another.
 // Inlined, for a few words at a time (measured): only so short a loop is unrolled.
 #[inline(always)]
@@ -125,6 +150,7 @@ pub(crate) fn read_words(
     requires some { (0 < from) × (from ≤ to) × (to ≤ ROW_WORDS) }
     ensures same { StaysOut pass.old pass.new }
     ensures fits { Fits (table_of reader.entry) pass.new }
+    ensures before { take from words.new ≡ take from words.old }
     ensures reading { IsReading (view pass.new) row words.new to }
     ensures read { (v : View) → HasRead v (view pass.old) row words.old from
         → HasRead v (view pass.new) row words.new to }

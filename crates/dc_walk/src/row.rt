@@ -24,8 +24,8 @@ use crate::rows::Rows;
 use crate::used::Room;
 use dc_plain::{Key, Label};
 use dc_row::{
-    SHORT_TEXT, leads, rows_end_in_zeros, rows_have_their_text, short_words, tells_of, told_words,
-    words_have_the_fact_they_spell,
+    SHORT_TEXT, leads, rows_end_in_zeros, rows_have_their_text, short_words, tells_by_first,
+    told_words, words_have_the_fact_they_spell,
 };
 use dc_table::{Pass, Reader};
 
@@ -112,11 +112,11 @@ fn take_wide(
 {
     rows_end_in_zeros();
     room.put(&[top.count, top.head, top.number]);
-    room.read_rest(reader, pass, row);
-    if !tells_of(room.next(), key) {
+    let told = told_words(room.next());
+    let is_narrow = room.read_rest(reader, pass, row, told);
+    if !is_narrow || !tells_by_first(&room.next()[..told], key) {
         return None;
     }
-    let told = told_words(room.next());
     Some(room.keep(row, place, told))
 }
 

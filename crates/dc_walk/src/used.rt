@@ -10,16 +10,16 @@ ghost use Rattle.dc_events.specs.Views.{View};
 ghost use Rattle.dc_table.specs.Holders.{table_of};
 ghost use Rattle.dc_table.specs.Passes.{view, share, Fits, IsIdle, StaysOut};
 ghost use Rattle.dc_walk.specs.Finds.{told_in, AllSpelled, StandsAt};
-ghost use Rattle.dc_walk.specs.Probes.{HasRead, IsReading};
+ghost use Rattle.dc_walk.specs.Probes.{HasRead, IsReading, ReadsFirst};
 ghost use Rattle.dc_walk.specs.Rooms.{used_at};
 ghost use Rattle.dc_walk.specs.declared.TheConstants.{MOST_USED, MOST_BYTES};
 
 use crate::link::LinkText;
-use crate::probe::read_words;
+use crate::probe::{are_past, read_words};
 use crate::{MOST_USED, ROOM_WORDS};
 use dc_names::Kind;
 use dc_plain::Key;
-use dc_row::{ROW_WORDS, number, target, tells_of, widened, words_have_the_fact_they_spell};
+use dc_row::{ROW_WORDS, number, target, tells_by_first, words_have_the_fact_they_spell};
 use dc_table::{Pass, Reader};
 use std::marker::Model;
 
@@ -156,7 +156,7 @@ impl Room {
         requires spelled { SpellsText (used_at self.now.items at).words }
         ensures { TellsText (used_at self.now.items at).words (Some result.text) }
     {
-        LinkText::of(&widened(self.words_at(at)))
+        LinkText::of(self.words_at(at))
     }
 
     /// Whether a row that was kept tells of a key.
@@ -164,7 +164,7 @@ impl Room {
         requires kept { at < length self.now.items }
         ensures { IsTrue result ↔ TellsOf (used_at self.now.items at).words (key_shown key.entry) }
     {
-        tells_of(&widened(self.words_at(at)), key)
+        tells_by_first(self.words_at(at), key)
     }
 
     /// The words of the row that is being read.
@@ -187,22 +187,31 @@ impl Room {
         self.words[self.end..self.end + first.len()].copy_from_slice(first);
     }
 
-    /// Reads the rest of the row that was noted last, whose head and number were read.
+    /// Reads the rest of the row that was noted last, whose head and number were read, and answers whether
+    /// the words from one on are zero. The words before it are stored.
     #[inline(always)]
-    pub(crate) fn read_rest(&mut self, reader: Reader<'_>, pass: &mut Pass, row: u64)
+    pub(crate) fn read_rest(
+        &mut self,
+        reader: Reader<'_>,
+        pass: &mut Pass,
+        row: u64,
+        told: usize,
+    ) -> bool
         requires pass { Fits (table_of reader) pass.old × IsIdle pass.old }
         requires row { row < (share pass.old).rows }
         requires reading { IsReading (view pass.old) row self.old.next 3 }
+        requires told { (4 ≤ told) × (told ≤ ROW_WORDS) }
         ensures same { StaysOut pass.old pass.new }
         ensures items { (self.new.items ≡ self.old.items) × (self.new.spent ≡ self.old.spent) }
+        ensures top { take 3 self.new.next ≡ take 3 self.old.next }
+        ensures size { length self.new.next ≡ ROW_WORDS }
         ensures read { (v : View) → HasRead v (view pass.old) row self.old.next 3
-            → HasRead v (view pass.new) row self.new.next ROW_WORDS }
+            → ReadsFirst v (view pass.new) row (take told self.new.next) result }
     {
         // One reference for all words, as each further step may have written what lies behind `self`.
         let words = &mut self.words[self.end..self.end + ROW_WORDS];
-        read_words(reader, pass, row, words, 3, 14);
-        read_words(reader, pass, row, words, 14, 25);
-        read_words(reader, pass, row, words, 25, ROW_WORDS);
+        read_words(reader, pass, row, words, 3, told);
+        are_past(reader, pass, row, words, told)
     }
 
     /// Keeps the row that was read, whose note has this place, by so many of its first words, and answers
