@@ -148,13 +148,12 @@ pub(crate) fn told<S: Source>(
     if rows.why.is_some() {
         return Err(Stop);
     }
+    words_have_the_fact_they_spell();
     // Most paths have no key twice, and so few rows are looked through for one.
-    if !rows.filter.may_hold(hash) {
-        words_have_the_fact_they_spell();
-        return ask(source, rows, key, hash);
+    if rows.filter.may_hold(hash) {
+        if let Some(at) = standing(rows.used, key) {
+            return Ok(at);
+        }
     }
-    match standing(rows.used, key) {
-        Some(at) => Ok(at),
-        None => ask(source, rows, key, hash),
-    }
+    ask(source, rows, key, hash)
 }
