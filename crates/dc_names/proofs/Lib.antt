@@ -4,3 +4,4 @@ pub mod Named
 pub mod Numbered
 pub mod Packed
 pub mod Short
+pub mod Chunks

@@ -1,6 +1,6 @@
 //! Paths as bytes.
 
-ghost use Rattle.std.specs.Prelude.{◌≡◌, ◌==◌, IfOk, IfErr, IsTrue, None, Some, length, nat_lt};
+ghost use Rattle.std.specs.Prelude.{◌≡◌, ◌==◌, ◌||◌, IfOk, IfErr, IfSome, ◌<◌, ◌≤◌, IsTrue, None, Some, length, nat_lt};
 ghost use Rattle.std.specs.List.{list_any, list_all};
 ghost use Rattle.dc_names.specs.Bytes.{pieces, has_parts};
 ghost use Rattle.dc_names.specs.declared.limits.TheConstants.{NAME_MAX};
@@ -44,8 +44,41 @@ fn has_long_piece(bytes: &[u8]) -> bool
             .any(|piece| piece.len() > NAME_MAX)
 }
 
-/// Whether a zero byte stands there. It looks at all bytes, so that many are looked at at a time.
+/// Whether a zero byte stands there.
 fn has_zero(bytes: &[u8]) -> bool
+    ensures { result ≡ list_any (λ b. b == 0) bytes.now }
+{
+    if let Some(zero) = has_zero_by::<16>(bytes) {
+        zero
+    } else if let Some(zero) = has_zero_by::<8>(bytes) {
+        zero
+    } else {
+        is_any_zero(bytes)
+    }
+}
+
+/// Whether a zero byte stands there, by so many bytes at a time, or `None` where there are fewer.
+// The last ones may overlap those before (measured): a loop over what is left behind the others would end
+// at another place for each path, which no processor guesses.
+#[inline(always)]
+fn has_zero_by<const N: usize>(bytes: &[u8]) -> Option<bool>
+    requires { (0 < N) × (N ≤ 16) }
+    ensures { IfSome result (λ zero. zero ≡ list_any (λ b. b == 0) bytes.now) }
+{
+    let last = bytes.last_chunk::<N>()?;
+    let (chunks, _) = bytes.as_chunks::<N>();
+    let zero = chunks.iter().fold(
+        is_any_zero(last),
+        |zero, chunk|
+            ensures { result ≡ (zero || list_any (λ b. b == 0) chunk.now) }
+        { zero | is_any_zero(chunk) },
+    );
+    Some(zero)
+}
+
+/// Whether one of these bytes is zero. It looks at all of them, so that several are looked at at a time.
+#[inline(always)]
+fn is_any_zero(bytes: &[u8]) -> bool
     ensures { result ≡ list_any (λ b. b == 0) bytes.now }
 {
     bytes.iter().fold(false, |zero, b| zero | (*b == 0))

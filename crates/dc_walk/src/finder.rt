@@ -56,7 +56,8 @@ impl<'a, S: Source> Finder for Walker<'a, S> {
         Ok(self.rows.target_at(place))
     }
 
-    #[inline(always)]
+    // Kept out of line: each link that is open has a frame, and inlined it would have this one's room too.
+    #[inline(never)]
     fn link_text(&mut self, number: u64) -> Result<LinkText, Stop> {
         let key = text_key(number);
         let hash = hash(number, key.label.bytes());

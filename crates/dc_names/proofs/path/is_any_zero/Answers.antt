@@ -2,7 +2,7 @@ use Rattle.std.proofs.Common.{rules, tests, ◌==◌, ◌||◌, false, ◌∙◌
 use Rattle.std.proofs.lemmas.Iterator.{YieldsList-from_slice}
 use Rattle.std.proofs.lemmas.Iterator.Consumers.{fold_from_yields_List}
 use Rattle.dc_names.proofs.Short.{any_by_fold}
-use Rattle.dc_names.proofs.path.has_zero.Goals as goal
+use Rattle.dc_names.proofs.path.is_any_zero.Goals as goal
 
 pub returns : goal.returns
 returns c =
