@@ -2,6 +2,7 @@
 pub mod Calls
 pub mod Passes
 pub mod Answers
+pub mod Holds
 pub mod Fillings
 pub mod Links
 pub mod Losses

@@ -6,9 +6,9 @@ ghost use Rattle.dc_cache.specs.Passes.{share, Fits};
 ghost use Rattle.dc_plain.specs.Requests.Request.{Look};
 
 use crate::cache::{Dcache, Pass};
-use crate::held::{fill_held, seek_held};
+use crate::held::look_held;
 use dc_names::parse;
-use dc_plain::{Call, Follow, Stamped};
+use dc_plain::{Follow, Stamped};
 use dc_rows::Guard;
 use dc_walk::Fast;
 use std::alloc::Global;
@@ -39,8 +39,7 @@ impl Dcache {
             return stamped;
         }
         let guard = Guard::lock(&self.shared, rt, &mut pass.seat);
-        let filled = fill_held(guard, alloc, base, text, follow);
-        let (back, found) = seek_held(filled, &Call::Look { base, path, follow });
+        let (back, found) = look_held(guard, alloc, base, text, follow);
         // For the proof: the seat is back as it is bound.
         let _seat = back;
         self.shared.wake();

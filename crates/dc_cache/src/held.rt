@@ -1,18 +1,17 @@
 //! What is done under one hold of the lock. Each hands the pass back as the lock is given back.
 
-ghost use Rattle.std.specs.Prelude.{◌≡◌};
-ghost use Rattle.dc_cache.specs.Answers.{ToldTo};
+ghost use Rattle.dc_cache.specs.Holds.{HandsBack, RecordsOne, TellsOne};
 ghost use Rattle.dc_ops.specs.Asked.{IsSought, IsToldAtLength};
-ghost use Rattle.dc_plain.specs.Requests.{answer_of, request_of};
-ghost use Rattle.dc_rows.specs.Guards.{seat_of, Keeps};
-ghost use Rattle.dc_table.specs.Changes.{IsTaken, Recorded};
-ghost use Rattle.dc_table.specs.Passes.{view, share, IsSamePass, IsIdle};
+ghost use Rattle.dc_plain.specs.Requests.{request_of};
+ghost use Rattle.dc_plain.specs.Requests.Request.{Look};
+ghost use Rattle.dc_rows.specs.Guards.{seat_of};
+ghost use Rattle.dc_table.specs.Changes.{IsTaken};
+ghost use Rattle.dc_table.specs.Passes.{view};
 
 use crate::filler::Filler;
 use dc_names::{NoMemory, PathText};
-use dc_ops::{ask, seek};
+use dc_ops::{ask, look_by, seek};
 use dc_plain::{Call, Follow, Stamped};
-use dc_resolve::walk;
 use dc_rows::Guard;
 use dc_table::Pass as Seat;
 use std::alloc::Global;
@@ -21,10 +20,8 @@ use std::alloc::Global;
 pub(crate) fn seek_held<'t>(guard: Guard<'t>, call: &Call<'_>) -> (&'t mut Seat, Stamped)
     requires taken { IsTaken (view (seat_of guard)) }
     requires call { IsSought call.now }
-    ensures same { (result.0.ghost_name ≡ guard.entry.holder.pass.ghost_name)
-        × IsSamePass (seat_of guard.entry) result.0.now × IsIdle result.0.now }
-    ensures recorded { Recorded (view (seat_of guard.entry)) (view result.0.now)
-        (request_of call.now) (answer_of result.1.reply) result.1.at }
+    ensures same { HandsBack guard.entry result.0 }
+    ensures recorded { RecordsOne guard.entry result.0 (request_of call.now) result.1 }
 {
     let reply = seek(guard.store(), call);
     let at = guard.clock();
@@ -39,10 +36,8 @@ pub(crate) fn ask_held<'t>(
 ) -> (&'t mut Seat, Result<Stamped, NoMemory>)
     requires taken { IsTaken (view (seat_of guard)) }
     requires call { IsToldAtLength call.now }
-    ensures same { (result.0.ghost_name ≡ guard.entry.holder.pass.ghost_name)
-        × IsSamePass (seat_of guard.entry) result.0.now × IsIdle result.0.now }
-    ensures told { let p = seat_of guard.entry in
-        ToldTo (share p).limit (view p) (view result.0.now) (request_of call.now) result.1 }
+    ensures same { HandsBack guard.entry result.0 }
+    ensures told { TellsOne guard.entry result.0 (request_of call.now) result.1 }
 {
     let at = guard.clock();
     match ask(alloc, guard.store(), call) {
@@ -51,28 +46,40 @@ pub(crate) fn ask_held<'t>(
     }
 }
 
-/// Fills the rows that a look-up of a path asks for, as far as they can be had.
-pub(crate) fn fill_held<'t>(
+/// Answers a look-up of a path from the tree, and fills the rows that it asks for, as far as they can be
+/// had.
+pub(crate) fn look_held<'t>(
     guard: Guard<'t>,
     alloc: Global,
     base: u64,
     path: PathText<'_>,
     follow: Follow,
-) -> Guard<'t>
-    ensures same_reference { result.holder.pass.ghost_name ≡ guard.entry.holder.pass.ghost_name }
-    ensures keeps { Keeps guard.entry result }
+) -> (&'t mut Seat, Stamped)
+    requires taken { IsTaken (view (seat_of guard)) }
+    ensures same { HandsBack guard.entry result.0 }
+    ensures recorded { RecordsOne guard.entry result.0
+        (Look base path.entry.bytes.now follow) result.1 }
 {
     let mut filler = Filler {
         guard,
         alloc,
         stopped: false,
     };
-    // The rows are what the walk is made for. What it comes to, the tree tells.
-    let _ = walk(&mut filler, base, path, follow);
+    let reply = look_by(&mut filler, base, path, follow);
     let Filler {
         guard,
         alloc: _,
         stopped: _,
     } = filler;
-    guard
+    let call = Call::Look {
+        base,
+        path: path.bytes(),
+        follow,
+    };
+    // It stopped at a text that no row has room for. The tree knows where that leads.
+    let Some(reply) = reply else {
+        return seek_held(guard, &call);
+    };
+    let at = guard.clock();
+    (guard.answer(&call), Stamped { reply, at })
 }

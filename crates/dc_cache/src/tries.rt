@@ -16,7 +16,7 @@ ghost use Rattle.dc_walk.specs.declared.TheConstants.{MOST_LOADS};
 
 use crate::cache::Pass;
 use crate::gone::{Gone, going};
-use crate::held::{ask_held, fill_held, seek_held};
+use crate::held::{ask_held, look_held, seek_held};
 use dc_names::{NoMemory, PathText, TextFault};
 use dc_plain::{Call, Follow, Reply, Stamped};
 use dc_rows::{ChangeFault, Guard};
@@ -64,13 +64,7 @@ pub(crate) fn try_fill(
 {
     match Guard::try_lock(shared, &mut pass.seat) {
         Ok(guard) => {
-            let filled = fill_held(guard, alloc, base, path, follow);
-            let call = Call::Look {
-                base,
-                path: path.bytes(),
-                follow,
-            };
-            let (back, found) = seek_held(filled, &call);
+            let (back, found) = look_held(guard, alloc, base, path, follow);
             // For the proof, here and below: the seat is back as it is bound.
             let _seat = back;
             Some(found)

@@ -1,5 +1,6 @@
 pub mod Rooms
 pub mod Goes
+pub mod Looks
 pub mod Parents
 pub mod Renamed
 pub mod Distinct

@@ -1,12 +1,16 @@
 -- What a call comes to: a plan of its change, its refusal, or the reply that alters nothing.
-use Rattle.std.specs.Prelude.{ℕ, Option, Result, IfOk, IfSome}
+use Rattle.std.specs.Prelude.{ℕ, List, Option, Result, IfOk, IfSome}
 use Rattle.dc_names.specs.declared.refusal.Refusal.{Refusal}
 use Rattle.dc_plain.specs.declared.call.Call as rust_call
 use Rattle.dc_plain.specs.declared.call.Reply as rust_reply
 use Rattle.dc_plain.specs.Operations.{change_of}
 use Rattle.dc_plain.specs.Requests.{Request, answer_of, request_of}
+use Rattle.dc_plain.specs.Requests.Request.{Look}
+use Rattle.dc_plain.specs.declared.call.Follow.{Follow}
+use Rattle.dc_plain.specs.Facts.{Teller}
+use Rattle.dc_plain.specs.Tellers.{Extends}
 use Rattle.dc_plain.specs.TouchedKeys.{listed}
-use Rattle.dc_plain.specs.Trees.{Tree}
+use Rattle.dc_plain.specs.Trees.{Tree, told_of}
 use Rattle.dc_ops.specs.Plans.{Declines, PlanTakesNoMemory, Settles, SettlesIf}
 use Rattle.dc_ops.specs.declared.plans.Plan as rust_plan
 
@@ -33,3 +37,7 @@ FoundTakesNoMemory found = IfOk found (λ plan. IfSome plan (λ plan. PlanTakesN
 -- a call that leaves the tree as it is has this reply
 abbrev pub DeclinesCall : ℕ → Tree → rust_call.Call → rust_reply.Reply → Type 0
 DeclinesCall limit t call reply = Declines limit t (request_of call) (answer_of reply)
+
+-- by what is said, a look-up has this reply on each tree that tells the same
+abbrev pub RepliesBy : Teller → ℕ → List ℕ → Follow → rust_reply.Reply → Type 0
+RepliesBy said base text how reply = (limit : ℕ) (t : Tree) → Extends said (told_of t) → Declines limit t (Look base text how) (answer_of reply)

@@ -18,4 +18,4 @@ pub use dispatch::plan;
 pub use effects::carry;
 pub use finder::StoreFinder;
 pub use plans::{Moved, Plan};
-pub use reads::{ask, seek};
+pub use reads::{ask, look_by, seek};

@@ -1,6 +1,7 @@
 //! Calls that alter nothing.
 
-ghost use Rattle.std.specs.Prelude.{◌≡◌, ℕ, IfOk, OnErr};
+ghost use Rattle.std.specs.Prelude.{◌≡◌, ◌+◌, ◌*◌, ℕ, IfOk, IfSome, OnErr, length};
+ghost use Rattle.dc_names.specs.declared.limits.TheConstants.{MOST_LINKS};
 ghost use Rattle.dc_names.specs.Refusals.{Gives};
 ghost use Rattle.dc_plain.specs.Reads.{look, stat, readlink, list_names};
 ghost use Rattle.dc_plain.specs.Requests.{answer_of, request_of};
@@ -8,13 +9,16 @@ ghost use Rattle.dc_plain.specs.Refusals.{walk_on};
 ghost use Rattle.dc_ops.specs.Asked.{IsSought, IsToldAtLength};
 ghost use Rattle.dc_plain.specs.Runs.{reply_of};
 ghost use Rattle.dc_ops.specs.Reads.{answered, IsAtLength};
-ghost use Rattle.dc_ops.specs.Settled.{DeclinesCall};
+ghost use Rattle.dc_ops.specs.Settled.{DeclinesCall, RepliesBy};
+ghost use Rattle.dc_resolve.specs.Ends.{walk_by};
+ghost use Rattle.dc_resolve.specs.Needs.{MayAsk};
 
 use crate::paths::{path_of, walk_path};
-use dc_names::{NoMemory, Refusal};
+use dc_names::{NoMemory, PathText, Refusal};
 use dc_plain::{
     Call, Follow, Reply, Target, alters_tells_whether_trees_differ, paths_lead_to_the_living,
 };
+use dc_resolve::{Finder, Walked, walk};
 use dc_store::Store;
 use std::alloc::Global;
 
@@ -44,6 +48,28 @@ pub fn seek<S: Store>(store: &S, call: &Call<'_>) -> Reply
         | Call::Unlink { .. }
         | Call::Rmdir { .. }
         | Call::Rename { .. } => unreachable!(),
+    }
+}
+
+/// Answers a `Look` by what a finder says of a tree, or `None` where the finder stopped.
+#[must_use]
+pub fn look_by<F: Finder>(
+    finder: &mut F,
+    base: u64,
+    path: PathText<'_>,
+    follow: Follow,
+) -> Option<Reply>
+    requires may { MayAsk F.Finder finder.old (walk_by base path.bytes.now follow) }
+    requires spend { F.may_spend finder.old
+        (2 + length path.bytes.now + MOST_LINKS * F.link_bytes) }
+    ensures becomes { F.becomes finder.old finder.new }
+    ensures reply { IfSome result (RepliesBy (F.said finder.new) base path.entry.bytes.now follow) }
+{
+    alters_tells_whether_trees_differ();
+    match walk(finder, base, path, follow) {
+        Walked::Found(number, kind) => Some(Reply::Found(number, kind)),
+        Walked::Refused(refusal) => Some(Reply::Refused(refusal.number())),
+        Walked::Stopped => None,
     }
 }
 

@@ -1,8 +1,9 @@
 -- The words of a row, written one after the other.
-use Rattle.std.proofs.Common.{◌≡◌, ◌≢◌, ℕ, zero, suc, ◌+◌, ◌-◌, ◌*◌, ◌<◌, ◌≤◌, ◌==◌, List, length, get_or, set, take, ap, false, arith, refl, sym, ◌∙◌, below_more, get_or-set_same, get_or-set_other}
+use Rattle.std.proofs.Common.{◌≡◌, ◌≢◌, ℕ, zero, suc, ◌+◌, ◌-◌, ◌*◌, ◌<◌, ◌≤◌, ◌==◌, ◌∷◌, List, replicate, length, get_or, set, take, ap, false, arith, refl, sym, ◌∙◌, below_more, get_or-set_same, get_or-set_other}
 use Rattle.std.proofs.lemmas.Grind.{common_steps}
 use Rattle.std.proofs.lemmas.List.{drop_all}
 use Rattle.dc_names.specs.Words.{word_of}
+use Rattle.dc_row.proofs.Packed.{get_or-zeros}
 use Rattle.dc_row.specs.declared.TheConstants.{ROW_WORDS}
 use Rattle.dc_row.specs.Spelling.{Fields, IsSpelled, head_of, word_at, text_word}
 
@@ -32,3 +33,19 @@ one_more ws i v f late within is before j pos lt =
     (λ k h pos. let ne : k ≢ i = omega arith in rw get_or-set_other (before k pos h))
     (λ pos. rw get_or-set_same (is ∙ sym (word_at-text f i late)))
     j lt pos
+
+-- the first four words of a row before its text is written
+pub spells_head : (head number value : ℕ) (rest : List ℕ) (f : Fields) → head ≡ head_of f → number ≡ f.number → value ≡ f.value → (j : ℕ) → 0 < j → j < 4 → get_or (0 ∷ head ∷ number ∷ value ∷ rest) j 0 ≡ word_at f j
+spells_head head number value rest f h n v zero some few = absurd (omega arith)
+spells_head head number value rest f h n v (suc zero) some few = h
+spells_head head number value rest f h n v (suc (suc zero)) some few = n
+spells_head head number value rest f h n v (suc (suc (suc zero))) some few = v
+spells_head head number value rest f h n v (suc (suc (suc (suc j)))) some few = absurd (omega arith)
+
+-- and those behind them
+pub zeros_behind : (a b c d many j : ℕ) → 4 ≤ j → get_or (a ∷ b ∷ c ∷ d ∷ replicate many 0) j 0 ≡ 0
+zeros_behind a b c d many zero late = absurd (omega arith)
+zeros_behind a b c d many (suc zero) late = absurd (omega arith)
+zeros_behind a b c d many (suc (suc zero)) late = absurd (omega arith)
+zeros_behind a b c d many (suc (suc (suc zero))) late = absurd (omega arith)
+zeros_behind a b c d many (suc (suc (suc (suc j)))) late = get_or-zeros many j

@@ -112,7 +112,8 @@ pub(crate) fn spell(tag: u64, kind: u64, number: u64, value: u64, text: &[u8]) -
     words[1] = head_of(tag, kind, text);
     words[2] = number;
     words[3] = value;
-    for i in 4..ROW_WORDS {
+    let end = 4 + text.len().div_ceil(8);
+    for i in 4..end {
         words[i] = text_word(text, i - 4);
     }
     words
