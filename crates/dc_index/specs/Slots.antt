@@ -1,9 +1,10 @@
 -- The rows of the cache, each with the key that it has.
 use Rattle.std.specs.Prelude.{◌≡◌, ◌↔◌, ℕ, ◌*◌, ◌<◌, ◌≤◌, ◌/◌, ◌%◌, Bool, true, false, ◌==◌, ◌&&◌, List, length, slice_index_or, Option, Some}
 use Rattle.dc_names.specs.Hash.{hash_of}
-use Rattle.dc_names.specs.declared.limits.TheConstants.{BUCKET_ROWS}
+use Rattle.dc_names.specs.declared.limits.TheConstants.{BUCKET_ROWS, NAME_MAX}
 use Rattle.dc_names.specs.declared.tables.TheConstants.{MOST_TABLE_ROWS}
-use Rattle.dc_plain.specs.Facts.{Key, same_label, label_bytes}
+use Rattle.dc_plain.specs.Facts.{Label, Key, same_label, label_bytes}
+use Rattle.dc_plain.specs.Facts.Label.{Entry, Parent, Text}
 
 -- a row: free, never to be used again, or with the key that it has
 pub data Slot : Type 0 where
@@ -31,6 +32,18 @@ abbrev pub is_slot_of : Key → Slot → Bool
 is_slot_of key Free = false
 is_slot_of key Retired = false
 is_slot_of key (Holds other) = same_key other key
+
+-- how many bytes the text has at most that stands in a row for a label: a link's text isn't known by its label
+abbrev pub most_bytes : Label → ℕ
+most_bytes (Entry name) = length name
+most_bytes Parent = length (label_bytes Parent)
+most_bytes Text = NAME_MAX
+
+-- how many bytes the text of a row has at most, by its key; a row without a key has none
+abbrev pub most_text : Slot → ℕ
+most_text Free = 0
+most_text Retired = 0
+most_text (Holds key) = most_bytes key.label
 
 -- without the key that it has; a retired row stays so
 abbrev pub cleared : Slot → Slot

@@ -3,7 +3,7 @@
 ghost use Rattle.std.specs.Prelude.{◌≡◌, ◌<◌, ◌≤◌, ◌*◌, ◌/◌, ◌%◌, ◌≢◌, ℕ, OnOk, OnErr, IfOk, IfSome, length, replicate, slice_set, map};
 ghost use Rattle.dc_names.specs.declared.tables.TheConstants.{MOST_TABLE_BUCKETS};
 ghost use Rattle.dc_plain.specs.KeysShown.{key_shown};
-ghost use Rattle.dc_index.specs.Slots.{slot_of, has_key, cleared, bucket_of, bucket_in, IsIndex, IsRowOf};
+ghost use Rattle.dc_index.specs.Slots.{slot_of, has_key, most_text, cleared, bucket_of, bucket_in, IsIndex, IsRowOf};
 ghost use Rattle.dc_index.specs.Slots.Slot.{Free as IsFree, Retired as IsRetired, Holds};
 ghost use Rattle.dc_index.specs.OwnKeys.{slot_shown};
 ghost use Rattle.dc_index.specs.Choices.{first_free, slots_in, choice, AgreeIn, MayTake};
@@ -121,6 +121,16 @@ impl Index {
         ensures { result ≡ has_key (slot_of self.now row) }
     {
         self.slots[row as usize].has_key()
+    }
+
+    /// How many bytes the text of a row has at most, by its key: those of a name or of dot-dot, `NAME_MAX`
+    /// for a link's text, which the index doesn't know, and none where the row has no key.
+    #[must_use]
+    pub fn most_text(&self, row: u64) -> usize
+        requires { row < length self.now }
+        ensures { result ≡ most_text (slot_of self.now row) }
+    {
+        self.slots[row as usize].most_text()
     }
 
     /// The row for a key that has none: the free row of its bucket with the lowest number, or else

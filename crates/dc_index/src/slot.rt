@@ -5,9 +5,10 @@ ghost use Rattle.std.specs.List.{range_with_len};
 ghost use Rattle.dc_index.specs.declared.slot.Slot.TheVariants as slot;
 ghost use Rattle.dc_plain.specs.Facts.{same_label};
 ghost use Rattle.dc_plain.specs.KeysShown.{key_shown, label_shown};
-ghost use Rattle.dc_index.specs.Slots.{has_key, is_free, is_slot_of, same_key, cleared};
+ghost use Rattle.dc_index.specs.Slots.{has_key, is_free, is_slot_of, most_bytes, most_text, same_key, cleared};
 ghost use Rattle.dc_index.specs.OwnKeys.{own_label_shown, own_shown, slot_shown};
 
+use dc_names::NAME_MAX;
 use dc_plain::{Key, Label};
 use std::alloc::{AllocError, Global};
 
@@ -56,6 +57,17 @@ impl OwnLabel {
             _ => false,
         }
     }
+
+    /// How many bytes the text has at most that stands in a row for the label.
+    fn most_bytes(&self) -> usize
+        ensures { result ≡ most_bytes (own_label_shown self.now) }
+    {
+        match self {
+            OwnLabel::Name(name) => name.len(),
+            OwnLabel::DotDot => b"..".len(),
+            OwnLabel::Text => NAME_MAX,
+        }
+    }
 }
 
 impl OwnKey {
@@ -86,6 +98,16 @@ impl Slot {
         ensures { result ≡ has_key (slot_shown self.now) }
     {
         matches!(self, Slot::Held(_))
+    }
+
+    /// How many bytes the text of the row has at most.
+    pub(crate) fn most_text(&self) -> usize
+        ensures { result ≡ most_text (slot_shown self.now) }
+    {
+        match self {
+            Slot::Held(own) => own.label.most_bytes(),
+            Slot::Free | Slot::Retired => 0,
+        }
     }
 
     /// Takes the key away, if there is one.

@@ -19,7 +19,9 @@ use Rattle.dc_row.specs.Spelling.{Spells}
 use Rattle.dc_row.specs.Decoding.{SpelledIsRead}
 use Rattle.dc_events.specs.Rows.{row_words, IsUntouched}
 use Rattle.dc_table.specs.Rows.{At, Rest, IsOdd, IsEven, FitsSlot}
+use Rattle.dc_rows.specs.Narrow.{ZeroFrom, most_words}
 use Rattle.dc_rows.specs.Rows.{Between, Stage}
+use Rattle.dc_rows.proofs.Narrow.{rest_narrow}
 use Rattle.dc_rows.proofs.Shuts.{odd_even}
 
 some_fact : (a b : Option Fact) → Some a ≡ Some b → a ≡ b
@@ -69,6 +71,7 @@ module _ (read : SpelledIsRead) (touches : TouchesTheListed) (limit : ℕ) (t : 
           (λ fact sp now. stay limit t request fact well now (apart row l even fact sp)));
       ended = a.ended;
     });
+    narrow = λ row l. subst (ZeroFrom (most_words (slot_of slots row))) (sym (same row)) (s.narrow row l);
   }
 
 pub to_rest : (t : Tree) (rows : ℕ) (words : List ℕ) (slots : List Slot) (used : Listing) (n : ℕ) (keys : List Key) → Stage t rows words slots used n n keys → Rest t rows words slots used
@@ -82,4 +85,5 @@ pub from_rest : (t : Tree) (rows : ℕ) (words : List ℕ) (slots : List Slot) (
 from_rest t rows words slots used keys r = record {
   fit = r.fit;
   rest = λ row l. let a = r.rest row l in record { odd = λ key e b. let below = b.2 in absurd (omega arith); even = λ none. a.even (λ key e never. absurd never); fits = a.fits; ended = a.ended };
+  narrow = rest_narrow t rows words slots used r;
 }

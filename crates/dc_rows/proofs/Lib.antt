@@ -1,4 +1,5 @@
 pub mod Cells
+pub mod Narrow
 pub mod Slots
 pub mod Shuts
 pub mod Refills

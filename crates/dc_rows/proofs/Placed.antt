@@ -7,7 +7,8 @@ use Rattle.std.specs.Option.{unwrap_or}
 use Rattle.dc_plain.specs.Facts.{Key}
 use Rattle.dc_plain.specs.Trees.{Tree}
 use Rattle.dc_row.specs.Spelling.{Spells}
-use Rattle.dc_row.specs.declared.TheConstants.{EMPTY_ROW}
+use Rattle.dc_row.specs.Narrow.{told_words, RowsEndInZeros}
+use Rattle.dc_row.specs.declared.TheConstants.{EMPTY_ROW, ROW_WORDS}
 use Rattle.dc_index.specs.Slots.{Slot, slot_of, has_key}
 use Rattle.dc_index.specs.Slots.Slot.{Free, Retired, Holds as Held}
 use Rattle.dc_shrink.specs.Listings.{Listing, is_in, last_of, pins_of}
@@ -16,7 +17,9 @@ use Rattle.dc_events.specs.Rows.{most, base_of, count, row_words}
 use Rattle.dc_table.specs.Rows.{At, is_retired, OfNone, Agree, FitsSlot, IsOf, Rest}
 use Rattle.dc_rows.specs.Rows.{MayTell, Wrote}
 use Rattle.dc_rows.specs.Filling.{Redone, Emptied, Given}
+use Rattle.dc_rows.specs.Narrow.{ZeroFrom, HasFrom, most_words}
 use Rattle.dc_rows.proofs.Cells.{row_raised, count_now, spells_too}
+use Rattle.dc_rows.proofs.Narrow.{has_zeros, past_empty, past_text, rest_narrow, zero_later}
 use Rattle.dc_rows.proofs.Slots.{moved, agrees}
 use Rattle.dc_rows.proofs.Shuts.{below_end}
 
@@ -69,6 +72,21 @@ module _ (t : Tree) (rows : ℕ) (words : List ℕ) (slots : List Slot) (used : 
   placed_empty empty u ss after e sets same = let sp : Spells (row_words u row) None = spells_too u EMPTY_ROW row None empty (λ i some few. e.redone.own i some few ∙ ap (λ ws. get_or ws i 0) (empty_words e.more)) in
       ⊎_elim (λ (f : e.slot ≡ Free). placed u EMPTY_ROW e.more e.slot after ss e.redone (subst (FitsSlot t (row_words u row)) (sym f) sp) e.ended (subst (λ b. SetsUse row b used after) (sym (ap has_key f)) sets) same e.is)
       (λ (f : e.slot ≡ Retired). placed u EMPTY_ROW e.more e.slot after ss e.redone (subst (FitsSlot t (row_words u row)) (sym f) sp) e.ended (subst (λ b. SetsUse row b used after) (sym (ap has_key f)) sets) same e.is) e.keyless
+
+-- a row at rest, as it is emptied and as it is filled
+module _ (t : Tree) (rows : ℕ) (words : List ℕ) (slots : List Slot) (used : Listing) (s : Rest t rows words slots used) (row : ℕ) where
+  row_zero : row < length slots → ZeroFrom (most_words (slot_of slots row)) (row_words words row)
+  row_zero below = rest_narrow t rows words slots used s row (subst (λ (m : ℕ). row < m) s.fit.indexed below)
+
+  pub has_empty : row < length slots → (end : ℕ) → most_words (slot_of slots row) ≤ end → end ≤ ROW_WORDS → HasFrom end words row EMPTY_ROW
+  has_empty below end past few = has_zeros words row EMPTY_ROW end few (zero_later _ end _ past (row_zero below)) (past_empty end)
+
+  pub has_emptied : has_key (slot_of slots row) ≡ true → (end : ℕ) → end ≡ most_words (slot_of slots row) → HasFrom end words row EMPTY_ROW
+  has_emptied keyed end is = has_empty (keyed_within slots row keyed) end (omega arith) (omega arith)
+
+  pub has_told : RowsEndInZeros → row < length slots → (own : List ℕ) (key : Key) → IsOf t own key → (end : ℕ) → told_words own ≤ end → most_words (slot_of slots row) ≤ end → end ≤ ROW_WORDS → HasFrom end words row own
+  has_told law below own key of end told past few = let size = (law own of.fact of.spelled).size in
+      has_zeros words row own end few (zero_later _ end _ past (row_zero below)) (past_text own (Some of.fact) of.spelled end (omega arith))
 
 -- the count of a row that is shut and to be opened again
 module _ (t : Tree) (rows : ℕ) (words : List ℕ) (row : ℕ) (inside : row < rows) (even : count words row % 2 ≡ 0) (low : count words row < most) (size : length words ≡ base_of rows) (ws : List ℕ) (is : ws ≡ set words (base_of row) (count words row + 1)) where

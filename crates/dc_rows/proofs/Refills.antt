@@ -11,8 +11,10 @@ use Rattle.dc_row.specs.Spelling.{Spells}
 use Rattle.dc_row.specs.declared.TheConstants.{EMPTY_ROW}
 use Rattle.dc_events.specs.Rows.{most, count, row_words}
 use Rattle.dc_table.specs.Rows.{At, is_retired, IsOdd, FitsSlot, IsOf, MayStand}
+use Rattle.dc_rows.specs.Narrow.{ZeroFrom, HasFrom, most_words}
 use Rattle.dc_rows.specs.Rows.{Between, Stage, Wrote}
 use Rattle.dc_rows.proofs.Cells.{spells_too}
+use Rattle.dc_rows.proofs.Narrow.{fits_narrow, has_zeros, narrow_moved, past_empty, past_nothing}
 use Rattle.dc_rows.proofs.Slots.{held_two, held_within, free_held, unheld, at_for, moved, rest_less, agrees}
 
 module _ (t : Tree) (rows : ℕ) (words : List ℕ) (slots : List Slot) (used : Listing) (i n : ℕ) (keys : List Key) (x : Key) (less : i < n) (here : slice_get keys i ≡ Some x) (s : Stage t rows words slots used i n keys) where
@@ -22,6 +24,7 @@ module _ (t : Tree) (rows : ℕ) (words : List ℕ) (slots : List Slot) (used : 
     fit = s.fit;
     rest = λ r l. at_for t (Between i n keys) (Between (i + 1) n keys) (row_words words r) (slot_of slots r)
         (λ key e. rest_less keys i x key here (λ same. unheld slots x missing r (e ∙ ap Held same)) n) (s.rest r l);
+    narrow = s.narrow;
   }
 
   module _ (row : ℕ) (held : slot_of slots row ≡ Held x) where
@@ -43,6 +46,17 @@ module _ (t : Tree) (rows : ℕ) (words : List ℕ) (slots : List Slot) (used : 
     pub may_tell : (own : List ℕ) → IsOf t own x → MayStand t words row own
     may_tell own of = record { fact = Some of.fact; spelled = of.spelled; now = of.now; last = λ e. let l = odd_row.1 in absurd (omega arith) }
 
+    -- past the words of its key the row is zero, and so are words that tell of the key
+    module _ (end : ℕ) (is : end ≡ most_words (slot_of slots row)) where
+      zero_row : ZeroFrom end (row_words words row)
+      zero_row = subst (λ (e : ℕ). ZeroFrom e (row_words words row)) (sym is) (s.narrow row inside)
+
+      pub has_own : (own : List ℕ) → IsOf t own x → HasFrom end words row own
+      has_own own of = has_zeros words row own end (omega arith) zero_row (subst (λ (e : ℕ). ZeroFrom e own) (sym (is ∙ ap most_words held)) (fits_narrow t own (Held x) of))
+
+      pub has_nothing : HasFrom end words row EMPTY_ROW
+      has_nothing = has_zeros words row EMPTY_ROW end (omega arith) zero_row (past_empty end)
+
     module _ (distinct : AreDistinct keys) (index : IsIndex slots) (u : List ℕ) where
       other_key : (r : ℕ) (key : Key) → r ≢ row → slot_of slots r ≡ Held key → Between i n keys key ↔ Between (i + 1) n keys key
       other_key r key ne f = rest_less keys i x key here (λ same. ne (index.one r row x (f ∙ ap Held same) held)) n
@@ -52,15 +66,17 @@ module _ (t : Tree) (rows : ℕ) (words : List ℕ) (slots : List Slot) (used : 
       past b = let eq = distinct b.0 i x b.3 here in let l = b.1 in absurd (omega arith)
 
       pub filled : (own : List ℕ) → IsOf t own x → Wrote words u row own 1 → Stage t rows u slots used (i + 1) n keys
-      filled own of w = let c = w.count in let o = odd_row.0 in let l = odd_row.1 in record {
-        fit = record { indexed = s.fit.indexed; listed = s.fit.listed; agree = s.fit.agree; size = w.size ∙ s.fit.size };
-        rest = moved t rows words u slots slots (Between i n keys) (Between (i + 1) n keys) row w.others (λ r ne. refl) other_key record {
-          odd = λ key f b. absurd (past (subst (λ (k : Key). Between (i + 1) n keys k) (held_two (slot_of slots row) key x f held) b));
-          even = λ none. omega arith;
-          fits = λ even. ∣ subst (λ (slot : Slot). FitsSlot t (row_words u row) slot) (sym held) record { fact = of.fact; about = of.about; now = of.now; spelled = spells_too u own row (Some of.fact) of.spelled w.own } ∣₁;
-          ended = (λ gone. absurd (true≢false (sym gone ∙ ap is_retired held)), λ full. absurd (omega arith));
-        } s.rest;
-      }
+      filled own of w = let c = w.count in let o = odd_row.0 in let l = odd_row.1 in
+          let told : FitsSlot t (row_words u row) (Held x) = record { fact = of.fact; about = of.about; now = of.now; spelled = spells_too u own row (Some of.fact) of.spelled w.own } in record {
+            fit = record { indexed = s.fit.indexed; listed = s.fit.listed; agree = s.fit.agree; size = w.size ∙ s.fit.size };
+            rest = moved t rows words u slots slots (Between i n keys) (Between (i + 1) n keys) row w.others (λ r ne. refl) other_key record {
+              odd = λ key f b. absurd (past (subst (λ (k : Key). Between (i + 1) n keys k) (held_two (slot_of slots row) key x f held) b));
+              even = λ none. omega arith;
+              fits = λ even. ∣ subst (λ (slot : Slot). FitsSlot t (row_words u row) slot) (sym held) told ∣₁;
+              ended = (λ gone. absurd (true≢false (sym gone ∙ ap is_retired held)), λ full. absurd (omega arith));
+            } s.rest;
+            narrow = narrow_moved rows words u slots slots row w.others (λ r ne. refl) (subst (λ (slot : Slot). ZeroFrom (most_words slot) (row_words u row)) (sym held) (fits_narrow t (row_words u row) (Held x) told)) s.narrow;
+          }
 
       -- no row can tell the fact: the row is empty and free
       pub emptied : (ss : List Slot) (after : Listing) → Spells EMPTY_ROW None → Wrote words u row EMPTY_ROW 1 → ss ≡ slice_set slots row (cleared (slot_of slots row)) → after.rows ≡ used.rows → SetsUse row false used after → Stage t rows u ss after (i + 1) n keys
@@ -76,4 +92,5 @@ module _ (t : Tree) (rows : ℕ) (words : List ℕ) (slots : List Slot) (used : 
                   fits = λ even. ∣ spells_too u EMPTY_ROW row None empty w.own ∣₁;
                   ended = (λ now. absurd (true≢false (sym now)), λ full. absurd (omega arith));
                 }) s.rest;
+            narrow = narrow_moved rows words u slots (slice_set slots row Free) row w.others (λ r ne. get_or-set_other slots row r Free Free ne) (past_nothing (row_words u row) (spells_too u EMPTY_ROW row None empty w.own) _) s.narrow;
           }

@@ -14,9 +14,11 @@ use Rattle.dc_row.specs.Spelling.{Spells}
 use Rattle.dc_row.specs.declared.TheConstants.{EMPTY_ROW}
 use Rattle.dc_events.specs.Rows.{most, base_of, count, row_words}
 use Rattle.dc_table.specs.Rows.{At, is_retired}
+use Rattle.dc_rows.specs.Narrow.{ZeroFrom, most_words}
 use Rattle.dc_rows.specs.Rows.{Between, Stage, Wrote}
 use Rattle.std.proofs.lemmas.Bool.{cases_lt}
 use Rattle.dc_rows.proofs.Cells.{count_now, row_raised, spells_too}
+use Rattle.dc_rows.proofs.Narrow.{narrow_moved, narrow_raised, past_nothing}
 use Rattle.dc_rows.proofs.Slots.{held_two, held_within, retired_held, unheld, at_for, moved, first_more, agrees}
 
 pub key_at : (keys : List rust_key.Key) (i : ℕ) (x : rust_key.Key) → i < length keys → x ≡ get_or keys i x → slice_get (map key_shown keys) i ≡ Some (key_shown x)
@@ -36,6 +38,7 @@ module _ (t : Tree) (rows : ℕ) (words : List ℕ) (slots : List Slot) (used : 
     fit = s.fit;
     rest = λ r l. at_for t (Between 0 i keys) (Between 0 (i + 1) keys) (row_words words r) (slot_of slots r)
         (λ key e. first_more keys i x key here (λ same. unheld slots x missing r (e ∙ ap Held same))) (s.rest r l);
+    narrow = s.narrow;
   }
 
   module _ (row : ℕ) (held : slot_of slots row ≡ Held x) (distinct : AreDistinct keys) where
@@ -78,6 +81,7 @@ module _ (t : Tree) (rows : ℕ) (words : List ℕ) (slots : List Slot) (used : 
           fits = λ even. absurd (odd_even (count ws row) odd_now even);
           ended = (λ gone. absurd (true≢false (sym gone ∙ ap is_retired held)), λ full. absurd (omega arith));
         } s.rest;
+        narrow = narrow_moved rows words ws slots slots row others (λ r ne. refl) (subst (λ (z : List ℕ). ZeroFrom (most_words (slot_of slots row)) (row_words z row)) (sym is) (narrow_raised words row (count words row + 1) _ (s.narrow row within))) s.narrow;
       }
 
       -- that was its last opening: it is empty, and has no key any more
@@ -93,4 +97,6 @@ module _ (t : Tree) (rows : ℕ) (words : List ℕ) (slots : List Slot) (used : 
                   fits = λ even. ∣ spells_too u EMPTY_ROW row None empty w.own ∣₁;
                   ended = (λ gone. omega arith, λ past. refl);
                 }) s.rest;
+            narrow = narrow_moved rows words u slots (slice_set slots row Retired) row (λ r ne. w.others r ne ∙ others r ne) (λ r ne. get_or-set_other slots row r Retired Free ne)
+                (past_nothing (row_words u row) (spells_too u EMPTY_ROW row None empty w.own) _) s.narrow;
           }

@@ -1,4 +1,5 @@
 -- Which rows are filled, shut, pinned and emptied, and what a change is.
+pub mod Narrow
 pub mod Rows
 pub mod Changes
 pub mod Filling

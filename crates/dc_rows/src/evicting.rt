@@ -6,6 +6,7 @@ ghost use Rattle.dc_index.specs.Slots.{slot_of, has_key};
 ghost use Rattle.dc_rows.specs.Changes.{KeepsTree, OnlyWrites, RestAt};
 ghost use Rattle.dc_rows.specs.Filling.{Redone, Emptied};
 ghost use Rattle.dc_rows.specs.Guards.{seat_of, kept_by, rows_of, Keeps};
+ghost use Rattle.dc_rows.specs.Narrow.{HasFrom};
 ghost use Rattle.dc_rows.specs.RowChanges.{EmptiesLast, EmptiesRow};
 ghost use Rattle.dc_rows.specs.Rows.{MayTell};
 ghost use Rattle.dc_table.specs.Changes.{tree_now, words_of};
@@ -13,15 +14,22 @@ ghost use Rattle.dc_table.specs.Holders.{pass_of, rows_held};
 ghost use Rattle.dc_table.specs.Passes.{view, share, CanShut};
 
 use crate::guard::Guard;
-use crate::writing::open_with;
+use crate::writing::{most_words, open_with};
 use dc_row::{EMPTY_ROW, ROW_WORDS, empty_row_spells_nothing};
 use dc_table::{Guarded, Holder, MOST_COUNT};
 
-/// Shuts a row, writes its words and opens it. `false` where that was its last opening: then it is empty.
-pub(crate) fn rewrite(holder: &mut Holder<'_>, row: u64, words: &[u64; ROW_WORDS]) -> bool
+/// Shuts a row, writes its words up to a place from which on it has them already, and opens it. `false`
+/// where that was its last opening: then it is empty.
+pub(crate) fn rewrite(
+    holder: &mut Holder<'_>,
+    row: u64,
+    words: &[u64; ROW_WORDS],
+    end: usize,
+) -> bool
     requires row { let p = pass_of holder.old in (row < (share p).rows) × CanShut (view p) row }
     requires size { let p = pass_of holder.old in length (words_of p) ≡ base_of (share p).rows }
     requires tells { MayTell (tree_now (pass_of holder.old)) words.now }
+    requires has { HasFrom end (words_of (pass_of holder.old)) row words.now }
     ensures same_reference { holder.new.pass.ghost_name ≡ holder.old.pass.ghost_name }
     ensures pass { OnlyWrites (pass_of holder.old) (pass_of holder.new) }
     ensures redone { Redone (words_of (pass_of holder.old)) (words_of (pass_of holder.new)) row
@@ -30,18 +38,21 @@ pub(crate) fn rewrite(holder: &mut Holder<'_>, row: u64, words: &[u64; ROW_WORDS
     empty_row_spells_nothing();
     let odd = holder.shut_row(row);
     if odd + 1 >= MOST_COUNT {
-        open_with(holder, row, &EMPTY_ROW);
+        // `end` is that of other words, and an empty row may have other ones from there on: all are written.
+        open_with(holder, row, &EMPTY_ROW, ROW_WORDS);
         return false;
     }
-    open_with(holder, row, words);
+    open_with(holder, row, words, end);
     true
 }
 
-/// Empties a row that has a key, which it loses. Whether it is in use is another's matter.
-pub(crate) fn empty(holder: &mut Holder<'_>, kept: &mut Guarded, row: u64)
+/// Empties a row that has a key, which it loses, and that is zero from a place on. Whether it is in use is
+/// another's matter.
+pub(crate) fn empty(holder: &mut Holder<'_>, kept: &mut Guarded, row: u64, end: usize)
     requires row { let p = pass_of holder.old in (row < (share p).rows) × CanShut (view p) row }
     requires size { let p = pass_of holder.old in length (words_of p) ≡ base_of (share p).rows }
     requires key { has_key (slot_of kept.old.index row) ≡ true }
+    requires zeros { HasFrom end (words_of (pass_of holder.old)) row EMPTY_ROW }
     ensures same_reference { holder.new.pass.ghost_name ≡ holder.old.pass.ghost_name }
     ensures pass { OnlyWrites (pass_of holder.old) (pass_of holder.new) }
     ensures tree { KeepsTree kept.old kept.new }
@@ -50,7 +61,7 @@ pub(crate) fn empty(holder: &mut Holder<'_>, kept: &mut Guarded, row: u64)
         kept.old.index kept.new.index row }
 {
     empty_row_spells_nothing();
-    if rewrite(holder, row, &EMPTY_ROW) {
+    if rewrite(holder, row, &EMPTY_ROW, end) {
         kept.index.clear(row);
     } else {
         kept.index.retire(row);
@@ -68,7 +79,8 @@ fn evict_row(holder: &mut Holder<'_>, kept: &mut Guarded, row: u64)
     ensures rows { EmptiesRow row (rows_held holder.old kept.old) (rows_held holder.new kept.new) }
 {
     empty_row_spells_nothing();
-    empty(holder, kept, row);
+    let end = most_words(&kept.index, row);
+    empty(holder, kept, row, end);
     kept.shrinker.remove(row);
 }
 

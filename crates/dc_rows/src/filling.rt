@@ -4,36 +4,42 @@ ghost use Rattle.std.specs.Prelude.{◌≡◌, None, IfOk, IfSome};
 ghost use Rattle.dc_index.specs.Slots.{slot_of, IsRowOf};
 ghost use Rattle.dc_index.specs.Slots.Slot.{Holds as Held};
 ghost use Rattle.dc_plain.specs.KeysShown.{key_shown};
+ghost use Rattle.dc_row.specs.declared.TheConstants.{EMPTY_ROW};
 ghost use Rattle.dc_rows.specs.Changes.{KeepsTree, OnlyWrites, RestAt};
 ghost use Rattle.dc_rows.specs.Filling.{GivenAt};
 ghost use Rattle.dc_rows.specs.Guards.{kept_by, rows_of, Keeps};
+ghost use Rattle.dc_rows.specs.Narrow.{HasFrom};
 ghost use Rattle.dc_rows.specs.Outcomes.{Fills};
 ghost use Rattle.dc_rows.specs.RowChanges.{Gets, IsFilled, LeadsTo, OnlyRow};
 ghost use Rattle.dc_shrink.specs.Listings.{pins_of};
-ghost use Rattle.dc_table.specs.Changes.{tree_now};
+ghost use Rattle.dc_table.specs.Changes.{tree_now, words_of};
 ghost use Rattle.dc_table.specs.Holders.{pass_of, rows_held};
 ghost use Rattle.dc_table.specs.Rows.{IsOf};
 
 use crate::evicting::{empty, rewrite};
 use crate::facts::{entry_words, words_for};
 use crate::guard::Guard;
+use crate::writing::most_words;
 use dc_names::NoMemory;
 use dc_plain::{Key, Target};
-use dc_row::{ROW_WORDS, empty_row_spells_nothing};
+use dc_row::{ROW_WORDS, empty_row_spells_nothing, rows_end_in_zeros, told_words};
 use dc_table::{Guarded, Holder};
 use std::alloc::Global;
 
 /// Fills a row that was given a key, and takes it into use. Without memory for that it is emptied, and
-/// so it is where its count ends.
+/// so it is where its count ends. From a place on the row and its words are zero.
 fn fill_given(
     holder: &mut Holder<'_>,
     kept: &mut Guarded,
     row: u64,
     key: &Key<'_>,
     words: &[u64; ROW_WORDS],
+    end: usize,
 ) -> Result<Option<u64>, NoMemory>
     requires given { GivenAt (pass_of holder.old) kept.old row (key_shown key.now) }
     requires words { IsOf (tree_now (pass_of holder.old)) words.now (key_shown key.now) }
+    requires has { HasFrom end (words_of (pass_of holder.old)) row words.now }
+    requires zeros { HasFrom end (words_of (pass_of holder.old)) row EMPTY_ROW }
     ensures same_reference { holder.new.pass.ghost_name ≡ holder.old.pass.ghost_name }
     ensures pass { OnlyWrites (pass_of holder.old) (pass_of holder.new) }
     ensures tree { KeepsTree kept.old kept.new }
@@ -45,10 +51,10 @@ fn fill_given(
 {
     empty_row_spells_nothing();
     let Ok(()) = kept.shrinker.add(row) else {
-        empty(holder, kept, row);
+        empty(holder, kept, row, end);
         return Err(NoMemory);
     };
-    if rewrite(holder, row, words) {
+    if rewrite(holder, row, words, end) {
         return Ok(Some(row));
     }
     kept.index.retire(row);
@@ -76,16 +82,21 @@ fn fill_new(
     ensures rows { Gets (key_shown key.now) 0 (rows_held holder.old kept.old)
         (rows_held holder.new kept.new) result }
 {
+    rows_end_in_zeros();
     let Some(row) = kept.index.choose(&kept.shrinker, key) else {
         return Ok(None);
     };
+    // A longer name that stood in the row would leave its end there. So the former key is asked while it is
+    // known: past its words and the new ones all are zero.
+    let former = most_words(&kept.index, row);
+    let end = told_words(words).max(former);
     let evicts = kept.index.has_key(row);
     kept.index.set(alloc, row, key)?;
     if evicts {
         holder.count_eviction();
     }
     kept.shrinker.remove(row);
-    fill_given(holder, kept, row, key, words)
+    fill_given(holder, kept, row, key, words, end)
 }
 
 /// The row of a key, which is filled where no row has the key.

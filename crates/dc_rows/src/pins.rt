@@ -12,6 +12,7 @@ ghost use Rattle.dc_table.specs.Passes.{share};
 
 use crate::evicting::empty;
 use crate::guard::Guard;
+use crate::writing::most_words;
 use dc_names::NoMemory;
 use dc_plain::Key;
 use dc_row::empty_row_spells_nothing;
@@ -33,7 +34,8 @@ fn unpin_row(holder: &mut Holder<'_>, kept: &mut Guarded, row: u64)
         return;
     }
     if let Err(NoMemory) = kept.shrinker.unpin(row) {
-        empty(holder, kept, row);
+        let end = most_words(&kept.index, row);
+        empty(holder, kept, row, end);
     }
 }
 

@@ -9,9 +9,9 @@ ghost use Rattle.dc_table.specs.Changes.{tree_now};
 ghost use Rattle.dc_table.specs.Holders.{pass_of};
 
 use crate::facts::words_for;
-use crate::writing::open_with;
+use crate::writing::{most_words, open_with};
 use dc_plain::Key;
-use dc_row::{EMPTY_ROW, empty_row_spells_nothing};
+use dc_row::{EMPTY_ROW, ROW_WORDS, empty_row_spells_nothing};
 use dc_table::{Guarded, Holder, MOST_COUNT};
 
 /// Shuts the row that has a key, if any has it.
@@ -35,7 +35,7 @@ fn shut_key(holder: &mut Holder<'_>, kept: &mut Guarded, keys: &[Key<'_>], i: us
     // A count at its end would be used again for other words. The row is emptied, and no key gets it any
     // more, so whoever noted the count finds nothing else under it.
     if odd + 1 >= MOST_COUNT {
-        open_with(holder, row, &EMPTY_ROW);
+        open_with(holder, row, &EMPTY_ROW, ROW_WORDS);
         kept.index.retire(row);
         kept.shrinker.remove(row);
     }
@@ -78,10 +78,12 @@ fn refill_key(holder: &mut Holder<'_>, kept: &mut Guarded, keys: &[Key<'_>], i: 
     let Some(row) = kept.index.row_of(key) else {
         return;
     };
+    // The odd row tells still what it told of this key, so its text is no longer than the key lets it be.
+    let end = most_words(&kept.index, row);
     match words_for(&kept.store, key) {
-        Some(words) => open_with(holder, row, &words),
+        Some(words) => open_with(holder, row, &words, end),
         None => {
-            open_with(holder, row, &EMPTY_ROW);
+            open_with(holder, row, &EMPTY_ROW, end);
             kept.index.clear(row);
             kept.shrinker.remove(row);
         }

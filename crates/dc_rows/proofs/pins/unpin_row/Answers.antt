@@ -1,9 +1,12 @@
 use Rattle.std.proofs.Common.{refl, ap, sym, subst, false, arith, ◌∙◌}
 use Rattle.dc_shrink.specs.Uses.{SetsUse}
-use Rattle.dc_rows.proofs.Placed.{keyed_within, keyed_open, pinned_keyed, placed_empty}
+use Rattle.dc_rows.proofs.Placed.{has_emptied, keyed_within, keyed_open, pinned_keyed, placed_empty}
 use Rattle.dc_rows.proofs.Pinning.{unpins_one, unpins_last}
 use Rattle.dc_rows.proofs.Stages.{rest_on}
 use Rattle.dc_rows.proofs.pins.unpin_row.Goals as goal
+
+pub empty-requires-clause-zeros : goal.empty-requires-clause-zeros
+empty-requires-clause-zeros c = let k = c.args.kept.now in let one = c.in-Err.ensures.last in has_emptied _ _ _ _ _ c.requires.rest c.args.row (pinned_keyed k.index k.shrinker c.args.row c.requires.rest.fit.agree (omega arith)) _ c.most_words-end.ensures
 
 pub returns-in-Err-clause-rest : goal.returns-in-Err-clause-rest
 returns-in-Err-clause-rest c = let k = c.args.kept.now in let one = c.in-Err.ensures.last in let keyed = pinned_keyed k.index k.shrinker c.args.row c.requires.rest.fit.agree (omega arith) in

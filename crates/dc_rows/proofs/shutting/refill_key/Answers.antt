@@ -3,7 +3,8 @@ use Rattle.dc_plain.specs.KeysShown.{key_shown}
 use Rattle.dc_plain.specs.Trees.{Tree}
 use Rattle.dc_table.specs.Rows.{IsOf}
 use Rattle.dc_rows.proofs.Shuts.{key_at}
-use Rattle.dc_rows.proofs.Refills.{none_less, inside, can_write, low_row, low_odd, may_tell, filled, emptied}
+use Rattle.dc_rows.proofs.Refills.{none_less, inside, can_write, low_row, low_odd, may_tell, has_own, has_nothing, filled, emptied}
+use Rattle.dc_rows.proofs.Slots.{held_within}
 use Rattle.dc_rows.proofs.Turning.{turns_none}
 use Rattle.dc_rows.proofs.Retelling.{refilled_kept, refilled_lost}
 use Rattle.dc_rows.specs.Refills.{Refilled}
@@ -13,6 +14,16 @@ use Rattle.dc_rows.proofs.shutting.refill_key.Goals as goal
 pub returns-in_default-clause-stage : goal.returns-in_default-clause-stage
 returns-in_default-clause-stage c = none_less _ _ _ _ _ c.args.i (length c.args.keys.now) (map key_shown c.args.keys.now) (key_shown c.index-keys-i.result) c.requires.place
     (key_at c.args.keys.now c.args.i c.index-keys-i.result c.requires.place c.index-keys-i.is) c.requires.stage c.in_default.ensures.row
+
+pub most_words-end-requires : goal.most_words-end-requires
+most_words-end-requires c = held_within _ c.in-Some.row _ ((c.in-Some.ensures.row c.in-Some.row).0 refl)
+
+pub open_with-requires-clause-has : goal.open_with-requires-clause-has
+open_with-requires-clause-has c = has_own _ _ _ _ _ c.args.i _ _ _ c.requires.place (key_at c.args.keys.now c.args.i c.index-keys-i.result c.requires.place c.index-keys-i.is) c.requires.stage c.in-Some.row ((c.in-Some.ensures.row c.in-Some.row).0 refl)
+    _ c.most_words-end.ensures c.in-Some-words_for.words (subst (λ (t : Tree). IsOf t c.in-Some-words_for.words (key_shown c.index-keys-i.result)) c.requires.store c.in-Some-words_for.ensures.some)
+
+pub open_with-requires-in-None-clause-has : goal.open_with-requires-in-None-clause-has
+open_with-requires-in-None-clause-has c = has_nothing _ _ _ _ _ c.args.i _ _ _ c.requires.place (key_at c.args.keys.now c.args.i c.index-keys-i.result c.requires.place c.index-keys-i.is) c.requires.stage c.in-Some.row ((c.in-Some.ensures.row c.in-Some.row).0 refl) _ c.most_words-end.ensures
 
 pub open_with-requires-clause-row : goal.open_with-requires-clause-row
 open_with-requires-clause-row c = inside _ _ _ _ _ c.args.i _ _ _ c.requires.place (key_at c.args.keys.now c.args.i c.index-keys-i.result c.requires.place c.index-keys-i.is) c.requires.stage c.in-Some.row ((c.in-Some.ensures.row c.in-Some.row).0 refl)
