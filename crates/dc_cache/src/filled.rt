@@ -7,7 +7,7 @@ ghost use Rattle.dc_plain.specs.Requests.Request.{Look};
 
 use crate::cache::{Dcache, Pass};
 use crate::held::look_held;
-use dc_names::parse;
+use dc_names::{PathText, parse};
 use dc_plain::{Follow, Stamped};
 use dc_rows::Guard;
 use dc_walk::Fast;
@@ -38,8 +38,27 @@ impl Dcache {
         if let Fast::Done(stamped) = self.look_fast(pass, base, text, follow) {
             return stamped;
         }
+        self.look_missed(rt, alloc, pass, base, text, follow)
+    }
+
+    /// Where a path leads, always answered, for a caller whose `look_fast` has just given up: it goes on as
+    /// `look_filled` does, without a second walk by rows that would give up too. It asks the tree, and fills
+    /// the rows of the path under the same hold of the lock.
+    pub fn look_missed<R: Wait>(
+        &self,
+        rt: &R,
+        alloc: Global,
+        pass: &mut Pass,
+        base: u64,
+        path: PathText<'_>,
+        follow: Follow,
+    ) -> Stamped
+        requires pass { Fits self.now pass.old }
+        ensures same { Fits self.now pass.new × (share pass.new ≡ share pass.old) }
+        ensures answered { Answered pass.old pass.new (Look base path.entry.bytes.now follow) result }
+    {
         let guard = Guard::lock(&self.shared, rt, &mut pass.seat);
-        let (back, found) = look_held(guard, alloc, base, text, follow);
+        let (back, found) = look_held(guard, alloc, base, path, follow);
         // For the proof: the seat is back as it is bound.
         let _seat = back;
         self.shared.wake();

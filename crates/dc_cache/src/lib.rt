@@ -47,6 +47,7 @@
 //! | `look_counted` | for each name | for rows | `Again`, with the cause |
 //! | `look` | if the rows don't answer | for rows, as far as there is any | never |
 //! | `look_filled` | once, if the rows don't answer | for rows, as far as there is any | never |
+//! | `look_missed`, after `look_fast` | once | for rows, as far as there is any | never |
 //! | `stat` | yes | none | never |
 //! | `readlink`, `list` | yes | for the text or the names | `NoMemory` |
 //! | `change` | yes | for what it makes or moves | `NoMemory`, `Spent` |

@@ -49,7 +49,7 @@ fn look_slowly<R: Wait>(
     if let Miss::OneHold = miss {
         tally.by_lock = tally.by_lock.saturating_add(1);
         return cache
-            .look_filled(rt, alloc, pass, ROOT, path.bytes(), Follow::Yes)
+            .look_missed(rt, alloc, pass, ROOT, path, Follow::Yes)
             .reply;
     }
     if let Fast::Done(found) = cache.look_counted(rt, alloc, pass, ROOT, path, Follow::Yes) {
