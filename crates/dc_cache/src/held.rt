@@ -1,20 +1,33 @@
 //! What is done under one hold of the lock. Each hands the pass back as the lock is given back.
 
+ghost use Rattle.std.specs.Prelude.{ℕ};
 ghost use Rattle.dc_cache.specs.Holds.{HandsBack, RecordsOne, TellsOne};
 ghost use Rattle.dc_ops.specs.Asked.{IsSought, IsToldAtLength};
+ghost use Rattle.dc_ops.specs.Settled.{DeclinesCall};
 ghost use Rattle.dc_plain.specs.Requests.{request_of};
 ghost use Rattle.dc_plain.specs.Requests.Request.{Look};
-ghost use Rattle.dc_rows.specs.Guards.{seat_of};
+ghost use Rattle.dc_rows.specs.Guards.{seat_of, kept_by};
 ghost use Rattle.dc_table.specs.Changes.{IsTaken};
 ghost use Rattle.dc_table.specs.Passes.{view};
 
 use crate::filler::Filler;
 use dc_names::{NoMemory, PathText};
 use dc_ops::{ask, look_by, seek};
-use dc_plain::{Call, Follow, Stamped};
+use dc_plain::{Call, Follow, Reply, Stamped};
 use dc_rows::Guard;
 use dc_table::Pass as Seat;
 use std::alloc::Global;
+
+/// Answers a call that alters nothing, whose reply is known.
+fn answer_held<'t>(guard: Guard<'t>, call: &Call<'_>, reply: Reply) -> (&'t mut Seat, Stamped)
+    requires taken { IsTaken (view (seat_of guard)) }
+    requires declines { (limit : ℕ) → DeclinesCall limit (kept_by guard).store call.now reply }
+    ensures same { HandsBack guard.entry result.0 }
+    ensures recorded { RecordsOne guard.entry result.0 (request_of call.now) result.1 }
+{
+    let at = guard.clock();
+    (guard.answer(call), Stamped { reply, at })
+}
 
 /// Answers a `Look` or a `Stat`.
 pub(crate) fn seek_held<'t>(guard: Guard<'t>, call: &Call<'_>) -> (&'t mut Seat, Stamped)
@@ -24,8 +37,7 @@ pub(crate) fn seek_held<'t>(guard: Guard<'t>, call: &Call<'_>) -> (&'t mut Seat,
     ensures recorded { RecordsOne guard.entry result.0 (request_of call.now) result.1 }
 {
     let reply = seek(guard.store(), call);
-    let at = guard.clock();
-    (guard.answer(call), Stamped { reply, at })
+    answer_held(guard, call, reply)
 }
 
 /// Answers a `Readlink` or a `List`.
@@ -76,10 +88,9 @@ pub(crate) fn look_held<'t>(
         path: path.bytes(),
         follow,
     };
-    // It stopped at a text that no row has room for. The tree knows where that leads.
-    let Some(reply) = reply else {
-        return seek_held(guard, &call);
-    };
-    let at = guard.clock();
-    (guard.answer(&call), Stamped { reply, at })
+    match reply {
+        Some(reply) => answer_held(guard, &call, reply),
+        // It stopped at a text that no row has room for. The tree knows where that leads.
+        None => seek_held(guard, &call),
+    }
 }
