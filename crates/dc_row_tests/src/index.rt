@@ -98,6 +98,28 @@ fn the_longest_name_has_a_row(rt: HostRuntime) -> Result<(), Fail> {
     Ok(())
 }
 
+/// How many bytes the text of the last row of one bucket has at most, before it gets a key and after.
+fn most_texts(alloc: Global, key: &Key<'_>) -> Result<[usize; 2], NoMemory> {
+    let mut index = new_index_again(alloc, 1)?;
+    let before = index.most_text(3);
+    set_again(&mut index, alloc, 3, key)?;
+    Ok([before, index.most_text(3)])
+}
+
+#[test]
+fn a_text_is_no_longer_than_its_key_lets_it_be(rt: HostRuntime) -> Result<(), Fail> {
+    let name = Name::new(b"abc").ok_or("no name")?;
+    for (label, most) in [
+        (Label::Name(name), 3),
+        (Label::DotDot, 2),
+        (Label::Text, 255),
+    ] {
+        let texts = most_texts(rt.alloc(), &Key { number: 7, label })?;
+        assert_eq!(rt; texts, [0, most]);
+    }
+    Ok(())
+}
+
 /// An index and a shrinker in which the same rows are in use.
 #[derive(Drop)]
 struct Rows {
