@@ -1,5 +1,5 @@
 -- A test of the bytes of a list's chunks, and of its last bytes.
-use Rattle.std.proofs.Common.{◌≡◌, ℕ, zero, suc, ◌+◌, ◌*◌, ◌≤◌, ◌||◌, ◌∷◌, [], List, take, drop, Bool, true, false, refl, sym, ap, ◌∙◌, arith}
+use Rattle.std.proofs.Common.{◌≡◌, ℕ, zero, suc, ◌+◌, ◌-◌, ◌*◌, ◌/◌, ◌<◌, ◌≤◌, ◌||◌, ◌∷◌, [], List, length, take, drop, Bool, true, false, refl, sym, ap, ◌∙◌, arith}
 use Rattle.std.specs.List.{list_any}
 use Rattle.std.specs.Simd.{first_chunks}
 use Rattle.std.proofs.Math.Bool.{or-true, or-false}
@@ -36,3 +36,16 @@ last_and_first p zero m xs le = first_within p m xs
 last_and_first p (suc n) zero xs le = absurd (omega arith)
 last_and_first p (suc n) (suc m) [] le = refl
 last_and_first p (suc n) (suc m) (x ∷ xs) le = either (p x) (list_any p (drop n xs)) (list_any p (take m xs)) (list_any p xs) (last_and_first p n m xs (omega arith))
+
+-- the last n bytes, and as many chunks of n as there are
+pub last_and_chunks : (p : ℕ → Bool) (n : ℕ) (xs last : List ℕ) → 0 < n → last ≡ drop (length xs - n) xs → (found : Bool) → found ≡ list_any p last → (found || list_any p (take (length xs / n * n) xs)) ≡ list_any p xs
+last_and_chunks p n xs last some is found told =
+    let behind : length xs - n ≤ length xs / n * n = omega (arith, some) in
+    ap (λ (b : Bool). b || list_any p (take (length xs / n * n) xs)) (told ∙ ap (λ (ys : List ℕ). list_any p ys) is) ∙ last_and_first p (length xs - n) (length xs / n * n) xs behind
+
+-- what the last bytes and the first ones tell together
+pub by_last : (last first all : Bool) → (last || first) ≡ all → last ≡ true → last ≡ all
+by_last last first all whole found = found ∙ sym (ap (λ b. b || first) found) ∙ whole
+
+pub by_first : (last first all : Bool) → (last || first) ≡ all → last ≡ false → first ≡ all
+by_first last first all whole none = sym (ap (λ b. b || first) none) ∙ whole

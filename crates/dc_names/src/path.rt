@@ -1,6 +1,6 @@
 //! Paths as bytes.
 
-ghost use Rattle.std.specs.Prelude.{◌≡◌, ◌==◌, ◌||◌, IfOk, IfErr, IfSome, ◌<◌, ◌≤◌, IsTrue, None, Some, length, nat_lt};
+ghost use Rattle.std.specs.Prelude.{◌≡◌, ◌==◌, IfOk, IfErr, IfSome, ◌<◌, ◌≤◌, IsTrue, None, Some, length, nat_lt};
 ghost use Rattle.std.specs.List.{list_any, list_all};
 ghost use Rattle.dc_names.specs.Bytes.{pieces, has_parts};
 ghost use Rattle.dc_names.specs.declared.limits.TheConstants.{NAME_MAX};
@@ -67,12 +67,12 @@ fn has_zero_by<const N: usize>(bytes: &[u8]) -> Option<bool>
 {
     let last = bytes.last_chunk::<N>()?;
     let (chunks, _) = bytes.as_chunks::<N>();
-    let zero = chunks.iter().fold(
-        is_any_zero(last),
-        |zero, chunk|
-            ensures { result ≡ (zero || list_any (λ b. b == 0) chunk.now) }
-        { zero | is_any_zero(chunk) },
-    );
+    let zero = is_any_zero(last)
+        || chunks.iter().any(
+            |chunk|
+                ensures { result ≡ list_any (λ b. b == 0) chunk.now }
+            { is_any_zero(chunk) },
+        );
     Some(zero)
 }
 
