@@ -17,6 +17,7 @@ use Rattle.dc_row.specs.Spelling.{Spells, SpellsText, IsSpelled, fields, fields_
 use Rattle.dc_row.specs.declared.TheConstants.{ROW_WORDS, ROW_TEXT, ROW_ROOM}
 use Rattle.dc_row.proofs.Compared.{all_same}
 use Rattle.dc_row.proofs.Decoded.{byte_so}
+use Rattle.dc_row.proofs.Firsts.{wide_size, wide_word}
 use Rattle.dc_row.proofs.Packed.{get_or-padded}
 use Rattle.dc_row.proofs.Lanes.{byte_small, bytes_size, zero_byte}
 use Rattle.dc_row.proofs.Paths.{path_from, path_parts}
@@ -139,6 +140,19 @@ pub record HasText (words : List ℕ) (len : ℕ) : Type 0 where
   pub number : get_or words 2 0 ≢ 0
   pub value : get_or words 3 0 ≡ 0
   pub ends : EndsAt words len
+
+-- and so has a row with these first words
+pub wide_text : (words : List ℕ) {len : ℕ} → length words ≤ ROW_WORDS → ((i : ℕ) → get_or words i 0 < 2 ^ 64) → 0 < len → len ≤ ROW_TEXT → get_or words 1 0 ≡ 2 + 256 * len → get_or words 2 0 ≢ 0 → get_or words 3 0 ≡ 0 → EndsAt words len → HasText (widened words) len
+wide_text words {len} size small some few head number value ends = record {
+  count = wide_size words size;
+  small = λ i. subst (λ (w : ℕ). w < 2 ^ 64) (sym (wide_word words i)) (small i);
+  some = some;
+  few = few;
+  head = wide_word words 1 ∙ head;
+  number = subst (λ (w : ℕ). w ≢ 0) (sym (wide_word words 2)) number;
+  value = wide_word words 3 ∙ value;
+  ends = wide_ends words len ends;
+}
 
 -- the bytes after the text are zero, among those of the words and past their end
 front_at : {words : List ℕ} {len : ℕ} → HasText words len → (i : ℕ) → i < ROW_ROOM → get_or (front words len) i 0 ≡ byte_in words i
