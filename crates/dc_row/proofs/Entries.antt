@@ -26,8 +26,11 @@ entry_spelled {words} key t size kind value ok text are is = (
 )
 
 -- an entry is spelled by a row's first words
-pub wide_entry : (words : List ℕ) {text : List ℕ} {kind value : ℕ} (key : Key) (t : Option Target) → length words ≤ ROW_WORDS → kind_code t ≡ kind → target_number t ≡ value → has_spelling (entry_of key t) ≡ true → text ≡ label_bytes key.label → AreBytes text → IsSpelled words (fields 1 kind key.number value text) → SpellsEntry (widened words) key
-wide_entry words {text} {kind} {value} key t few is_kind is_value ok same are is = entry_spelled key t (wide_size words few) is_kind is_value ok same are (wide_spelled words (fields 1 kind key.number value text) is)
+pub wide_entry : (words : List ℕ) {text : List ℕ} {kind value : ℕ} (key : Key) (t : Option Target)
+    → length words ≤ ROW_WORDS → kind_code t ≡ kind → target_number t ≡ value → has_spelling (entry_of key t) ≡ true → text ≡ label_bytes key.label
+    → AreBytes text → IsSpelled words (fields 1 kind key.number value text) → SpellsEntry (widened words) key
+wide_entry words {text} {kind} {value} key t few is_kind is_value ok same are is =
+    entry_spelled key t (wide_size words few) is_kind is_value ok same are (wide_spelled words (fields 1 kind key.number value text) is)
 
 -- an entry that can be spelled has a number, if it leads anywhere
 numbered_by : (d : ℕ) (label : Label) (target : Option Target) → has_spelling (Some (Leads d label target)) ≡ true → is_numbered target ≡ true
@@ -39,11 +42,14 @@ pub numbered : (key : Key) (target : Option Target) → has_spelling (entry_of k
 numbered key target ok = numbered_by key.number key.label target ok
 
 -- an entry leads where the kind and the value among a row's first words say
-pub wide_target : (words : List ℕ) {kind value : ℕ} (key : Key) (t : Option Target) → kind ≡ get_or words 1 0 / KIND_UNIT % TAGS → value ≡ get_or words 3 0 → Spells (widened words) (entry_of key t) → (kind ≡ kind_code t) × (value ≡ target_number t) × (is_numbered t ≡ true)
+pub wide_target : (words : List ℕ) {kind value : ℕ} (key : Key) (t : Option Target)
+    → kind ≡ get_or words 1 0 / KIND_UNIT % TAGS → value ≡ get_or words 3 0 → Spells (widened words) (entry_of key t) → (kind ≡ kind_code t) × (value ≡ target_number t) × (is_numbered t ≡ true)
 wide_target words key t kind value s = (wide_kind words kind s, wide_value words value s, numbered key t s.allowed)
 
 -- and is spelled by them, and its text
-pub narrow_entry : (words : List ℕ) {text : List ℕ} {kind value : ℕ} (key : Key) (t : Option Target) → kind ≡ get_or words 1 0 / KIND_UNIT % TAGS → value ≡ get_or words 3 0 → text ≡ label_bytes key.label → Spells (widened words) (entry_of key t) → IsSpelled words (fields 1 kind key.number value text)
+pub narrow_entry : (words : List ℕ) {text : List ℕ} {kind value : ℕ} (key : Key) (t : Option Target)
+    → kind ≡ get_or words 1 0 / KIND_UNIT % TAGS → value ≡ get_or words 3 0 → text ≡ label_bytes key.label
+    → Spells (widened words) (entry_of key t) → IsSpelled words (fields 1 kind key.number value text)
 narrow_entry words key t kind value text s = let is = wide_target words key t kind value s in
     subst (IsSpelled words) (λ i. fields 1 (sym is.0 i) key.number (sym is.1 i) (sym text i)) (narrow_spelled words (fields_of (entry_of key t)) s.spelled)
 
@@ -69,12 +75,16 @@ pub head_by_entry : {words : List ℕ} {head number value : ℕ} {key : Key} →
 head_by_entry h s = sym h.head ∙ head_is s.1
 
 -- words with a key's text tell of the key, if their head, number and value say so
-pub tells_by_head : {words : List ℕ} {head number value : ℕ} (key : Key) (t : Option Target) → HasHead words head number value → HasText words (label_bytes key.label) → kind_code t ≡ head / KIND_UNIT % TAGS → target_number t ≡ value → has_spelling (entry_of key t) ≡ true → AreBytes (label_bytes key.label) → number ≡ key.number → head ≡ head_of (fields 1 (head / KIND_UNIT % TAGS) key.number value (label_bytes key.label)) → TellsOf words key
+pub tells_by_head : {words : List ℕ} {head number value : ℕ} (key : Key) (t : Option Target)
+    → HasHead words head number value → HasText words (label_bytes key.label) → kind_code t ≡ head / KIND_UNIT % TAGS → target_number t ≡ value
+    → has_spelling (entry_of key t) ≡ true → AreBytes (label_bytes key.label) → number ≡ key.number
+    → head ≡ head_of (fields 1 (head / KIND_UNIT % TAGS) key.number value (label_bytes key.label)) → TellsOf words key
 tells_by_head {head = head} {value = value} key t h text is_kind is_value ok are number is =
     tells_entry (entry_spelled key t h.size is_kind is_value ok refl are (head_spelled (fields 1 (head / KIND_UNIT % TAGS) key.number value (label_bytes key.label)) h is number refl text))
 
 -- what tells of a key by an entry has the head of one
-pub told_head : {words : List ℕ} {head number value : ℕ} {key : Key} → HasHead words head number value → TellsOf words key → key.label ≢ Text → head ≡ head_of (fields 1 (head / KIND_UNIT % TAGS) key.number value (label_bytes key.label))
+pub told_head : {words : List ℕ} {head number value : ℕ} {key : Key} → HasHead words head number value → TellsOf words key → key.label ≢ Text
+    → head ≡ head_of (fields 1 (head / KIND_UNIT % TAGS) key.number value (label_bytes key.label))
 told_head {key = key} h tells other = let s = entry_told tells other in
     head_by_entry h s ∙ ap (λ (k : ℕ). 1 + LENGTH_UNIT * length (label_bytes key.label) + KIND_UNIT * k) (sym (kind_by_head h s))
 

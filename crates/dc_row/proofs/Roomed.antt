@@ -18,7 +18,9 @@ pub record HasSome (words room : List ℕ) (i : ℕ) : Type 0 where
 pub has_none : (words : List ℕ) → HasSome words (replicate ROW_ROOM 0) 4
 has_none words = record { size = refl; bytes = λ k l. absurd (omega arith); past = λ k l. get_or-zeros ROW_ROOM k }
 
-pub has_more : (words room part : List ℕ) (i m : ℕ) → 4 ≤ i → part ≡ bytes_in (get_or words i 0) → 8 * (i - 4) ≤ length room → 8 * (i - 4) + 8 + length (drop m (drop (8 * (i - 4)) room)) ≡ ROW_ROOM → HasSome words room i → HasSome words (take (8 * (i - 4)) room ++ (part ++ drop m (drop (8 * (i - 4)) room))) (i + 1)
+pub has_more : (words room part : List ℕ) (i m : ℕ) → 4 ≤ i → part ≡ bytes_in (get_or words i 0) → 8 * (i - 4) ≤ length room
+    → 8 * (i - 4) + 8 + length (drop m (drop (8 * (i - 4)) room)) ≡ ROW_ROOM → HasSome words room i
+    → HasSome words (take (8 * (i - 4)) room ++ (part ++ drop m (drop (8 * (i - 4)) room))) (i + 1)
 has_more words room part i m late is fits size h = record {
   size = let eight : length part ≡ 8 = ap length is ∙ bytes_size (get_or words i 0) in grind (arith, common_steps);
   bytes = one_more_word words room part _ i late is fits h.bytes;

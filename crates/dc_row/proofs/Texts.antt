@@ -142,7 +142,8 @@ pub record HasText (words : List ℕ) (len : ℕ) : Type 0 where
   pub ends : EndsAt words len
 
 -- and so has a row with these first words
-pub wide_text : (words : List ℕ) {len : ℕ} → length words ≤ ROW_WORDS → ((i : ℕ) → get_or words i 0 < 2 ^ 64) → 0 < len → len ≤ ROW_TEXT → get_or words 1 0 ≡ 2 + 256 * len → get_or words 2 0 ≢ 0 → get_or words 3 0 ≡ 0 → EndsAt words len → HasText (widened words) len
+pub wide_text : (words : List ℕ) {len : ℕ} → length words ≤ ROW_WORDS → ((i : ℕ) → get_or words i 0 < 2 ^ 64) → 0 < len → len ≤ ROW_TEXT
+    → get_or words 1 0 ≡ 2 + 256 * len → get_or words 2 0 ≢ 0 → get_or words 3 0 ≡ 0 → EndsAt words len → HasText (widened words) len
 wide_text words {len} size small some few head number value ends = record {
   count = wide_size words size;
   small = λ i. subst (λ (w : ℕ). w < 2 ^ 64) (sym (wide_word words i)) (small i);

@@ -20,7 +20,8 @@ pub record Turned (R : RowState → RowState → ℕ → Key → Type 0) (K : Ke
   pub tree : KeepsTree x y
   pub rows : TurnsIn R K h x j y
 
-pub nothing_turned : (R : RowState → RowState → ℕ → Key → Type 0) (keys : List Key) (h : Holder) (x : Guarded) → OnlyWrites (pass_of h) (pass_of h) → Agree (rows_held h x).slots (rows_held h x).used → Turned R (Between 0 0 keys) h x h x
+pub nothing_turned : (R : RowState → RowState → ℕ → Key → Type 0) (keys : List Key) (h : Holder) (x : Guarded)
+    → OnlyWrites (pass_of h) (pass_of h) → Agree (rows_held h x).slots (rows_held h x).used → Turned R (Between 0 0 keys) h x h x
 nothing_turned R keys h x pass agree = record {
   same_reference = refl;
   pass = pass;
@@ -29,7 +30,8 @@ nothing_turned R keys h x pass agree = record {
 }
 
 -- one key more
-pub one_turned : {R : RowState → RowState → ℕ → Key → Type 0} (keys : List Key) (i : ℕ) {h j k : Holder} {x y z : Guarded} → GoesOn R → AreDistinct keys → Turned R (Between 0 i keys) h x j y → Turned R (Place keys i) j y k z → Turned R (Between 0 (i + 1) keys) h x k z
+pub one_turned : {R : RowState → RowState → ℕ → Key → Type 0} (keys : List Key) (i : ℕ) {h j k : Holder} {x y z : Guarded} → GoesOn R → AreDistinct keys
+    → Turned R (Between 0 i keys) h x j y → Turned R (Place keys i) j y k z → Turned R (Between 0 (i + 1) keys) h x k z
 one_turned {R} keys i {h} {j} {k} {x} {y} {z} goes distinct a b = record {
   same_reference = b.same_reference ∙ a.same_reference;
   pass = then_only (pass_of h) (pass_of j) (pass_of k) a.pass b.pass;

@@ -122,7 +122,8 @@ names_ordered es distinct names moved sorted =
     sym (names_alone names) ∙ ap (map (λ (e : List ℕ × ℕ). e.0)) same ∙ names_bare (in_order es)
 
 -- keys that were copied and put in order are the names in order
-pub keys_ordered : (es : List (Vec ℕ × ℕ)) (copied moved : List (Vec ℕ)) → IsDistinct (λ (x y : Vec ℕ). pointwise nat_eq x.items y.items) (keys_of es) → map (λ (k : Vec ℕ). k.items) copied ≡ bytes_in es → IsPermutation copied moved
+pub keys_ordered : (es : List (Vec ℕ × ℕ)) (copied moved : List (Vec ℕ))
+    → IsDistinct (λ (x y : Vec ℕ). pointwise nat_eq x.items y.items) (keys_of es) → map (λ (k : Vec ℕ). k.items) copied ≡ bytes_in es → IsPermutation copied moved
     → IsSorted (λ (x y : Vec ℕ). name_cmp x.items y.items) moved → map (λ (k : Vec ℕ). k.items) moved ≡ map (λ (e : List ℕ × ℕ). e.0) (in_order es)
 keys_ordered es copied moved distinct same permuted sorted =
     let all = subst (λ names. IsPermutation names (map (λ (k : Vec ℕ). k.items) moved)) same (IsPermutation-map (λ (k : Vec ℕ). k.items) copied moved permuted) in

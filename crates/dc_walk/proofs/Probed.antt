@@ -108,7 +108,8 @@ pub can_read_from : {p w : View} {old words : List ℕ} {from row i : ℕ} → 0
 can_read_from {w = w} {words = words} {row = row} {i = i} begun few r = let before = r.reading in
     can_read before.before w row i words before.has.size begun few before.has.read before.early.busy before.early.fresh
 
-pub reads_one : {p w : View} {old words : List ℕ} {from row i : ℕ} → from ≤ i → 0 < i → i < ROW_WORDS → (q : View) (x : ℕ) → q ≡ read w x → ReadsFrom p old from w row words i → ReadsFrom p old from q row (set words i x) (i + 1)
+pub reads_one : {p w : View} {old words : List ℕ} {from row i : ℕ} → from ≤ i → 0 < i → i < ROW_WORDS
+    → (q : View) (x : ℕ) → q ≡ read w x → ReadsFrom p old from w row words i → ReadsFrom p old from q row (set words i x) (i + 1)
 reads_one {words = words} {from = from} {i = i} late begun few q x is r = record {
   before = take-set-le from words i x late ∙ r.before;
   reading = record { before = r.reading.before; early = r.reading.early; has = read_next i r.reading.has begun few q x _ is refl };

@@ -16,9 +16,9 @@ resolve_from-requires-clause-spend g c =
 
 pub returns-in-Ok-Found-clause-answer : goal.returns-in-Ok-Found-clause-answer
 returns-in-Ok-Found-clause-answer g c teller more =
-    place_met teller c.args.base c.args.path.bytes.now c.in-Some.front.now (part_shown c.in-Some.last) c.bytes.ensures.bytes c.in-Some.ensures.last (c.in-Ok-Found.ensures.ends teller more) c.in-Ok-Found.field-0-is
+    place_met teller c.args.base _ c.in-Some.front.now _ c.bytes.ensures.bytes c.in-Some.ensures.last (c.in-Ok-Found.ensures.ends teller more) c.in-Ok-Found.field-0-is
     ∙ (λ i. Some (At (record { dir = c.in-Ok-Found.dir; last = sym c.from.ensures i; slash = sym c.has_end_slash.ensures i })))
 
 pub returns-in-Ok-Refused-clause-answer : goal.returns-in-Ok-Refused-clause-answer
 returns-in-Ok-Refused-clause-answer g c teller more =
-    place_met teller c.args.base c.args.path.bytes.now c.in-Some.front.now (part_shown c.in-Some.last) c.bytes.ensures.bytes c.in-Some.ensures.last (c.in-Ok-Refused.ensures.ends teller more) c.in-Ok-Refused.field-0-is
+    place_met teller c.args.base _ c.in-Some.front.now _ c.bytes.ensures.bytes c.in-Some.ensures.last (c.in-Ok-Refused.ensures.ends teller more) c.in-Ok-Refused.field-0-is

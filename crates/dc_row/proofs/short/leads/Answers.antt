@@ -15,6 +15,7 @@ returns c words h text other =
     let is = c.is_target.ensures.some c.if-not-is_target.false in
     let size : length c.bytes.result.now ≡ length (label_bytes key.label) = ap length bytes in
     let head : c.head_of.result ≡ head_of (fields 1 kind key.number c.args.value (label_bytes key.label)) = omega arith in (
-      λ told. tells_by_head key t h text is.0 is.1 (sym (c.has_room.ensures.spelling t (sym is.0) is.2) ∙ c.if-not-has_room.false) (subst AreBytes bytes c.head_of.ensures.bytes) c.if-number-key.false (eqb-true _ _ told ∙ head),
+      λ told. tells_by_head key t h text is.0 is.1 (sym (c.has_room.ensures.spelling t (sym is.0) is.2) ∙ c.if-not-has_room.false)
+          (subst AreBytes bytes c.head_of.ensures.bytes) c.if-number-key.false (eqb-true _ _ told ∙ head),
       λ tells. eq-eqb _ _ (told_head h tells other ∙ sym head),
     )

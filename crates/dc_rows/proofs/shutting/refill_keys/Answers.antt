@@ -15,4 +15,8 @@ loop-i-init c = record {
 pub loop-i-preserved : goal.loop-i-preserved
 loop-i-preserved c = let i = c.loop-i.invariant.turned in let e = c.refill_key.ensures in let r = c.refill_key.new in
     let rows = subst (λ (x : Tree). TurnsIn (Refilled x) (KeyAt c.loop-i.i c.args.keys.now) c.loop-i.holder c.loop-i.kept r.holder r.kept) i.tree.tree e.rows in
-    record { turned = one_turned (map key_shown c.args.keys.now) c.loop-i.i (refilled_goes c.args.kept.now.store) c.requires.distinct i (record { same_reference = e.same_reference; pass = e.pass; tree = e.tree; rows = rows }); stage = e.stage }
+    record {
+      turned = one_turned (map key_shown c.args.keys.now) c.loop-i.i (refilled_goes c.args.kept.now.store) c.requires.distinct i
+          (record { same_reference = e.same_reference; pass = e.pass; tree = e.tree; rows = rows });
+      stage = e.stage;
+    }

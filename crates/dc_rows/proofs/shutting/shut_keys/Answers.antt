@@ -13,6 +13,7 @@ loop-i-init c = record {
 
 pub loop-i-preserved : goal.loop-i-preserved
 loop-i-preserved c = let e = c.shut_key.ensures in record {
-  turned = one_turned (map key_shown c.args.keys.now) c.loop-i.i shut_goes c.requires.distinct c.loop-i.invariant.turned (record { same_reference = e.same_reference; pass = e.pass; tree = e.tree; rows = e.rows });
+  turned = one_turned (map key_shown c.args.keys.now) c.loop-i.i shut_goes c.requires.distinct c.loop-i.invariant.turned
+      (record { same_reference = e.same_reference; pass = e.pass; tree = e.tree; rows = e.rows });
   stage = e.stage;
 }

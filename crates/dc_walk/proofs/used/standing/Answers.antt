@@ -16,5 +16,6 @@ returns-clause-none c = none_stands c.args.room.now.items (key_shown c.args.key)
 pub loop-i-preserved : goal.loop-i-preserved
 loop-i-preserved c = one_other c.args.room.now.items (key_shown c.args.key) c.loop-i.i c.loop-i.invariant (λ tells. elim c.else-number-key.branch [
   | else-number-key-via-then-number-key+else-tells_at w ↦ let yes = w.tells_at.ensures.1 tells in absurd cc
-  | else-number-key-via-else-number-key w ↦ absurd (w.if-number-key.false (number_so c.words_at.result.now (key_shown c.args.key) c.words_at.ensures.size.0 c.words_at.ensures.words c.number.ensures tells))
+  | else-number-key-via-else-number-key w ↦
+      absurd (w.if-number-key.false (number_so c.words_at.result.now (key_shown c.args.key) c.words_at.ensures.size.0 c.words_at.ensures.words c.number.ensures tells))
 ])

@@ -11,4 +11,5 @@ pub returns-clause-names : goal.returns-clause-names
 returns-clause-names c =
     let whole : map deref c.loop-name.yielded ≡ keys c.self.inside.by_name = search (rules, iter_end) in
     let kept = c.loop-name.invariant ∙ map_twice deref (λ (k : Vec ℕ). k.items) c.loop-name.yielded ∙ ap (map (λ (k : Vec ℕ). k.items)) whole in
-    keys_ordered c.self.inside.by_name.entries _ _ c.keys-name-items.ensures.unique kept c.sort_unstable.ensures.permutation c.sort_unstable.ensures.sorted ∙ ap (map (λ e. e.0)) c.self.view_is
+    keys_ordered c.self.inside.by_name.entries _ _ c.keys-name-items.ensures.unique kept c.sort_unstable.ensures.permutation c.sort_unstable.ensures.sorted
+    ∙ ap (map (λ e. e.0)) c.self.view_is
