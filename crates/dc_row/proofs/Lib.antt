@@ -12,3 +12,4 @@ pub mod Empty
 pub mod Lasts
 pub mod Entries
 pub mod Firsts
+pub mod Roomed

@@ -1,24 +1,25 @@
 -- The text of a link by the words of its row.
-use Rattle.std.proofs.Common.{◌≡◌, ◌≢◌, ◌↔◌, ℕ, zero, suc, ◌+◌, ◌-◌, ◌*◌, ◌/◌, ◌%◌, ◌^◌, ◌<◌, ◌≤◌, List, ◌++◌, length, length-take-le, get_or, get_or-take, take, drop, Option, Some, true, refl, subst, sym, ap, ◌∙◌, arith, inl, inr}
+use Rattle.std.proofs.Common.{◌≡◌, ◌≢◌, ◌↔◌, ℕ, zero, suc, ◌+◌, ◌-◌, ◌*◌, ◌/◌, ◌%◌, ◌^◌, ◌<◌, ◌≤◌, List, length, get_or, take, drop, Option, Some, true, refl, subst, sym, ap, ◌∙◌, arith, inl, inr}
 use Rattle.std.specs.Int.{sum_through, byte_worth}
 use Rattle.std.proofs.lemmas.Bool.{and_from, cases_eq, cases_lt, ne_eqb, not_from_false}
 use Rattle.std.proofs.lemmas.Bool.Decides.{nat_tests}
 use Rattle.std.proofs.lemmas.Grind.{common_steps}
-use Rattle.std.proofs.lemmas.List.{get_or_append_left, get_or-append_right, get_or-drop, get_or_past}
+use Rattle.std.proofs.lemmas.List.{get_or_past}
 use Rattle.std.proofs.lemmas.Nat.{from_le_bytes-to_le_bytes_8}
 use Rattle.dc_names.specs.Laws.{NoPieceIsLonger}
 use Rattle.dc_names.specs.Words.{AreBytes, word_of, bytes_in}
 use Rattle.dc_plain.specs.Facts.{Fact}
 use Rattle.dc_plain.specs.Facts.Fact.{Reads}
-use Rattle.dc_row.specs.Decoding.{EndsAt, HasBytes, IsRoomOf, byte_in, bytes_from}
+use Rattle.dc_row.specs.Decoding.{EndsAt, IsRoomOf, byte_in, bytes_from}
 use Rattle.dc_row.specs.Narrow.{widened}
 use Rattle.dc_row.specs.Rooms.{padded}
 use Rattle.dc_row.specs.Spelling.{Spells, SpellsText, IsSpelled, fields, fields_of, is_path, text_word, word_at}
 use Rattle.dc_row.specs.declared.TheConstants.{ROW_WORDS, ROW_TEXT, ROW_ROOM}
 use Rattle.dc_row.proofs.Compared.{all_same}
 use Rattle.dc_row.proofs.Decoded.{byte_so}
+use Rattle.dc_row.proofs.Firsts.{wide_size, wide_word}
 use Rattle.dc_row.proofs.Packed.{get_or-padded}
-use Rattle.dc_row.proofs.Lanes.{byte_small, bytes_size, zero_byte}
+use Rattle.dc_row.proofs.Lanes.{byte_small}
 use Rattle.dc_row.proofs.Paths.{path_from, path_parts}
 use Rattle.dc_row.proofs.Read.{both, front_is, head_is, part_at, part_short, text_fits}
 use Rattle.dc_row.proofs.Written.{word_at-text}
@@ -49,32 +50,6 @@ word_same : (xs : List ℕ) (word : ℕ) → word < 2 ^ 64 → ((i : ℕ) → ge
 unfolding word_of bytes_in
 word_same xs word small same = sym (from_le_bytes-to_le_bytes_8 word small) ∙ sym (λ j. sum_through (λ i. byte_worth i (same i j)) 7)
 
--- one word more in a room
-pub one_more_word : (words room part past : List ℕ) (i : ℕ) → 4 ≤ i → part ≡ bytes_in (get_or words i 0) → 8 * (i - 4) ≤ length room → ((k : ℕ) → k < 8 * (i - 4) → get_or room k 0 ≡ byte_in words k) → (k : ℕ) → k < 8 * (i + 1 - 4) → get_or (take (8 * (i - 4)) room ++ (part ++ past)) k 0 ≡ byte_in words k
-one_more_word words room part past i late is fits before k lt =
-    let at = 8 * (i - 4) in
-    let size : length (take at room) ≡ at = length-take-le at room fits in
-    let eight : length part ≡ 8 = ap length is ∙ bytes_size (get_or words i 0) in
-    elim (cases_lt k at) [
-      | inl low ↦ get_or_append_left (take at room) (part ++ past) 0 k (omega arith) ∙ get_or-take at room k 0 low ∙ before k low
-      | inr here ↦
-          let word : i ≡ 4 + k / 8 = omega arith in
-          let byte : k - at ≡ k % 8 = omega arith in
-          get_or-append_right (take at room) (part ++ past) at k 0 size here ∙ get_or_append_left part past 0 (k - at) (omega arith) ∙ ap (λ (bs : List ℕ). get_or bs (k - at) 0) is ∙ (λ j. get_or (bytes_in (get_or words (word j) 0)) (byte j) 0)
-    ]
-
--- the room behind it stays empty
-pub still_empty : (words room part : List ℕ) (i m : ℕ) → 4 ≤ i → part ≡ bytes_in (get_or words i 0) → 8 * (i - 4) ≤ length room → ((k : ℕ) → 8 * (i - 4) ≤ k → get_or room k 0 ≡ 0) → (k : ℕ) → 8 * (i + 1 - 4) ≤ k → get_or (take (8 * (i - 4)) room ++ (part ++ drop m (drop (8 * (i - 4)) room))) k 0 ≡ 0
-still_empty words room part i m late is fits none k past =
-    let at = 8 * (i - 4) in
-    let size : length (take at room) ≡ at = length-take-le at room fits in
-    let eight : length part ≡ 8 = ap length is ∙ bytes_size (get_or words i 0) in
-    get_or-append_right (take at room) (part ++ drop m (drop at room)) at k 0 size (omega arith) ∙ get_or-append_right part (drop m (drop at room)) 8 (k - at) 0 eight (omega arith) ∙ get_or-drop m (drop at room) (k - at - 8) 0 ∙ get_or-drop at room (m + (k - at - 8)) 0 ∙ none (at + (m + (k - at - 8))) (omega arith)
-
--- past the words there are no bytes
-pub byte_past : (words : List ℕ) (i : ℕ) → 4 ≤ length words → 8 * (length words - 4) ≤ i → byte_in words i ≡ 0
-byte_past words i long past = ap (λ (w : ℕ). get_or (bytes_in w) (i % 8) 0) (get_or_past words (4 + i / 8) 0 (omega arith)) ∙ zero_byte i
-
 -- a row has the bytes of its first words
 pub wide_byte : (words : List ℕ) (i : ℕ) → byte_in (widened words) i ≡ byte_in words i
 wide_byte words i = ap (λ (w : ℕ). get_or (bytes_in w) (i % 8) 0) (get_or-padded words (ROW_WORDS - length words) (4 + i / 8))
@@ -87,31 +62,6 @@ wide_ends words len ends i within = subst (λ (b : ℕ). (i < len) ↔ (b ≢ 0)
 
 pub narrow_ends : (words : List ℕ) (len : ℕ) → EndsAt (widened words) len → EndsAt words len
 narrow_ends words len ends i within = subst (λ (b : ℕ). (i < len) ↔ (b ≢ 0)) (wide_byte words i) (ends i within)
-
--- the part of a text in one word
-pub word_ends : (words part : List ℕ) (len i n : ℕ) → part ≡ bytes_in (get_or words i 0) → 4 ≤ i → i < ROW_WORDS → ((k : ℕ) → k < 8 → (k < n) ↔ (8 * (i - 4) + k < len)) → EndsAt words len → HasBytes part n
-word_ends words part len i n is late within parts ends = λ k low.
-    let at = 8 * (i - 4) + k in
-    let word : 4 + at / 8 ≡ i = omega arith in
-    let byte : at % 8 ≡ k = omega arith in
-    let same : byte_in words at ≡ get_or part k 0 = (λ j. get_or (bytes_in (get_or words (word j) 0)) (byte j) 0) ∙ ap (λ (bs : List ℕ). get_or bs k 0) (sym is) in
-    let told = ends at (omega arith) in
-    let part = parts k low in
-    (λ lt e. told.0 (part.0 lt) (same ∙ e), λ some. part.1 (told.1 (λ e. some (sym same ∙ e))))
-
--- the words before one, and that one
-pub one_more_end : (words part : List ℕ) (len i n : ℕ) → part ≡ bytes_in (get_or words i 0) → 4 ≤ i → ((k : ℕ) → k < 8 → (k < n) ↔ (8 * (i - 4) + k < len)) → HasBytes part n → ((j : ℕ) → j < 8 * (i - 4) → (j < len) ↔ (byte_in words j ≢ 0)) → (j : ℕ) → j < 8 * (i + 1 - 4) → (j < len) ↔ (byte_in words j ≢ 0)
-one_more_end words part len i n is late parts has before j lt = elim (cases_lt j (8 * (i - 4))) [
-  | inl low ↦ before j low
-  | inr here ↦
-      let k = j - 8 * (i - 4) in
-      let word : 4 + j / 8 ≡ i = omega arith in
-      let byte : j % 8 ≡ k = omega arith in
-      let same : byte_in words j ≡ get_or part k 0 = (λ m. get_or (bytes_in (get_or words (word m) 0)) (byte m) 0) ∙ ap (λ (bs : List ℕ). get_or bs k 0) (sym is) in
-      let told = has k (omega arith) in
-      let part_of = parts k (omega arith) in
-      (λ lt e. told.0 (part_of.1 (omega arith)) (sym same ∙ e), λ some. let lt = part_of.0 (told.1 (λ e. some (same ∙ e))) in omega arith)
-]
 
 -- so many of the bytes for a text
 abbrev front : List ℕ → ℕ → List ℕ
@@ -139,6 +89,20 @@ pub record HasText (words : List ℕ) (len : ℕ) : Type 0 where
   pub number : get_or words 2 0 ≢ 0
   pub value : get_or words 3 0 ≡ 0
   pub ends : EndsAt words len
+
+-- and so has a row with these first words
+pub wide_text : (words : List ℕ) {len : ℕ} → length words ≤ ROW_WORDS → ((i : ℕ) → get_or words i 0 < 2 ^ 64) → 0 < len → len ≤ ROW_TEXT
+    → get_or words 1 0 ≡ 2 + 256 * len → get_or words 2 0 ≢ 0 → get_or words 3 0 ≡ 0 → EndsAt words len → HasText (widened words) len
+wide_text words {len} size small some few head number value ends = record {
+  count = wide_size words size;
+  small = λ i. subst (λ (w : ℕ). w < 2 ^ 64) (sym (wide_word words i)) (small i);
+  some = some;
+  few = few;
+  head = wide_word words 1 ∙ head;
+  number = subst (λ (w : ℕ). w ≢ 0) (sym (wide_word words 2)) number;
+  value = wide_word words 3 ∙ value;
+  ends = wide_ends words len ends;
+}
 
 -- the bytes after the text are zero, among those of the words and past their end
 front_at : {words : List ℕ} {len : ℕ} → HasText words len → (i : ℕ) → i < ROW_ROOM → get_or (front words len) i 0 ≡ byte_in words i

@@ -1,5 +1,6 @@
 -- The words of a row, written one after the other.
-use Rattle.std.proofs.Common.{◌≡◌, ◌≢◌, ℕ, zero, suc, ◌+◌, ◌-◌, ◌*◌, ◌<◌, ◌≤◌, ◌==◌, ◌∷◌, List, replicate, length, get_or, set, take, ap, false, arith, refl, sym, ◌∙◌, below_more, get_or-set_same, get_or-set_other}
+use Rattle.std.proofs.Common.{◌≡◌, ◌≢◌, ℕ, zero, suc, ◌+◌, ◌-◌, ◌*◌, ◌<◌, ◌≤◌, ◌==◌, ◌∷◌, List, replicate, length, get_or, set, take, ap, false, arith, refl, sym, ◌∙◌, below_more, get_or-set_same, get_or-set_other, inl, inr}
+use Rattle.std.proofs.lemmas.Bool.{cases_lt}
 use Rattle.std.proofs.lemmas.Grind.{common_steps}
 use Rattle.std.proofs.lemmas.List.{drop_all}
 use Rattle.dc_names.specs.Words.{word_of}
@@ -49,3 +50,32 @@ zeros_behind a b c d many (suc zero) late = absurd (omega arith)
 zeros_behind a b c d many (suc (suc zero)) late = absurd (omega arith)
 zeros_behind a b c d many (suc (suc (suc zero))) late = absurd (omega arith)
 zeros_behind a b c d many (suc (suc (suc (suc j)))) late = get_or-zeros many j
+
+-- a row's words before i are written, and all others zero
+pub record WritesSome (f : Fields) (words : List ℕ) (i : ℕ) : Type 0 where
+  pub size : length words ≡ ROW_WORDS
+  pub count : get_or words 0 0 ≡ 0
+  pub before : (j : ℕ) → 0 < j → j < i → get_or words j 0 ≡ word_at f j
+  pub rest : (j : ℕ) → i ≤ j → get_or words j 0 ≡ 0
+
+pub writes_head : (head number value : ℕ) (f : Fields) → head ≡ head_of f → number ≡ f.number → value ≡ f.value → WritesSome f (0 ∷ head ∷ number ∷ value ∷ replicate 32 0) 4
+writes_head head number value f h n v = record {
+  size = refl;
+  count = refl;
+  before = spells_head head number value (replicate 32 0) f h n v;
+  rest = zeros_behind 0 head number value 32;
+}
+
+pub writes_more : {words : List ℕ} {i v : ℕ} {f : Fields} → 4 ≤ i → i < ROW_WORDS → v ≡ text_word f.text (i - 4) → WritesSome f words i → WritesSome f (set words i v) (i + 1)
+writes_more {words} {i} {v} {f} late few is w = record {
+  size = grind (arith, common_steps, w.size);
+  count = grind (arith, common_steps, w.count);
+  before = one_more words i v f late (omega (arith, w.size)) is w.before;
+  rest = λ j past. let ne : j ≢ i = omega arith in rw get_or-set_other (w.rest j (omega arith));
+}
+
+pub writes_all : {words : List ℕ} {i : ℕ} {f : Fields} → 4 ≤ i → length f.text ≤ 8 * (i - 4) → WritesSome f words i → IsSpelled words f
+writes_all {i = i} {f = f} late end w j some few = elim (cases_lt j i) [
+  | inl l ↦ w.before j some l
+  | inr past ↦ w.rest j past ∙ sym (word_at-text f j (omega arith) ∙ word_past f.text (j - 4) (omega arith))
+]

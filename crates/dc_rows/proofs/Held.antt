@@ -1,7 +1,8 @@
 -- What a call knows of its pass from before it got the lock.
-use Rattle.std.proofs.Common.{◌≡◌, ℕ, List, length, ap, sym, ◌∙◌, subst}
+use Rattle.std.proofs.Common.{◌≡◌, ℕ, Option, Some, List, length, ap, sym, ◌∙◌, subst}
 use Rattle.dc_plain.specs.Requests.{Request}
 use Rattle.dc_plain.specs.Trees.{Tree}
+use Rattle.dc_shrink.specs.Listings.{last_of}
 use Rattle.dc_shrink.specs.Uses.{KeepsUse}
 use Rattle.dc_index.specs.Slots.{Slot, slot_of, has_key}
 use Rattle.dc_table.specs.Kept.{HomeFits}
@@ -10,12 +11,12 @@ use Rattle.dc_table.specs.declared.table.Guarded.{Guarded}
 use Rattle.dc_rows.specs.Changes.{KeepsTree}
 use Rattle.dc_rows.specs.Guards.{Keeps}
 use Rattle.dc_rows.specs.declared.guard.Guard.{Guard}
-use Rattle.dc_rows.proofs.Stages.{then_only}
+use Rattle.dc_rows.proofs.Stages.{kept_then, then_only}
 
 pub keeps_then : (f g h : Guard) → Keeps f g → Keeps g h → Keeps f h
 keeps_then f g h a b = record {
   only = then_only f.holder.pass.now g.holder.pass.now h.holder.pass.now a.only b.only;
-  tree = record { tree = b.tree.tree ∙ a.tree.tree; clock = b.tree.clock ∙ a.tree.clock; same_limit = b.tree.same_limit ∙ a.tree.same_limit };
+  tree = kept_then a.tree b.tree;
 }
 
 -- a pin more or less of a row that stays in use leaves the rows at rest
@@ -34,3 +35,7 @@ home_used limit rows words hist x y h tree index same many = record {
     rest = subst (λ (z : Tree × List Slot). OnlyOdd z.0 rows words z.1 OfNone) (λ i. (sym tree.tree i, sym index i)) h.rest.rest;
   };
 }
+
+-- the row that goes next, as the lock's guard has it
+pub last_so : {x y : Guarded} {victim : Option ℕ} {row : ℕ} → victim ≡ last_of x.shrinker.listed → x ≡ y → victim ≡ Some row → last_of y.shrinker.listed ≡ Some row
+last_so is same some = sym (is ∙ ap (λ (z : Guarded). last_of z.shrinker.listed) same) ∙ some

@@ -12,6 +12,7 @@ pub mod Held
 pub mod Lists
 pub mod SameRows
 pub mod Turning
+pub mod Turned
 pub mod Retelling
 pub mod Pinning
 pub mod Fills

@@ -12,7 +12,8 @@ use Rattle.dc_table.specs.Shares.{Share, HasNotTried}
 use Rattle.dc_table.specs.Rows.{Rest}
 use Rattle.dc_rows.specs.Rows.{Stage}
 use Rattle.dc_table.specs.Changes.{with_words, words_of, tree_now}
-use Rattle.dc_rows.specs.Changes.{OnlyWrites}
+use Rattle.dc_rows.specs.Changes.{KeepsTree, OnlyWrites}
+use Rattle.dc_table.specs.declared.table.Guarded.{Guarded}
 use Rattle.dc_table.specs.Passes.{Pass, known, view, share, IsSamePass, IsHolder}
 
 pub wrote_only : (p q : Pass) → IsSamePass p q → HasNotTried (known p) (known q) → IsHolder q → (k x : ℕ) → view q ≡ wrote (view p) k x → OnlyWrites p q
@@ -43,6 +44,9 @@ then_only p q r a b = record {
   holder = b.holder;
   only = b.only ∙ ap (λ (v : View). with_words v (words_of r)) a.only;
 }
+
+pub kept_then : {x y z : Guarded} → KeepsTree x y → KeepsTree y z → KeepsTree x z
+kept_then a b = record { tree = b.tree ∙ a.tree; clock = b.clock ∙ a.clock; same_limit = b.same_limit ∙ a.same_limit }
 
 -- all rows fit, on a pass whose tree and sizes are the same
 pub rest_on : (p q : Pass) → OnlyWrites p q → (words : List ℕ) (slots : List Slot) (used : Listing) → Rest (tree_now p) (share p).rows words slots used → Rest (tree_now q) (share q).rows words slots used

@@ -1,5 +1,5 @@
 -- The names in a directory, found, put in and taken out by their bytes, in whatever order the map keeps them.
-use Rattle.std.proofs.Common.{◌≡◌, ℕ, ◌+◌, List, [], ◌∷◌, length, Bool, true, false, not, cond, nat_eq, Option, Some, None, is_some, IsTrue, T, refl, ap, sym, ◌∙◌, arith}
+use Rattle.std.proofs.Common.{◌≡◌, ℕ, ◌+◌, List, [], ◌∷◌, length, Bool, true, false, not, cond, nat_eq, Option, Some, None, is_some, IsTrue, T, refl, ap, sym, subst, ◌∙◌, arith}
 use Rattle.std.proofs.lemmas.Map.{lookup-none}
 use Rattle.std.proofs.lemmas.Map.Entries.{none_past_head}
 use Rattle.std.proofs.lemmas.Map.Keys.{IsDistinct-tail}
@@ -28,6 +28,9 @@ sorted_in (e ∷ es) = is_sorted-put name_cmp nat_list_cmp_total e.0.items e.1 (
 
 pub names_sorted : (es : List (Vec ℕ × ℕ)) → IsTrue (is_sorted name_cmp (in_order es))
 names_sorted es = from_test _ (sorted_in es)
+
+pub view_sorted : (es : List (Vec ℕ × ℕ)) {names : List (List ℕ × ℕ)} → in_order es ≡ names → IsTrue (is_sorted name_cmp names)
+view_sorted es is = subst (λ names. IsTrue (is_sorted name_cmp names)) is (names_sorted es)
 
 pub found_in : (es : List (Vec ℕ × ℕ)) (q : List ℕ) → lookup_entry name_cmp q (in_order es) ≡ found_by q es
 found_in [] q = refl

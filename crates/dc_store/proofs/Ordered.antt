@@ -1,7 +1,7 @@
 -- Names that were put in order are those that the map keeps, in order.
 use Rattle.std.proofs.Common.{◌≡◌, ℕ, ◌+◌, ◌<◌, List, [], ◌∷◌, length, get_or, Bool, true, false, cond, ◌&&◌, ◌||◌, nat_eq, map, Option, Some, None, is_some, T, refl, ap, sym, ◌∙◌, subst, arith}
 use Rattle.std.proofs.lemmas.List.{get_or-map, length-map}
-use Rattle.std.proofs.lemmas.List.Sorted.{list_any-IsPermutation}
+use Rattle.std.proofs.lemmas.List.Sorted.{list_any-IsPermutation, IsPermutation-map}
 use Rattle.std.proofs.lemmas.Map.Keys.{sorted_head, sorted_tail, sorted_from_all_adjacent, apart_from_distinct, IsDistinct-IsPermutation}
 use Rattle.std.specs.Cmp.Lexicographic.{pointwise, nat_list_cmp_total, nat_list_eq_equiv, texts_ties}
 use Rattle.std.specs.FinMap.Entries.{below_all, is_sorted}
@@ -120,3 +120,11 @@ names_ordered es distinct names moved sorted =
     let same = same_names (map alone names) (map bare (in_order es)) (sorted_alone names strictly) (sorted_bare (in_order es) (sorted_in es))
     (λ q. found_alone q names ∙ ap said (sym (list_any-IsPermutation (pointwise nat_eq q) (bytes_in es) names moved) ∙ any_found q es ∙ ap is_some (sym (found_in es q))) ∙ sym (found_bare q (in_order es))) in
     sym (names_alone names) ∙ ap (map (λ (e : List ℕ × ℕ). e.0)) same ∙ names_bare (in_order es)
+
+-- keys that were copied and put in order are the names in order
+pub keys_ordered : (es : List (Vec ℕ × ℕ)) (copied moved : List (Vec ℕ))
+    → IsDistinct (λ (x y : Vec ℕ). pointwise nat_eq x.items y.items) (keys_of es) → map (λ (k : Vec ℕ). k.items) copied ≡ bytes_in es → IsPermutation copied moved
+    → IsSorted (λ (x y : Vec ℕ). name_cmp x.items y.items) moved → map (λ (k : Vec ℕ). k.items) moved ≡ map (λ (e : List ℕ × ℕ). e.0) (in_order es)
+keys_ordered es copied moved distinct same permuted sorted =
+    let all = subst (λ names. IsPermutation names (map (λ (k : Vec ℕ). k.items) moved)) same (IsPermutation-map (λ (k : Vec ℕ). k.items) copied moved permuted) in
+    names_ordered es distinct (map (λ (k : Vec ℕ). k.items) moved) all (sorted_bytes moved sorted)

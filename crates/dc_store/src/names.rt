@@ -84,6 +84,7 @@ impl Names {
     }
 
     /// The names in the order of their bytes.
+    #[tactic(auto, using(crate::proofs::Named::view_sorted))]
     pub fn list(&self, alloc: Global) -> Result<Vec<Vec<u8>>, NoMemory>
         ensures names { IfOk result (λ names. names_shown names ≡ map (λ e. e.0) self.now) }
         ensures sorted { IsTrue (is_sorted name_cmp self.now) }

@@ -1,7 +1,7 @@
 -- The words of a row, read one after the other.
-use Rattle.std.proofs.Common.{◌≡◌, ℕ, zero, suc, ◌+◌, ◌-◌, ◌<◌, List, [], ◌∷◌, ◌++◌, true, false, length, get_or, set, take, drop, refl, ap, ap₂, sym, ◌∙◌, subst, arith, length-append, length-set}
+use Rattle.std.proofs.Common.{◌≡◌, ℕ, zero, suc, ◌+◌, ◌-◌, ◌<◌, ◌≤◌, List, [], ◌∷◌, ◌++◌, true, false, length, get_or, set, take, drop, refl, ap, ap₂, sym, ◌∙◌, subst, arith, length-append, length-set}
 use Rattle.std.proofs.Math.Seq.{get_or-append_seam, set-append_seam, take-suc-set, take-length}
-use Rattle.std.proofs.lemmas.List.{drop-set-add, get_or-set_same}
+use Rattle.std.proofs.lemmas.List.{drop-set-add, get_or-set_same, take-set-le}
 use mathlib.Core.Option.{some}
 use lib.ListN.{get_elem?}
 use Rattle.dc_row.specs.declared.TheConstants.{ROW_WORDS}
@@ -9,7 +9,7 @@ use Rattle.dc_events.specs.Views.{View, Note}
 use Rattle.dc_events.specs.Effects.{noted, read}
 use Rattle.dc_events.specs.Walks.{no_note, extended}
 use Rattle.dc_table.specs.Walking.{CanRead}
-use Rattle.dc_walk.specs.Probes.{probed, fresh_note, read_of, HasRead, IsEarly}
+use Rattle.dc_walk.specs.Probes.{probed, fresh_note, read_of, HasRead, IsEarly, IsReading}
 
 last_place : (xs : List Note) (x : Note) → length (xs ++ x ∷ []) - 1 ≡ length xs
 last_place xs x = let size : length (xs ++ x ∷ []) ≡ length xs + 1 = length-append xs (x ∷ []) in omega arith
@@ -97,6 +97,24 @@ read_next {v = v} {p = p} {row = row} {before = before} i h early inside q w aft
   size = length-set before i w ∙ h.size;
   read = next_read v p row i before h.size early inside h.read q w is;
 })
+
+-- words of a row from one on were read, and those before it are as they were
+pub record ReadsFrom (p : View) (old : List ℕ) (from : ℕ) (w : View) (row : ℕ) (words : List ℕ) (i : ℕ) : Type 0 where
+  pub before : take from words ≡ take from old
+  pub reading : IsReading w row words i
+  pub read : (v : View) → HasRead v p row old from → HasRead v w row words i
+
+pub can_read_from : {p w : View} {old words : List ℕ} {from row i : ℕ} → 0 < i → i < ROW_WORDS → ReadsFrom p old from w row words i → CanRead w row i
+can_read_from {w = w} {words = words} {row = row} {i = i} begun few r = let before = r.reading in
+    can_read before.before w row i words before.has.size begun few before.has.read before.early.busy before.early.fresh
+
+pub reads_one : {p w : View} {old words : List ℕ} {from row i : ℕ} → from ≤ i → 0 < i → i < ROW_WORDS
+    → (q : View) (x : ℕ) → q ≡ read w x → ReadsFrom p old from w row words i → ReadsFrom p old from q row (set words i x) (i + 1)
+reads_one {words = words} {from = from} {i = i} late begun few q x is r = record {
+  before = take-set-le from words i x late ∙ r.before;
+  reading = record { before = r.reading.before; early = r.reading.early; has = read_next i r.reading.has begun few q x _ is refl };
+  read = λ v h. read_next i (r.read v h) begun few q x _ is refl;
+}
 
 -- all words
 pub read_whole : (words : List ℕ) → length words ≡ ROW_WORDS → (i : ℕ) → i ≡ ROW_WORDS → read_of words i ≡ drop 1 words

@@ -3,7 +3,7 @@ use Rattle.std.proofs.Common.{◌≡◌, ℕ, zero, suc, ◌+◌, ◌*◌, ◌-�
 use Rattle.std.proofs.lemmas.Bool.Decides.{nat_tests}
 use Rattle.std.proofs.lemmas.Grind.{common_steps}
 use Rattle.std.proofs.Math.Seq.{drop-append_seam, take-append_seam, take-set-lt}
-use borrow.Rule.Slice.PartMut.{post_of, put_mid}
+use borrow.Rule.Slice.PartMut.{post_of, put_mid, take_put}
 use Rattle.std.proofs.lemmas.List.{get_or_append_left, drop-set-add, drop-take, length-drop, get_or-map, get_or-take, length-map}
 use Rattle.std.proofs.lemmas.Bool.{or_parts}
 use Rattle.std.specs.List.{list_any}
@@ -166,3 +166,21 @@ fact_number (Reads n text) = refl
 pub number_of : (words : List ℕ) (key : Key) → 4 ≤ length words → TellsOf (widened words) key → get_or words 2 0 ≡ key.number
 number_of words key long tells =
     sym (first_word words 2 (omega arith)) ∙ (tells.spelled.spelled 2 (omega arith) (omega arith) ∙ (fact_number tells.fact ∙ ap (λ (k : Key). k.number) tells.about))
+
+-- so it is by the words that are kept of the row
+pub number_so : (words : List ℕ) {whole : List ℕ} {number : ℕ} (key : Key) → 4 ≤ length words → widened words ≡ whole → number ≡ get_or words 2 0 → TellsOf whole key → number ≡ key.number
+number_so words key long same is tells = is ∙ number_of words key long (subst (λ (ws : List ℕ). TellsOf ws key) (sym same) tells)
+
+-- a row was read where the room has its words
+module _ {rows : List Stored} {len : ℕ} {words : List ℕ} {end : ℕ} (is : IsRoom rows len words end) where
+  end_within : end ≤ length words
+  end_within = let size = is.size in let fits = is.fits in omega arith
+
+  pub rows_put : (row : List ℕ) (k : ℕ) → map (used_in (put_mid end k words row)) (take len rows) ≡ map (used_in words) (take len rows)
+  rows_put row k = rows_kept is (put_mid end k words row) (take_put end k words row end_within)
+
+  pub put_is : (row : List ℕ) (k : ℕ) → length row ≡ ROW_WORDS → slice_range (put_mid end k words row) end (end + ROW_WORDS) ≡ row
+  put_is row k size = next_put words row end k end_within size
+
+  pub put_size : (row : List ℕ) (k : ℕ) → length row ≡ ROW_WORDS → length (slice_range (put_mid end k words row) end (end + ROW_WORDS)) ≡ ROW_WORDS
+  put_size row k size = ap (λ (ws : List ℕ). length ws) (put_is row k size) ∙ size

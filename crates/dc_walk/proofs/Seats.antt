@@ -1,6 +1,6 @@
 -- A pass after steps that leave it the same pass.
 use Rattle.std.proofs.Common.{ℕ, ◌<◌, refl, ap, sym, ◌∙◌, subst}
-use Rattle.dc_table.specs.Passes.{Pass, share, Fits, IsSamePass, StaysOut}
+use Rattle.dc_table.specs.Passes.{Pass, share, Fits, IsSamePass, IsWalkerAt, StaysOut}
 use Rattle.dc_table.specs.Shares.{HasNotTried, Known}
 use Rattle.dc_walk.specs.Becomings.{untried_again}
 use Rattle.dc_table.specs.declared.shared.Shared.{Shared}
@@ -23,3 +23,7 @@ fits_still f s = record { table = s.table ∙ f.table; rows = ap (λ x. x.rows) 
 
 pub row_still : {p q : Pass} {row : ℕ} → row < (share p).rows → IsSamePass p q → row < (share q).rows
 row_still {row = row} l s = subst (λ x. row < x.rows) (sym s.same_share) l
+
+-- who stayed out of the lock may look at the row again
+pub walker_still : {t : Shared} {p q : Pass} {row : ℕ} → Fits t p → row < (share p).rows → StaysOut p q → IsWalkerAt t q row
+walker_still f l s = record { fits = fits_still f s.same; idle = s.idle; inside = row_still l s.same }

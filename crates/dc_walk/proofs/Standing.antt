@@ -1,5 +1,5 @@
 -- What the rows that were used tell of a key.
-use Rattle.std.proofs.Common.{◌≡◌, ℕ, zero, suc, ◌<◌, ◌==◌, ◌&&◌, List, [], ◌∷◌, ◌++◌, ◌+◌, length, get_or, Bool, true, false, cond, Option, Some, map, refl, ap, sym, ◌∙◌, subst, arith, length-append}
+use Rattle.std.proofs.Common.{◌≡◌, ℕ, zero, suc, ◌<◌, ◌==◌, ◌&&◌, List, [], ◌∷◌, ◌++◌, ◌+◌, length, get_or, Bool, true, false, cond, Option, Some, map, refl, ap, sym, ◌∙◌, subst, arith, below_more, length-append}
 use Rattle.std.proofs.Math.Seq.{get_or-append_seam}
 use Rattle.std.proofs.lemmas.Bool.Decides.{nat_tests}
 use Rattle.std.proofs.lemmas.List.{map-append}
@@ -78,6 +78,9 @@ inside_more rows (v ∷ us) u all is = (all.0, inside_more rows us u all.1 is)
 -- no row up to the i-th tells of the key
 abbrev pub AreOthers : List Used → Key → ℕ → Type 0
 AreOthers us key i = (j : ℕ) → j < i → TellsOf (get_or us j no_use).words key → ⊥
+
+pub one_other : (us : List Used) (key : Key) (i : ℕ) → AreOthers us key i → (TellsOf (used_at us i).words key → ⊥) → AreOthers us key (i + 1)
+one_other us key i others other = below_more (λ j. TellsOf (used_at us j).words key → ⊥) i others other
 
 -- what the first row that tells of a key spells is told
 first_told : SpelledIsRead → (us : List Used) (key : Key) (i : ℕ) → i < length us → AllSpelled us → AreOthers us key i → (fact : Fact) → key_of fact ≡ key → Spells (get_or us i no_use).words (Some fact) → IsTold (told_in us) fact

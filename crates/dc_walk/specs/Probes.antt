@@ -7,6 +7,7 @@ use Rattle.dc_plain.specs.Requests.{Request}
 use Rattle.dc_row.specs.declared.TheConstants.{ROW_WORDS}
 use Rattle.dc_row.specs.declared.short.TheConstants.{SHORT_WORDS}
 use Rattle.dc_events.specs.Views.{Note, Walk, View}
+use Rattle.dc_table.specs.Passes.{Pass, view}
 use Rattle.dc_walk.specs.Rooms.{Kept}
 use Rattle.dc_walk.specs.declared.probe.Top.{Top}
 
@@ -99,3 +100,19 @@ pub record ReadsWhole (v w : View) (row : ℕ) (words : List ℕ) : Type 0 where
 abbrev pub TakesIn : View → View → ℕ → ℕ → Key → Kept → Kept → Option ℕ → Type 0
 TakesIn v w row place key r s None = (words : List ℕ) × ReadsWhole v w row words × (TellsOf words key → ⊥) × (s.items ≡ r.items) × (s.spent ≡ r.spent)
 TakesIn v w row place key r s (Some at) = (words : List ℕ) × ReadsWhole v w row words × TellsOf words key × (s.items ≡ r.items ++ record { row = row; place = place; words = words } ∷ []) × (s.spent ≡ r.spent + told_words words) × (at ≡ length r.items)
+
+-- of a row that was read up to one word, whatever the view was before, the words up to another were read
+abbrev pub ReadsMore : Pass → Pass → ℕ → List ℕ → ℕ → List ℕ → ℕ → Type 0
+ReadsMore p q row old from new to = (v : View) → HasRead v (view p) row old from → HasRead v (view q) row new to
+
+-- of a row that was read up to one word the rest was read, and whether it is zero was seen; these are the first words
+abbrev pub ReadsRest : Pass → Pass → ℕ → List ℕ → ℕ → List ℕ → Bool → Type 0
+ReadsRest p q row words from first narrow = (v : View) → HasRead v (view p) row words from → ReadsFirst v (view q) row first narrow
+
+-- of a row whose top was read the rest was read, its value and whether its text has these words were seen
+abbrev pub ReadsBehind : Pass → Pass → ℕ → Top → List ℕ → ℕ → Bool → Type 0
+ReadsBehind p q row top text value is_its = (v : View) → ReadsTop v (view p) row top → ReadsShort v (view q) row top text value is_its
+
+-- a row whose top was read was read whole, and is kept as the last if it tells of the key
+abbrev pub TakesRow : Pass → Pass → ℕ → ℕ → Top → Key → Kept → Kept → Option ℕ → Type 0
+TakesRow p q row place top key r s kept = (v : View) → ReadsTop v (view p) row top → TakesIn v (view q) row place key r s kept

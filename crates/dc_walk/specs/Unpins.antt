@@ -1,8 +1,9 @@
 -- What a walk that pinned rows took, and gives back.
-use Rattle.std.specs.Prelude.{◌≡◌, ◌⊎◌, ℕ, ◌++◌, ◌∷◌, List, [], Option, Some, None, Result, Ok, Err, map}
+use Rattle.std.specs.Prelude.{◌≡◌, ◌⊎◌, ℕ, ◌++◌, ◌∷◌, List, [], Option, Some, None, Result, Ok, Err, map, Bool, true}
 use Rattle.dc_rows.specs.RowChanges.{PinsOnly, SamePins}
 use Rattle.dc_rows.specs.Outcomes.{UnpinsOnce}
 use Rattle.dc_table.specs.Shares.{Known, LockHold}
+use Rattle.dc_table.specs.Passes.{Pass, known}
 use Rattle.dc_walk.specs.Rooms.{Kept, Used}
 
 -- the rows that answered
@@ -34,6 +35,10 @@ pub record PinsInTurn (before now : List LockHold) (rows : List ℕ) : Type 0 wh
   pub holds : List LockHold
   pub more : now ≡ holds ++ before
   pub each : EachPinned holds rows
+
+-- a walk that may lock has pinned the rows in its room since, and one more at most, one pin each
+abbrev pub PinsUsed : Bool → Pass → Pass → Kept → Option ℕ → Type 0
+PinsUsed locks p q room spare = locks ≡ true → PinsInTurn (known p).past (known q).past (with_spare (rows_in room) spare)
 
 -- under one more hold each of these rows has lost a pin each time that it stands among them, and no other row has; no rows take no hold
 abbrev pub IsUnpinned : List ℕ → Known → Known → Type 0

@@ -1,10 +1,15 @@
 -- What a walk by the rows of a source comes to, which may take the lock or not.
-use Rattle.std.specs.Prelude.{◌≡◌, ℕ, ◌+◌, ◌*◌, ◌<◌, ◌≤◌, List, [], Bool, false, None, length}
+use Rattle.std.specs.Prelude.{◌≡◌, ℕ, ◌+◌, ◌*◌, ◌<◌, ◌≤◌, List, [], Bool, false, None, length, map}
 use Rattle.dc_plain.specs.Facts.{told_by}
-use Rattle.dc_plain.specs.Requests.{Answer}
+use Rattle.dc_plain.specs.Requests.{Answer, answer_of}
+use Rattle.dc_plain.specs.declared.call.Reply.{Reply}
 use Rattle.dc_events.specs.Views.{View}
 use Rattle.dc_events.specs.Effects.{begun}
 use Rattle.dc_table.specs.Changes.{NothingNew}
+use Rattle.dc_table.specs.Passes.{Pass, view}
+use Rattle.dc_walk.specs.Findings.{buckets_of, view_in}
+use Rattle.dc_walk.specs.Finds.{use_shown}
+use Rattle.dc_walk.specs.Rooms.{Kept}
 use Rattle.dc_walk.specs.Uses.{Use}
 use Rattle.dc_walk.specs.Becomings.{Between}
 use Rattle.dc_walk.specs.Fasts.{GaveUp, Keeps, IfAgain, Tried}
@@ -28,6 +33,18 @@ pub record Stopped (locks : Bool) (look : Look) (buckets : ℕ) (before now : Vi
   pub nothing : NothingNew before now
   pub asks : outcome_of look (told_by []) ≡ None
   pub gave_up : locks ≡ false → GaveUp (outcome_of look) buckets before now why
+
+-- the walk with this room came to a reply
+abbrev pub CameTo : Look → View → Kept → Reply → Type 0
+CameTo look now room reply = Came (outcome_of look) (look_shown look) now (map use_shown room.items) (answer_of reply)
+
+-- and was one of this pass, whose walk is begun or not
+abbrev pub WentTo : Bool → Look → Pass → Pass → Bool → Kept → Reply → Type 0
+WentTo locks look p q begun room reply = Went locks look (view p) (view_in begun q look) (map use_shown room.items) (answer_of reply)
+
+-- the walk of this pass gave up
+abbrev pub StoppedAt : Bool → Look → Pass → Pass → Why → Type 0
+StoppedAt locks look p q why = Stopped locks look (buckets_of p) (view p) (view q) why
 
 -- its pivot was made, and so many rows were checked; before that the view was this
 pub record Settles (look : Look) (used : ℕ) (before now : View) (fast : Fast) : Type 0 where

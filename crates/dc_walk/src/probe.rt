@@ -2,13 +2,12 @@
 
 ghost use Rattle.std.specs.Prelude.{◌≡◌, ◌<◌, ◌≤◌, [], ◌∷◌, length, take, true, IfSome, IfNone};
 ghost use Rattle.dc_events.specs.Effects.{begins, faulted};
-ghost use Rattle.dc_events.specs.Views.{View};
 ghost use Rattle.dc_events.specs.Views.Fault.{Busy};
 ghost use Rattle.dc_plain.specs.Requests.{request_of};
 ghost use Rattle.dc_row.specs.declared.TheConstants.{ROW_WORDS};
 ghost use Rattle.dc_table.specs.Holders.{table_of};
 ghost use Rattle.dc_table.specs.Passes.{view, share, Fits, IsIdle, StaysOut};
-ghost use Rattle.dc_walk.specs.Probes.{HasRead, IsEarly, IsReading, IsReadingTop, ReadsFirst, ReadsShort, ReadsTop};
+ghost use Rattle.dc_walk.specs.Probes.{IsEarly, IsReading, IsReadingTop, ReadsBehind, ReadsMore, ReadsRest, ReadsTop};
 
 use dc_plain::{Call, Key, Label};
 use dc_row::{LENGTH_UNIT, LENGTHS, ROW_WORDS, SHORT_WORDS, TAGS};
@@ -92,8 +91,7 @@ pub(crate) fn read_short(
     requires row { row < (share pass.old).rows }
     requires reading { IsReadingTop (view pass.old) row top }
     ensures same { StaysOut pass.old pass.new }
-    ensures read { (v : View) → ReadsTop v (view pass.old) row top →
-        ReadsShort v (view pass.new) row top text.now result.0 result.1 }
+    ensures read { ReadsBehind pass.old pass.new row top text.now result.0 result.1 }
 {
     let value = reader.read_word(pass, row, 3);
     let mut is_its = true;
@@ -123,8 +121,7 @@ pub(crate) fn are_past(
     requires some { (0 < from) × (from ≤ ROW_WORDS) }
     requires reading { IsReading (view pass.old) row words.now from }
     ensures same { StaysOut pass.old pass.new }
-    ensures read { (v : View) → HasRead v (view pass.old) row words.now from
-        → ReadsFirst v (view pass.new) row (take from words.now) result }
+    ensures read { ReadsRest pass.old pass.new row words.now from (take from words.now) result }
 {
     let mut past = 0;
     for i in from..ROW_WORDS {
@@ -152,8 +149,7 @@ pub(crate) fn read_words(
     ensures fits { Fits (table_of reader.entry) pass.new }
     ensures before { take from words.new ≡ take from words.old }
     ensures reading { IsReading (view pass.new) row words.new to }
-    ensures read { (v : View) → HasRead v (view pass.old) row words.old from
-        → HasRead v (view pass.new) row words.new to }
+    ensures read { ReadsMore pass.old pass.new row words.old from words.new to }
 {
     for i in from..to {
         words[i] = reader.read_word(pass, row, i as u64);

@@ -1,7 +1,6 @@
 //! A look at one row for what it tells of a key.
 
 ghost use Rattle.std.specs.Prelude.{◌≡◌, ◌≢◌, ◌<◌, ◌≤◌, ◌+◌, None, length, true};
-ghost use Rattle.dc_events.specs.Views.{View};
 ghost use Rattle.dc_plain.specs.Facts.{label_bytes};
 ghost use Rattle.dc_plain.specs.Facts.Label.{Text};
 ghost use Rattle.dc_plain.specs.KeysShown.{key_shown};
@@ -13,7 +12,7 @@ ghost use Rattle.dc_table.specs.Shares.{HasNotTried};
 ghost use Rattle.dc_walk.specs.Asking.{GoesOn};
 ghost use Rattle.dc_walk.specs.Filters.{key_hash};
 ghost use Rattle.dc_walk.specs.Findings.{SameRows, IsFinding, now_in, outcome_in, said_in};
-ghost use Rattle.dc_walk.specs.Probes.{IsReadingTop, ReadsTop, TakesIn};
+ghost use Rattle.dc_walk.specs.Probes.{IsReadingTop, TakesRow};
 ghost use Rattle.dc_walk.specs.Rooms.{key_bytes, HasWords};
 ghost use Rattle.dc_walk.specs.Sights.{Saw};
 ghost use Rattle.dc_names.specs.declared.limits.TheConstants.{BUCKET_ROWS};
@@ -71,8 +70,7 @@ fn take_short(
     requires entry { (key_shown key).label ≢ Text }
     requires short { length (label_bytes (key_shown key).label) ≤ SHORT_TEXT }
     ensures same { StaysOut pass.old pass.new }
-    ensures takes { (v : View) → ReadsTop v (view pass.old) row top →
-        TakesIn v (view pass.new) row place (key_shown key.entry) room.old room.new result }
+    ensures takes { TakesRow pass.old pass.new row place top (key_shown key.entry) room.old room.new result }
 {
     rows_end_in_zeros();
     rows_have_their_text();
@@ -107,8 +105,7 @@ fn take_wide(
     requires some { length room.old.items < MOST_USED }
     requires words { HasWords room.old (key_bytes (key_shown key).label) }
     ensures same { StaysOut pass.old pass.new }
-    ensures takes { (v : View) → ReadsTop v (view pass.old) row top →
-        TakesIn v (view pass.new) row place (key_shown key.entry) room.old room.new result }
+    ensures takes { TakesRow pass.old pass.new row place top (key_shown key.entry) room.old room.new result }
 {
     rows_end_in_zeros();
     room.put(&[top.count, top.head, top.number]);
@@ -137,8 +134,7 @@ fn take_in(
     requires some { length room.old.items < MOST_USED }
     requires words { HasWords room.old (key_bytes (key_shown key).label) }
     ensures same { StaysOut pass.old pass.new }
-    ensures takes { (v : View) → ReadsTop v (view pass.old) row top →
-        TakesIn v (view pass.new) row place (key_shown key.entry) room.old room.new result }
+    ensures takes { TakesRow pass.old pass.new row place top (key_shown key.entry) room.old room.new result }
 {
     if is_short(key) {
         take_short(room, reader, pass, row, place, top, key)

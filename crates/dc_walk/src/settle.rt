@@ -1,14 +1,11 @@
 //! The end of a walk: its pivot, and the checks of the rows that its answer rests on.
 
-ghost use Rattle.std.specs.Prelude.{length, map};
-ghost use Rattle.dc_plain.specs.Requests.{answer_of};
+ghost use Rattle.std.specs.Prelude.{length};
 ghost use Rattle.dc_table.specs.Holders.{table_of};
 ghost use Rattle.dc_table.specs.Passes.{view, share, Fits, IsIdle, StaysOut};
 ghost use Rattle.dc_walk.specs.Findings.{view_in};
-ghost use Rattle.dc_walk.specs.Finds.{use_shown, AllInside};
-ghost use Rattle.dc_walk.specs.Looks.{look_shown, outcome_of};
-ghost use Rattle.dc_walk.specs.Settling.{Came};
-ghost use Rattle.dc_walk.specs.Walks.{Settles};
+ghost use Rattle.dc_walk.specs.Finds.{AllInside};
+ghost use Rattle.dc_walk.specs.Walks.{CameTo, Settles};
 
 use crate::answer::Fast;
 use crate::look::Look;
@@ -32,8 +29,7 @@ pub(crate) fn settle(
 ) -> Fast
     requires pass { Fits (table_of reader) pass.old × IsIdle pass.old }
     requires rows { AllInside (share pass.old).rows used.now.items }
-    requires came { Came (outcome_of look) (look_shown look) (view_in begun pass.old look)
-        (map use_shown used.now.items) (answer_of reply) }
+    requires came { CameTo look (view_in begun pass.old look) used.now reply }
     ensures same { StaysOut pass.old pass.new }
     ensures settles { Settles look.entry (length used.now.items) (view_in begun pass.old look.entry)
         (view pass.new) result }

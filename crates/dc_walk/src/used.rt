@@ -6,11 +6,10 @@ ghost use Rattle.dc_resolve.specs.Needs.{IsUntold};
 ghost use Rattle.dc_row.specs.Narrow.{widened};
 ghost use Rattle.dc_row.specs.Spelling.{SpellsText, TellsOf, TellsTarget, TellsText};
 ghost use Rattle.dc_row.specs.declared.TheConstants.{ROW_WORDS};
-ghost use Rattle.dc_events.specs.Views.{View};
 ghost use Rattle.dc_table.specs.Holders.{table_of};
 ghost use Rattle.dc_table.specs.Passes.{view, share, Fits, IsIdle, StaysOut};
 ghost use Rattle.dc_walk.specs.Finds.{told_in, AllSpelled, StandsAt};
-ghost use Rattle.dc_walk.specs.Probes.{HasRead, IsReading, ReadsFirst};
+ghost use Rattle.dc_walk.specs.Probes.{IsReading, ReadsRest};
 ghost use Rattle.dc_walk.specs.Rooms.{used_at};
 ghost use Rattle.dc_walk.specs.declared.TheConstants.{MOST_USED, MOST_BYTES};
 
@@ -205,8 +204,7 @@ impl Room {
         ensures items { (self.new.items ≡ self.old.items) × (self.new.spent ≡ self.old.spent) }
         ensures top { take 3 self.new.next ≡ take 3 self.old.next }
         ensures size { length self.new.next ≡ ROW_WORDS }
-        ensures read { (v : View) → HasRead v (view pass.old) row self.old.next 3
-            → ReadsFirst v (view pass.new) row (take told self.new.next) result }
+        ensures read { ReadsRest pass.old pass.new row self.old.next 3 (take told self.new.next) result }
     {
         // One reference for all words, as each further step may have written what lies behind `self`.
         let words = &mut self.words[self.end..self.end + ROW_WORDS];

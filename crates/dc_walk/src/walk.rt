@@ -1,14 +1,13 @@
 //! A look-up by the rows of a source.
 
-ghost use Rattle.std.specs.Prelude.{◌≡◌, [], map, true, IfOk, IfErr};
-ghost use Rattle.dc_plain.specs.Requests.{answer_of};
+ghost use Rattle.std.specs.Prelude.{◌≡◌, [], IfOk, IfErr};
 ghost use Rattle.dc_table.specs.Holders.{table_of};
-ghost use Rattle.dc_table.specs.Passes.{known, view, share, IsSamePass, IsIdle};
-ghost use Rattle.dc_walk.specs.Findings.{CanWalk, buckets_of, view_in};
-ghost use Rattle.dc_walk.specs.Finds.{use_shown, AllInside};
+ghost use Rattle.dc_table.specs.Passes.{view, share, IsSamePass, IsIdle};
+ghost use Rattle.dc_walk.specs.Findings.{CanWalk, buckets_of};
+ghost use Rattle.dc_walk.specs.Finds.{AllInside};
 ghost use Rattle.dc_walk.specs.Sources.{IsUntried};
-ghost use Rattle.dc_walk.specs.Unpins.{PinsInTurn, rows_used, with_spare, spare_of};
-ghost use Rattle.dc_walk.specs.Walks.{Went, Stopped, Walks};
+ghost use Rattle.dc_walk.specs.Unpins.{PinsUsed, spare_of};
+ghost use Rattle.dc_walk.specs.Walks.{StoppedAt, Walks, WentTo};
 
 use crate::answer::Fast;
 use crate::filter::KeyFilter;
@@ -38,12 +37,9 @@ pub(crate) fn walk_rows<'x, S: Source>(
     ensures same { IsSamePass pass.old pass.new × IsIdle pass.new }
     ensures untried { IsUntried S.locks pass.old pass.new }
     ensures rows { AllInside (share pass.old).rows used.new.items }
-    ensures went { IfOk result (λ r. Went S.locks look.entry (view pass.old)
-        (view_in r.1 pass.new look.entry) (map use_shown used.new.items) (answer_of r.0)) }
-    ensures stopped { IfErr result (λ e. Stopped S.locks look.entry (buckets_of pass.old)
-        (view pass.old) (view pass.new) e.0) }
-    ensures pins { S.locks ≡ true → PinsInTurn (known pass.old).past (known pass.new).past
-        (with_spare (rows_used used.new.items) (spare_of result)) }
+    ensures went { IfOk result (λ r. WentTo S.locks look.entry pass.old pass.new r.1 used.new r.0) }
+    ensures stopped { IfErr result (λ e. StoppedAt S.locks look.entry pass.old pass.new e.0) }
+    ensures pins { PinsUsed S.locks pass.old pass.new used.new (spare_of result) }
 {
     let rows = Rows {
         reader,
@@ -85,8 +81,7 @@ pub(crate) fn walk_by<S: Source>(
     ensures untried { IsUntried S.locks pass.old pass.new }
     ensures walks { Walks S.locks look.entry (buckets_of pass.old) (view pass.old) (view pass.new)
         result.0 }
-    ensures pins { S.locks ≡ true → PinsInTurn (known pass.old).past (known pass.new).past
-        (with_spare (rows_used used.new.items) result.1) }
+    ensures pins { PinsUsed S.locks pass.old pass.new used.new result.1 }
 {
     // Rows of an earlier walk would be taken for this one's, and their pins back.
     used.clear();

@@ -1,9 +1,8 @@
-use Rattle.std.proofs.Common.{Some, ap, sym, arith, ◌∙◌}
+use Rattle.std.proofs.Common.{Some, sym, arith, ◌∙◌}
 use Rattle.dc_names.specs.Names.{part_shown}
 use Rattle.dc_plain.specs.Places.Placed.{At}
-use Rattle.dc_resolve.specs.Steps.{end_shown}
 use Rattle.dc_resolve.proofs.Needed.{needed_by}
-use Rattle.dc_resolve.proofs.Placing.{place_is}
+use Rattle.dc_resolve.proofs.Placing.{place_is, place_met}
 use Rattle.dc_resolve.proofs.Spending.{front_within, may_within}
 use Rattle.dc_resolve.proofs.placed.place.Goals as goal
 
@@ -17,9 +16,9 @@ resolve_from-requires-clause-spend g c =
 
 pub returns-in-Ok-Found-clause-answer : goal.returns-in-Ok-Found-clause-answer
 returns-in-Ok-Found-clause-answer g c teller more =
-    place_is teller c.args.base c.args.path.bytes.now c.in-Some.front.now (part_shown c.in-Some.last) c.bytes.ensures.bytes c.in-Some.ensures.last (c.in-Ok-Found.ensures.ends teller more ∙ ap (λ e. Some (end_shown e)) c.in-Ok-Found.field-0-is)
+    place_met teller c.args.base _ c.in-Some.front.now _ c.bytes.ensures.bytes c.in-Some.ensures.last (c.in-Ok-Found.ensures.ends teller more) c.in-Ok-Found.field-0-is
     ∙ (λ i. Some (At (record { dir = c.in-Ok-Found.dir; last = sym c.from.ensures i; slash = sym c.has_end_slash.ensures i })))
 
 pub returns-in-Ok-Refused-clause-answer : goal.returns-in-Ok-Refused-clause-answer
 returns-in-Ok-Refused-clause-answer g c teller more =
-    place_is teller c.args.base c.args.path.bytes.now c.in-Some.front.now (part_shown c.in-Some.last) c.bytes.ensures.bytes c.in-Some.ensures.last (c.in-Ok-Refused.ensures.ends teller more ∙ ap (λ e. Some (end_shown e)) c.in-Ok-Refused.field-0-is)
+    place_met teller c.args.base _ c.in-Some.front.now _ c.bytes.ensures.bytes c.in-Some.ensures.last (c.in-Ok-Refused.ensures.ends teller more) c.in-Ok-Refused.field-0-is

@@ -1,4 +1,4 @@
-use Rattle.std.proofs.Common.{◌≡◌, ℕ, ◌+◌, List, [], ◌∷◌, ◌++◌, bit_or, get_or, length, length-append, length-take-le, take, refl, ap, ap₂, sym, ◌∙◌, append-nil, append_assoc, arith, rules}
+use Rattle.std.proofs.Common.{◌≡◌, ℕ, List, [], ◌∷◌, ◌++◌, bit_or, get_or, length, length-append, length-take-le, take, refl, ap, ap₂, sym, ◌∙◌, append-nil, append_assoc, arith, rules}
 use Rattle.std.proofs.lemmas.Bool.{eq-eqb, eqb-true}
 use Rattle.std.proofs.lemmas.Nat.{le_or_l, le_or_r}
 use Rattle.std.specs.Int.Bits.{or_zero_l}

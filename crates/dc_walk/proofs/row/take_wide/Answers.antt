@@ -2,7 +2,6 @@ use Rattle.std.proofs.Common.{◌≡◌, ℕ, ◌+◌, ◌*◌, ◌<◌, ◌≤�
 use Rattle.dc_plain.specs.KeysShown.{key_shown}
 use Rattle.dc_row.specs.Narrow.{told_words, widened}
 use Rattle.dc_row.specs.Spelling.{TellsOf}
-use Rattle.dc_row.specs.declared.TheConstants.{ROW_WORDS}
 use Rattle.dc_table.specs.Passes.{view}
 use Rattle.dc_walk.specs.Rooms.{Used}
 use Rattle.dc_walk.specs.declared.TheConstants.{MOST_BYTES, MOST_USED}

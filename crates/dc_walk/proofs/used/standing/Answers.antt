@@ -1,9 +1,7 @@
-use Rattle.std.proofs.Common.{◌≡◌, ℕ, List, below_more, sym, subst, ◌∙◌, arith}
+use Rattle.std.proofs.Common.{arith}
 use Rattle.dc_plain.specs.KeysShown.{key_shown}
-use Rattle.dc_walk.proofs.Standing.{stands_so, none_stands}
-use Rattle.dc_row.specs.Spelling.{TellsOf}
-use Rattle.dc_walk.specs.Rooms.{used_at}
-use Rattle.dc_walk.proofs.Rooms.{number_of}
+use Rattle.dc_walk.proofs.Rooms.{number_so}
+use Rattle.dc_walk.proofs.Standing.{none_stands, one_other, stands_so}
 use Rattle.dc_walk.proofs.used.standing.Goals.{else-number-key-via-then-number-key+else-tells_at, else-number-key-via-else-number-key}
 use Rattle.dc_walk.proofs.used.standing.Goals as goal
 
@@ -16,10 +14,8 @@ pub returns-clause-none : goal.returns-clause-none
 returns-clause-none c = none_stands c.args.room.now.items (key_shown c.args.key) c.requires.spelled (λ j h. let past = c.loop-i-test.false in let many = c.many-i-end.ensures.many in c.loop-i.invariant j (omega arith))
 
 pub loop-i-preserved : goal.loop-i-preserved
-loop-i-preserved c = let key = key_shown c.args.key in
-    below_more (λ j. TellsOf (used_at c.args.room.now.items j).words key → ⊥) c.loop-i.i c.loop-i.invariant (λ tells. elim c.else-number-key.branch [
-      | else-number-key-via-then-number-key+else-tells_at w ↦ let yes = w.tells_at.ensures.1 tells in absurd cc
-      | else-number-key-via-else-number-key w ↦
-          let same : c.number.result ≡ key.number = c.number.ensures ∙ number_of c.words_at.result.now key c.words_at.ensures.size.0 (subst (λ (words : List ℕ). TellsOf words key) (sym c.words_at.ensures.words) tells) in
-          absurd (w.if-number-key.false same)
-    ])
+loop-i-preserved c = one_other c.args.room.now.items (key_shown c.args.key) c.loop-i.i c.loop-i.invariant (λ tells. elim c.else-number-key.branch [
+  | else-number-key-via-then-number-key+else-tells_at w ↦ let yes = w.tells_at.ensures.1 tells in absurd cc
+  | else-number-key-via-else-number-key w ↦
+      absurd (w.if-number-key.false (number_so c.words_at.result.now (key_shown c.args.key) c.words_at.ensures.size.0 c.words_at.ensures.words c.number.ensures tells))
+])
