@@ -27,50 +27,57 @@ fn spelled<'a>(part: &Part<'a>) -> &'a [u8] {
     }
 }
 
-fn fault(bytes: &[u8]) -> Option<TextFault> {
-    parse(bytes).err()
-}
+/// The components of the path that is split.
+const PARTS: [&[u8]; 5] = [b"a", b".", b"bc", b"..", b"..."];
 
 #[test]
 fn splits_a_path(rt: HostRuntime) -> Result<(), Fail> {
     parts_are_names_or_dots();
     let path = parse(b"//a/.//bc/../...")?;
     let parts = parts_in(rt.alloc(), &path)?;
-    let want: [&[u8]; 5] = [b"a", b".", b"bc", b"..", b"..."];
-    assert_eq!(rt; parts.len(), 5);
-    for (part, text) in parts.iter().zip(want) {
-        assert!(rt; spelled(part) == text);
-    }
+    let found = parts.iter().map(|part| spelled(part));
+    assert!(rt; found.eq(PARTS.iter().copied()));
     Ok(())
 }
+
+/// Texts, and why they are no paths, if so.
+const TEXTS: [(&[u8], Option<TextFault>); 7] = [
+    (b"", Some(TextFault::Empty)),
+    (b"a\0b", Some(TextFault::Zero)),
+    (&[b'a'; 256], Some(TextFault::Long)),
+    (&[0; 256], Some(TextFault::Long)),
+    (&[b'/'; 4096], Some(TextFault::Long)),
+    (&[b'/'; 4095], None),
+    (&[b'a'; 255], None),
+];
 
 #[test]
 fn tells_the_first_fault(rt: HostRuntime) {
     no_piece_is_longer();
-    assert_eq!(rt; fault(b""), Some(TextFault::Empty));
-    assert_eq!(rt; fault(b"a\0b"), Some(TextFault::Zero));
-    assert_eq!(rt; fault(&[b'a'; 256]), Some(TextFault::Long));
-    assert_eq!(rt; fault(&[0; 256]), Some(TextFault::Long));
-    assert_eq!(rt; fault(&[b'/'; 4096]), Some(TextFault::Long));
-    assert_eq!(rt; fault(&[b'/'; 4095]), None);
-    assert_eq!(rt; fault(&[b'a'; 255]), None);
+    for (text, fault) in TEXTS.iter() {
+        assert!(rt; parse(text).err() == *fault, "{fault:?}");
+    }
     assert_eq!(rt; TextFault::Long.number(), 36);
 }
 
+/// Paths, and whether they are absolute and end in a slash.
+const SLASHES: [(&[u8], bool, bool); 5] = [
+    (b"/", true, false),
+    (b"//", true, false),
+    (b"a/", false, true),
+    (b"/a//", true, true),
+    (b"a/b", false, false),
+];
+
 #[test]
 fn reads_the_slashes(rt: HostRuntime) -> Result<(), Fail> {
-    let cases: [(&[u8], bool, bool); 5] = [
-        (b"/", true, false),
-        (b"//", true, false),
-        (b"a/", false, true),
-        (b"/a//", true, true),
-        (b"a/b", false, false),
-    ];
-    for (text, absolute, slash) in cases {
+    for (text, absolute, slash) in SLASHES.iter() {
         let path = parse(text)?;
-        assert_eq!(rt; path.is_absolute(), absolute);
-        assert_eq!(rt; path.has_end_slash(), slash);
-        assert!(rt; PathText::known(path.bytes()).bytes() == text);
+        let same = PathText::known(path.bytes()).bytes() == *text;
+        assert!(rt;
+            same && path.is_absolute() == *absolute && path.has_end_slash() == *slash,
+            "{text:?}"
+        );
     }
     Ok(())
 }
@@ -83,58 +90,66 @@ fn knows_a_name(rt: HostRuntime) {
     assert!(rt; others.iter().all(|bytes| Name::new(bytes).is_none()));
 }
 
+const REFUSALS: [(Refusal, u64, &str); 12] = [
+    (Refusal::NotPermitted, 1, "EPERM"),
+    (Refusal::NotFound, 2, "ENOENT"),
+    (Refusal::Busy, 16, "EBUSY"),
+    (Refusal::Exists, 17, "EEXIST"),
+    (Refusal::NotDirectory, 20, "ENOTDIR"),
+    (Refusal::IsDirectory, 21, "EISDIR"),
+    (Refusal::Invalid, 22, "EINVAL"),
+    (Refusal::NoSpace, 28, "ENOSPC"),
+    (Refusal::TooManyNames, 31, "EMLINK"),
+    (Refusal::NameTooLong, 36, "ENAMETOOLONG"),
+    (Refusal::NotEmpty, 39, "ENOTEMPTY"),
+    (Refusal::TooManyLinks, 40, "ELOOP"),
+];
+
+/// Numbers of none.
+const NO_REFUSALS: [u64; 4] = [0, 3, 23, u64::MAX];
+
+/// Whether a refusal has this number and this name, both ways.
+fn is_named(refusal: Refusal, number: u64, symbol: &str) -> bool {
+    refusal.number() == number && refusal.name() == symbol && Refusal::of(number) == Some(refusal)
+}
+
 #[test]
 fn names_refusals_as_linux_does(rt: HostRuntime) -> Result<(), Fail> {
-    let refusals = [
-        (Refusal::NotPermitted, 1, "EPERM"),
-        (Refusal::NotFound, 2, "ENOENT"),
-        (Refusal::Busy, 16, "EBUSY"),
-        (Refusal::Exists, 17, "EEXIST"),
-        (Refusal::NotDirectory, 20, "ENOTDIR"),
-        (Refusal::IsDirectory, 21, "EISDIR"),
-        (Refusal::Invalid, 22, "EINVAL"),
-        (Refusal::NoSpace, 28, "ENOSPC"),
-        (Refusal::TooManyNames, 31, "EMLINK"),
-        (Refusal::NameTooLong, 36, "ENAMETOOLONG"),
-        (Refusal::NotEmpty, 39, "ENOTEMPTY"),
-        (Refusal::TooManyLinks, 40, "ELOOP"),
-    ];
-    for (refusal, number, symbol) in refusals {
-        assert_eq!(rt; refusal.number(), number);
-        assert_eq!(rt; refusal.to_string(rt.alloc())?.as_str(), symbol);
-        assert_eq!(rt; refusal.name(), symbol);
-        assert_eq!(rt; Refusal::of(number), Some(refusal));
+    for (refusal, number, symbol) in REFUSALS.iter() {
+        assert!(rt; is_named(*refusal, *number, symbol), "{symbol}");
+        assert!(rt;
+            refusal.to_string(rt.alloc())?.as_str() == *symbol,
+            "{symbol}"
+        );
     }
-    assert!(rt;
-        [0, 3, 23, u64::MAX]
-            .into_iter()
-            .all(|number| Refusal::of(number).is_none())
-    );
-    assert_eq!(rt; Refusal::from(TextFault::Zero), Refusal::Invalid);
+    for number in NO_REFUSALS.iter() {
+        assert!(rt; Refusal::of(*number).is_none(), "{number}");
+    }
+    assert!(rt; Refusal::from(TextFault::Zero) == Refusal::Invalid);
     Ok(())
+}
+
+/// The refusal for the root, for dot and for dot-dot.
+const EACH: [(Last<'static>, Refusal); 3] = [
+    (Last::Root, Refusal::Busy),
+    (Last::Dot, Refusal::Invalid),
+    (Last::DotDot, Refusal::NotEmpty),
+];
+
+/// Whether a name that ends a path is what is wanted there.
+fn is_wanted(name: Name<'_>) -> bool {
+    Last::from(Part::Normal(name)).name_or(Refusal::Busy) == Ok(name)
 }
 
 #[test]
 fn wants_a_name_at_the_end(rt: HostRuntime) {
-    let name = Name::new(b"a");
-    assert_eq!(rt;
-        name.map(|name| Last::from(Part::Normal(name)).name_or(Refusal::Busy)),
-        name.map(Ok)
-    );
-    assert_eq!(rt; Last::Root.name_or(Refusal::Busy), Err(Refusal::Busy));
-    let each = (Refusal::Busy, Refusal::Invalid, Refusal::NotEmpty);
-    assert_eq!(rt;
-        Last::Root.name_or_each(each.0, each.1, each.2),
-        Err(each.0)
-    );
-    assert_eq!(rt;
-        Last::from(Part::Dot).name_or_each(each.0, each.1, each.2),
-        Err(each.1)
-    );
-    assert_eq!(rt;
-        Last::from(Part::DotDot).name_or_each(each.0, each.1, each.2),
-        Err(each.2)
-    );
+    assert!(rt; Name::new(b"a").is_some_and(is_wanted));
+    assert!(rt; Last::Root.name_or(Refusal::Busy) == Err(Refusal::Busy));
+    assert!(rt; Last::from(Part::Dot) == Last::Dot && Last::from(Part::DotDot) == Last::DotDot);
+    for (last, refusal) in EACH.iter() {
+        let found = last.name_or_each(Refusal::Busy, Refusal::Invalid, Refusal::NotEmpty);
+        assert!(rt; found == Err(*refusal), "{refusal}");
+    }
 }
 
 #[test]
@@ -144,16 +159,25 @@ fn hashes_numbers_and_bytes(rt: HostRuntime) {
     assert_eq!(rt; hash(2, b"") % 1024, 519);
 }
 
+/// A component, what follows it, and its hash in a directory, modulo 1,024.
+type Hashed<'a> = (&'a [u8], &'a [u8], u64);
+
+fn hashed<'a>(dir: u64, path: &PathText<'a>) -> Option<Hashed<'a>> {
+    let (part, rest, found) = first_part_hashed(dir, path.bytes())?;
+    Some((spelled(&part), rest, found % 1024))
+}
+
+const HASHED: [(u64, &[u8], Option<Hashed<'static>>); 3] = [
+    (1, b"//a/..", Some((b"a", b"/..", 959))),
+    (2, b"/..", Some((b"..", b"", 767))),
+    (2, b"//", None),
+];
+
 #[test]
 fn splits_and_hashes_at_once(rt: HostRuntime) -> Result<(), Fail> {
-    let path = parse(b"//a/..")?;
-    let (part, rest, found) = first_part_hashed(1, path.bytes()).ok_or("no component")?;
-    assert!(rt; spelled(&part) == b"a".as_slice() && rest == b"/..".as_slice());
-    assert_eq!(rt; found % 1024, 959);
-    let (part, rest, found) = first_part_hashed(2, rest).ok_or("no component")?;
-    assert!(rt; part == Part::DotDot && rest.is_empty());
-    assert_eq!(rt; found % 1024, 767);
-    assert!(rt; first_part_hashed(2, rest).is_none());
+    for (dir, path, want) in HASHED.iter() {
+        assert!(rt; hashed(*dir, &parse(path)?) == *want, "{path:?}");
+    }
     Ok(())
 }
 

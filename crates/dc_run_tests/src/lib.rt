@@ -1,5 +1,5 @@
-//! Tests of the server, the checker and the search for points, over inputs and records, and of sessions whose
-//! replies the checker judges. There is nothing here but tests.
+//! Tests of the server and the checker, over inputs and records, and of sessions whose replies the checker judges.
+//! There is nothing here but tests. Those of lines alone are files of examples/.
 #![tactic(auto)]
 
 #[cfg(test)]
@@ -18,5 +18,3 @@ mod sessions;
 mod storms;
 #[cfg(test)]
 mod texts;
-#[cfg(test)]
-mod trace;

@@ -18,7 +18,7 @@ pub const USUAL: Options = Options {
     stats: false,
 };
 
-/// How many inodes may live in a record that is judged by `verdict`.
+/// How many inodes may live in the records of `check`.
 pub const INODES: u64 = 16;
 
 /// What a run with these sizes answers and writes.
@@ -32,12 +32,6 @@ pub fn served<R: Threads + Wait + Sync>(
     let mut rest = input;
     let result = run(rt, alloc, &mut rest, &mut output, sizes, &FreeGate);
     (result, output)
-}
-
-/// The verdict on an output for an input.
-pub fn verdict(alloc: Global, input: &[u8], output: &[u8]) -> Result<Verdict, Fail> {
-    let stamps = record_of(alloc, input, output)?;
-    Ok(check(alloc, INODES, &stamps)?)
 }
 
 /// The verdict on the stamps of an input, by its phases too.

@@ -144,22 +144,16 @@ fn judge<R: Threads + Wait + Sync>(
 }
 
 #[test]
-fn eight_sessions_on_one_bucket_are_legal(rt: HostRuntime) -> Result<(), Fail> {
-    let (answers, verdict) = judge(&rt, rt.alloc(), 1, false)?;
-    assert!(rt; answers == SESSIONS * PHASES * LINES);
-    assert!(rt; verdict == PhasedVerdict::Legal, "{verdict:?}");
+fn eight_sessions_are_legal(rt: HostRuntime) -> Result<(), Fail> {
+    for (buckets, linked) in [(1, false), (8, true)] {
+        let (answers, verdict) = judge(&rt, rt.alloc(), buckets, linked)?;
+        assert_eq!(rt; answers, SESSIONS * PHASES * LINES);
+        assert!(rt; verdict == PhasedVerdict::Legal, "{verdict:?}");
+    }
     Ok(())
 }
 
-#[test]
-fn eight_sessions_that_turn_links_are_legal(rt: HostRuntime) -> Result<(), Fail> {
-    let (answers, verdict) = judge(&rt, rt.alloc(), 8, true)?;
-    assert!(rt; answers == SESSIONS * PHASES * LINES);
-    assert!(rt; verdict == PhasedVerdict::Legal, "{verdict:?}");
-    Ok(())
-}
-
-/// The inputs of the server's own tests in which a phase has several sessions.
+/// Inputs in which a phase has several sessions.
 const THREADED: [(&str, u64); 6] = [
     ("1 look /\n0 look /\n", 2),
     ("0 look /\n1 look /\n", 2),

@@ -93,35 +93,38 @@ fn storm<R: Threads + Wait + Sync>(
     Ok((answered && alone && phased, later))
 }
 
-#[test]
-fn storms_on_one_bucket_are_legal(rt: HostRuntime) -> Result<(), Fail> {
-    let mut seed = 1;
-    for run in 0..34 {
-        let (legal, later) = storm(&rt, rt.alloc(), 1, seed)?;
-        assert!(rt; legal, "run {run}");
+/// Runs so many storms, and tells which one, counted from 0, wasn't legal, or `None` where each was.
+fn first_bad<R: Threads + Wait + Sync>(
+    rt: &R,
+    alloc: Global,
+    buckets: u64,
+    runs: u64,
+    mut seed: u64,
+) -> Result<Option<u64>, Fail> {
+    for run in 0..runs {
+        let (legal, later) = storm(rt, alloc, buckets, seed)?;
+        if !legal {
+            return Ok(Some(run));
+        }
         seed = later;
     }
+    Ok(None)
+}
+
+#[test]
+fn storms_on_one_bucket_are_legal(rt: HostRuntime) -> Result<(), Fail> {
+    assert_eq!(rt; first_bad(&rt, rt.alloc(), 1, 34, 1)?, None);
     Ok(())
 }
 
 #[test]
 fn storms_on_sixteen_buckets_are_legal(rt: HostRuntime) -> Result<(), Fail> {
-    let mut seed = 2;
-    for run in 0..33 {
-        let (legal, later) = storm(&rt, rt.alloc(), 16, seed)?;
-        assert!(rt; legal, "run {run}");
-        seed = later;
-    }
+    assert_eq!(rt; first_bad(&rt, rt.alloc(), 16, 33, 2)?, None);
     Ok(())
 }
 
 #[test]
 fn storms_on_many_buckets_are_legal(rt: HostRuntime) -> Result<(), Fail> {
-    let mut seed = 3;
-    for run in 0..33 {
-        let (legal, later) = storm(&rt, rt.alloc(), 256, seed)?;
-        assert!(rt; legal, "run {run}");
-        seed = later;
-    }
+    assert_eq!(rt; first_bad(&rt, rt.alloc(), 256, 33, 3)?, None);
     Ok(())
 }
