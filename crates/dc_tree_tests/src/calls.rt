@@ -1,18 +1,39 @@
-//! Calls from the root, by their paths.
+//! Calls from the root and replies to them, as a table of constants has them.
 
-use dc_plain::{Call, Flags, Follow};
+use dc_names::Kind;
+use dc_plain::{Call, Flags, Follow, Reply};
 
-pub(crate) const EXCHANGE: Flags = Flags {
-    no_replace: false,
-    exchange: true,
-};
+/// A call from the root.
+#[derive(Clone, Copy)]
+pub(crate) enum Ask<'a> {
+    Look(&'a [u8]),
+    /// What a path leads to, its last link kept.
+    Kept(&'a [u8]),
+    /// A directory in which to start.
+    Start(&'a [u8]),
+    Readlink(&'a [u8]),
+    Stat(&'a [u8]),
+    List(&'a [u8]),
+    /// The names in the directory of a number, which is not the root.
+    ListIn(u64),
+    Mkdir(&'a [u8]),
+    Create(&'a [u8]),
+    /// An old name, and a new one.
+    Link(&'a [u8], &'a [u8]),
+    /// A text, and the path of the link that has it.
+    Symlink(&'a [u8], &'a [u8]),
+    Unlink(&'a [u8]),
+    Rmdir(&'a [u8]),
+    Rename(&'a [u8], &'a [u8]),
+    /// A rename to a name that has to be free.
+    Free(&'a [u8], &'a [u8]),
+    /// Two names that exchange what they name.
+    Exchange(&'a [u8], &'a [u8]),
+    /// A rename with both flags.
+    Both(&'a [u8], &'a [u8]),
+}
 
-pub(crate) const NO_REPLACE: Flags = Flags {
-    no_replace: true,
-    exchange: false,
-};
-
-pub(crate) fn look_with(follow: Follow, path: &[u8]) -> Call<'_> {
+fn look<'a>(path: &'a [u8], follow: Follow) -> Call<'a> {
     Call::Look {
         base: 1,
         path,
@@ -20,68 +41,78 @@ pub(crate) fn look_with(follow: Follow, path: &[u8]) -> Call<'_> {
     }
 }
 
-pub(crate) fn look(path: &[u8]) -> Call<'_> {
-    look_with(Follow::Yes, path)
-}
-
-/// What a path leads to, its last link kept.
-pub(crate) fn kept(path: &[u8]) -> Call<'_> {
-    look_with(Follow::No, path)
-}
-
-pub(crate) fn readlink(path: &[u8]) -> Call<'_> {
-    Call::Readlink { base: 1, path }
-}
-
-pub(crate) fn stat(path: &[u8]) -> Call<'_> {
-    Call::Stat { base: 1, path }
-}
-
-pub(crate) fn list(path: &[u8]) -> Call<'_> {
-    Call::List { base: 1, path }
-}
-
-pub(crate) fn mkdir(path: &[u8]) -> Call<'_> {
-    Call::Mkdir { base: 1, path }
-}
-
-pub(crate) fn create(path: &[u8]) -> Call<'_> {
-    Call::Create { base: 1, path }
-}
-
-pub(crate) fn link<'a>(old: &'a [u8], new: &'a [u8]) -> Call<'a> {
-    Call::Link { base: 1, old, new }
-}
-
-pub(crate) fn symlink<'a>(text: &'a [u8], path: &'a [u8]) -> Call<'a> {
-    Call::Symlink {
-        base: 1,
-        text,
-        path,
-    }
-}
-
-pub(crate) fn unlink(path: &[u8]) -> Call<'_> {
-    Call::Unlink { base: 1, path }
-}
-
-pub(crate) fn rmdir(path: &[u8]) -> Call<'_> {
-    Call::Rmdir { base: 1, path }
-}
-
-pub(crate) fn rename_with<'a>(flags: Flags, old: &'a [u8], new: &'a [u8]) -> Call<'a> {
+fn rename<'a>(old: &'a [u8], new: &'a [u8], no_replace: bool, exchange: bool) -> Call<'a> {
     Call::Rename {
         base: 1,
         old,
         new,
-        flags,
+        flags: Flags {
+            no_replace,
+            exchange,
+        },
     }
 }
 
-pub(crate) fn rename<'a>(old: &'a [u8], new: &'a [u8]) -> Call<'a> {
-    rename_with(Flags::default(), old, new)
+impl<'a> Ask<'a> {
+    /// The call itself.
+    pub(crate) fn call(self) -> Call<'a> {
+        let base = 1;
+        match self {
+            Ask::Look(path) => look(path, Follow::Yes),
+            Ask::Kept(path) => look(path, Follow::No),
+            Ask::Start(path) => look(path, Follow::Dir),
+            Ask::Readlink(path) => Call::Readlink { base, path },
+            Ask::Stat(path) => Call::Stat { base, path },
+            Ask::List(path) => Call::List { base, path },
+            Ask::ListIn(base) => Call::List { base, path: b"." },
+            Ask::Mkdir(path) => Call::Mkdir { base, path },
+            Ask::Create(path) => Call::Create { base, path },
+            Ask::Link(old, new) => Call::Link { base, old, new },
+            Ask::Symlink(text, path) => Call::Symlink { base, text, path },
+            Ask::Unlink(path) => Call::Unlink { base, path },
+            Ask::Rmdir(path) => Call::Rmdir { base, path },
+            Ask::Rename(old, new) => rename(old, new, false, false),
+            Ask::Free(old, new) => rename(old, new, true, false),
+            Ask::Exchange(old, new) => rename(old, new, false, true),
+            Ask::Both(old, new) => rename(old, new, true, true),
+        }
+    }
 }
 
-pub(crate) fn exchange<'a>(old: &'a [u8], new: &'a [u8]) -> Call<'a> {
-    rename_with(EXCHANGE, old, new)
+/// A reply that is wanted.
+#[derive(Clone, Copy)]
+pub(crate) enum Want<'a> {
+    Found(u64, Kind),
+    Done(u64),
+    Unit,
+    Text(&'a [u8]),
+    Names(&'a [&'a [u8]]),
+    Stat(u64, Kind, u64),
+    Refused(u64),
+}
+
+impl Want<'_> {
+    /// Whether a reply is this one.
+    pub(crate) fn is(&self, reply: &Reply) -> bool {
+        match (self, reply) {
+            (Want::Found(number, kind), Reply::Found(found, other)) => {
+                number == found && kind == other
+            }
+            (Want::Done(number), Reply::Done(made)) => number == made,
+            (Want::Unit, Reply::Unit) => true,
+            (Want::Text(text), Reply::Text(told)) => *text == told.as_slice(),
+            (Want::Names(names), Reply::Names(told)) => are_names(names, told),
+            (Want::Stat(number, kind, count), Reply::Stat(found, other, counted)) => {
+                number == found && kind == other && count == counted
+            }
+            (Want::Refused(number), Reply::Refused(told)) => number == told,
+            _ => false,
+        }
+    }
+}
+
+/// Whether these are the names that were told.
+fn are_names(names: &[&[u8]], told: &[Vec<u8>]) -> bool {
+    let told = told.iter().map(|name| name.as_slice());
+    told.eq(names.iter().copied())
 }

@@ -2,33 +2,27 @@
 
 ghost use Rattle.std.specs.Prelude.{◌≤◌};
 
-use crate::calls::{
-    NO_REPLACE, create, exchange, kept, link, list, look, look_with, mkdir, readlink, rename,
-    rename_with, rmdir, stat, symlink, unlink,
-};
+use crate::calls::{Ask, Want};
 use dc_names::{Kind, Last, Name, NoMemory, Refusal};
-use dc_plain::{
-    Call, Follow, Key, Label, PlainTree, ROOT, Reply, Sort, Spot, Where, is_directory, present,
-    refuse,
-};
+use dc_plain::{Key, Label, PlainTree, ROOT, Sort, Spot, Where, is_directory, present, refuse};
 use std::alloc::Global;
 use std::test::Fail;
 
 mod facts;
 
+/// A call, the reply to it, and whether it alters the tree.
+type Row = (Ask<'static>, Want<'static>, bool);
+
 /// The first call, counted from 0, that has another reply or alters the tree otherwise, or as many
 /// as there are.
-fn first_other(
-    alloc: Global,
-    max_inodes: u64,
-    rows: &[(Call, Reply, bool)],
-) -> Result<usize, NoMemory>
+fn first_other(alloc: Global, max_inodes: u64, rows: &[Row]) -> Result<usize, NoMemory>
     requires least { 1 ≤ max_inodes }
     requires most { max_inodes ≤ 1048576 }
 {
     let mut tree = PlainTree::new(alloc, max_inodes)?;
-    for (i, (call, reply, alters)) in rows.iter().enumerate() {
-        if tree.alters(alloc, call)? != *alters || tree.apply(alloc, call)? != *reply {
+    for (i, (ask, want, alters)) in rows.iter().enumerate() {
+        let call = ask.call();
+        if tree.alters(alloc, &call)? != *alters || !want.is(&tree.apply(alloc, &call)?) {
             return Ok(i);
         }
     }
@@ -43,84 +37,73 @@ const LONGEST: &[u8] = b"/\
     nnnnnnnnnnnnnnnnnnnnnnnnnnnnnnnnnnnnnnnnnnnnnnnnnnnnnnnnnnnnnnn";
 
 /// Each call once, in one tree, and the longest name and text.
+const EACH_CALL: [Row; 23] = [
+    (Ask::Look(b"/f"), Want::Refused(2), false),
+    (Ask::Mkdir(b"/d/"), Want::Done(2), true),
+    (Ask::Create(b"/d/f"), Want::Done(3), true),
+    (Ask::Link(b"/d/f", b"/g"), Want::Done(3), true),
+    (Ask::Symlink(b"./d", b"/s"), Want::Done(4), true),
+    (Ask::Look(b"/s/f"), Want::Found(3, Kind::File), false),
+    (Ask::Kept(b"/s"), Want::Found(4, Kind::Link), false),
+    (Ask::Start(b"/s"), Want::Found(2, Kind::Dir), false),
+    (Ask::Readlink(b"/s"), Want::Text(b"./d"), false),
+    (Ask::List(b"/"), Want::Names(&[b"d", b"g", b"s"]), false),
+    (Ask::Stat(b"/g"), Want::Stat(3, Kind::File, 2), false),
+    (Ask::Unlink(b"/g"), Want::Unit, true),
+    (Ask::Rename(b"/d/f", b"/f"), Want::Unit, true),
+    (Ask::Rename(b"/f", b"/f"), Want::Unit, false),
+    (Ask::Create(b"/f"), Want::Refused(17), false),
+    (Ask::Free(b"/f", b"/d"), Want::Refused(17), false),
+    (Ask::Exchange(b"/f", b"/d"), Want::Unit, true),
+    (Ask::Look(b"/d"), Want::Found(3, Kind::File), false),
+    (Ask::Exchange(b"/d", b"/f"), Want::Unit, true),
+    (Ask::Rmdir(b"/d"), Want::Unit, true),
+    (Ask::Mkdir(LONGEST), Want::Done(5), true),
+    (Ask::Symlink(&[b'/'; 4095], b"/t"), Want::Done(6), true),
+    (Ask::ListIn(2), Want::Refused(2), false),
+];
+
+const NO_SPACE: [Row; 1] = [(Ask::Create(b"/f"), Want::Refused(28), false)];
+
 #[test]
 fn answers_each_call(rt: HostRuntime) -> Result<(), Fail> {
-    let alloc = rt.alloc();
-    let text = Vec::from_slice(alloc, b"./d")?;
-    let mut names = Vec::new(alloc);
-    names.push(Vec::from_slice(alloc, b"d")?)?;
-    names.push(Vec::from_slice(alloc, b"g")?)?;
-    names.push(Vec::from_slice(alloc, b"s")?)?;
-    let slashes = [b'/'; 4095];
-    let rows = [
-        (look(b"/f"), Reply::Refused(2), false),
-        (mkdir(b"/d/"), Reply::Done(2), true),
-        (create(b"/d/f"), Reply::Done(3), true),
-        (link(b"/d/f", b"/g"), Reply::Done(3), true),
-        (symlink(b"./d", b"/s"), Reply::Done(4), true),
-        (look(b"/s/f"), Reply::Found(3, Kind::File), false),
-        (kept(b"/s"), Reply::Found(4, Kind::Link), false),
-        (
-            look_with(Follow::Dir, b"/s"),
-            Reply::Found(2, Kind::Dir),
-            false,
-        ),
-        (readlink(b"/s"), Reply::Text(text), false),
-        (list(b"/"), Reply::Names(names), false),
-        (stat(b"/g"), Reply::Stat(3, Kind::File, 2), false),
-        (unlink(b"/g"), Reply::Unit, true),
-        (rename(b"/d/f", b"/f"), Reply::Unit, true),
-        (rename(b"/f", b"/f"), Reply::Unit, false),
-        (create(b"/f"), Reply::Refused(17), false),
-        (
-            rename_with(NO_REPLACE, b"/f", b"/d"),
-            Reply::Refused(17),
-            false,
-        ),
-        (exchange(b"/f", b"/d"), Reply::Unit, true),
-        (look(b"/d"), Reply::Found(3, Kind::File), false),
-        (exchange(b"/d", b"/f"), Reply::Unit, true),
-        (rmdir(b"/d"), Reply::Unit, true),
-        (mkdir(LONGEST), Reply::Done(5), true),
-        (symlink(&slashes, b"/t"), Reply::Done(6), true),
-        (
-            Call::List {
-                base: 2,
-                path: b".",
-            },
-            Reply::Refused(2),
-            false,
-        ),
-    ];
-    assert_eq!(rt; first_other(alloc, 16, &rows)?, rows.len());
-    assert_eq!(rt;
-        first_other(alloc, 1, &[(create(b"/f"), Reply::Refused(28), false)])?,
-        1
-    );
+    let other = first_other(rt.alloc(), 16, &EACH_CALL)?;
+    assert!(rt; other == EACH_CALL.len(), "row {other}");
+    assert!(rt; first_other(rt.alloc(), 1, &NO_SPACE)? == 1);
     Ok(())
 }
 
-#[test]
-fn tells_keys_and_sorts(rt: HostRuntime) -> Result<(), Fail> {
-    let name = Name::new(b"a").ok_or("no name")?;
+/// Whether the place of a name in a directory, and its key, are told by both.
+fn is_told(dir: u64, name: Name<'_>) -> bool {
+    let last = Last::Normal(name);
     let at = Where {
-        dir: 7,
-        last: Last::Normal(name),
+        dir,
+        last,
         slash: false,
     };
-    let spot = at.spot(at.last.name_or(Refusal::Exists)?);
-    assert_eq!(rt; spot, Spot { dir: 7, name });
-    assert_eq!(rt; Key::from(spot).number, 7);
-    assert!(rt; Key::from(spot).label.bytes() == b"a".as_slice());
+    let spot = Spot { dir, name };
+    let key = Key::from(spot);
+    last.name_or(Refusal::Exists) == Ok(name)
+        && at.spot(name) == spot
+        && key.number == dir
+        && key.label.bytes() == name.bytes()
+}
+
+const SORTS: [(Ask<'static>, Sort); 3] = [
+    (Ask::Look(b"/"), Sort::Sought),
+    (Ask::List(b"/"), Sort::Told),
+    (Ask::Rmdir(b"/"), Sort::Change),
+];
+
+#[test]
+fn tells_keys_and_sorts(rt: HostRuntime) {
+    assert!(rt; Name::new(b"a").is_some_and(|name| is_told(7, name)));
     let own = Key::own(7, Kind::Dir).map(|key| key.label);
-    assert_eq!(rt; own, Some(Label::DotDot));
-    assert_eq!(rt; Key::own(7, Kind::File), None);
-    assert_eq!(rt; Key::default().number, 0);
-    assert_eq!(rt; look(b"/").sort(), Sort::Sought);
-    assert_eq!(rt; list(b"/").sort(), Sort::Told);
-    assert_eq!(rt; rmdir(b"/").sort(), Sort::Change);
-    assert!(rt; is_directory(ROOT));
-    assert_eq!(rt; refuse(true, Refusal::Busy), Err(Refusal::Busy));
-    assert_eq!(rt; present(None, Refusal::NotFound), Err(Refusal::NotFound));
-    Ok(())
+    assert!(rt; own == Some(Label::DotDot) && Key::own(7, Kind::File).is_none());
+    assert!(rt; Key::default().number == 0 && is_directory(ROOT));
+    for (ask, sort) in SORTS.iter() {
+        assert!(rt; ask.call().sort() == *sort);
+    }
+    assert!(rt; refuse(true, Refusal::Busy) == Err(Refusal::Busy));
+    assert!(rt; present(None, Refusal::NotFound) == Err(Refusal::NotFound));
 }

@@ -114,10 +114,34 @@ fn move_to<S: Store>(
     Ok(true)
 }
 
+/// What a new entry leads to, with a link's text as it is.
+#[derive(Clone, Copy)]
+enum To<'a> {
+    Dir,
+    File,
+    Link(&'a [u8]),
+    Same(u64),
+}
+
+impl<'a> To<'a> {
+    /// The same as the stores take it. A text that is none counts as want of memory.
+    fn new_entry(self) -> Result<New<'a>, NoMemory> {
+        match self {
+            To::Dir => Ok(New::Dir),
+            To::File => Ok(New::File),
+            To::Same(number) => Ok(New::Same(number)),
+            To::Link(text) => match parse(text) {
+                Ok(text) => Ok(New::Link(text)),
+                Err(_) => Err(NoMemory),
+            },
+        }
+    }
+}
+
 /// A change with its answer, or what is seen between two changes.
 #[derive(Clone, Copy)]
 enum Step<'a> {
-    Add(u64, &'a [u8], New<'a>, Option<u64>),
+    Add(u64, &'a [u8], To<'a>, Option<u64>),
     Drop(u64, &'a [u8], bool),
     Move((u64, &'a [u8]), (u64, &'a [u8]), bool),
     /// A number's kind, parent and count.
@@ -151,7 +175,7 @@ fn holds<S: Store>(store: &S, alloc: Global, dir: u64, want: &[&[u8]]) -> Result
 fn answers<S: Store>(store: &mut S, alloc: Global, step: Step<'_>) -> Result<bool, NoMemory> {
     match step {
         Step::Add(dir, name, new, want) => {
-            Ok(add_to(store, alloc, dir, named(name)?, new)? == want)
+            Ok(add_to(store, alloc, dir, named(name)?, new.new_entry()?)? == want)
         }
         Step::Drop(dir, name, want) => Ok(drop_from(store, dir, named(name)?) == want),
         Step::Move(old, new, want) => { Ok(move_to(store, alloc, spot(old)?, spot(new)?)? == want) }
@@ -170,24 +194,45 @@ fn answers<S: Store>(store: &mut S, alloc: Global, step: Step<'_>) -> Result<boo
     }
 }
 
-/// The place of the first step of a new store of either kind that answers otherwise.
-fn fails_at(alloc: Global, steps: &[Step<'_>]) -> Result<Option<usize>, NoMemory> {
-    let mut map = MapStore::new(alloc).or_else(|_| MapStore::new(alloc))?;
-    let mut slab = SlabStore::new(alloc).or_else(|_| SlabStore::new(alloc))?;
-    let first = fails_in(&mut map, alloc, steps)?;
-    Ok(first.or(fails_in(&mut slab, alloc, steps)?))
+fn new_map(alloc: Global) -> Result<MapStore, NoMemory> {
+    match MapStore::new(alloc) {
+        Ok(store) => Ok(store),
+        Err(NoMemory) => MapStore::new(alloc),
+    }
 }
 
-/// The place of the first step that answers otherwise. A step that is refused memory is taken once more,
-/// and answers then as if it hadn't been.
+fn new_slab(alloc: Global) -> Result<SlabStore, NoMemory> {
+    match SlabStore::new(alloc) {
+        Ok(store) => Ok(store),
+        Err(NoMemory) => SlabStore::new(alloc),
+    }
+}
+
+/// The place of the first step of a new store of either kind that answers otherwise.
+fn fails_at(alloc: Global, steps: &[Step<'_>]) -> Result<Option<usize>, NoMemory> {
+    if let Some(place) = fails_in(&mut new_map(alloc)?, alloc, steps)? {
+        return Ok(Some(place));
+    }
+    fails_in(&mut new_slab(alloc)?, alloc, steps)
+}
+
+/// Whether a step answers so. One that is refused memory is taken once more, and answers then as if it
+/// hadn't been.
+fn answers_again<S: Store>(store: &mut S, alloc: Global, step: Step<'_>) -> Result<bool, NoMemory> {
+    match answers(store, alloc, step) {
+        Ok(right) => Ok(right),
+        Err(NoMemory) => answers(store, alloc, step),
+    }
+}
+
+/// The place of the first step that answers otherwise.
 fn fails_in<S: Store>(
     store: &mut S,
     alloc: Global,
     steps: &[Step<'_>],
 ) -> Result<Option<usize>, NoMemory> {
     for (place, step) in steps.iter().enumerate() {
-        let first = answers(store, alloc, *step);
-        if !first.or_else(|_| answers(store, alloc, *step))? {
+        if !answers_again(store, alloc, *step)? {
             return Ok(Some(place));
         }
     }
@@ -200,111 +245,115 @@ const FILE: Option<Kind> = Some(Kind::File);
 
 const LINK: Option<Kind> = Some(Kind::Link);
 
+const DIRECTORIES: [Step<'static>; 14] = [
+    Step::Seen(1, DIR, Some(1), 0),
+    Step::Size(2, 1),
+    Step::Add(1, b"a", To::Dir, Some(2)),
+    Step::Add(1, b"a", To::Dir, None),
+    Step::Add(2, b"a", To::Dir, Some(3)),
+    Step::Add(4, b"a", To::Dir, None),
+    Step::Find(1, b"a", Some(2)),
+    Step::Find(2, b"a", Some(3)),
+    Step::Find(3, b"a", None),
+    Step::Seen(1, DIR, Some(1), 1),
+    Step::Seen(2, DIR, Some(1), 1),
+    Step::Seen(3, DIR, Some(2), 0),
+    Step::Seen(4, None, None, 0),
+    Step::Size(4, 3),
+];
+
 #[test]
 fn makes_directories(rt: HostRuntime) -> Result<(), Fail> {
-    let steps = [
-        Step::Seen(1, DIR, Some(1), 0),
-        Step::Size(2, 1),
-        Step::Add(1, b"a", New::Dir, Some(2)),
-        Step::Add(1, b"a", New::Dir, None),
-        Step::Add(2, b"a", New::Dir, Some(3)),
-        Step::Add(4, b"a", New::Dir, None),
-        Step::Find(1, b"a", Some(2)),
-        Step::Find(2, b"a", Some(3)),
-        Step::Find(3, b"a", None),
-        Step::Seen(1, DIR, Some(1), 1),
-        Step::Seen(2, DIR, Some(1), 1),
-        Step::Seen(3, DIR, Some(2), 0),
-        Step::Seen(4, None, None, 0),
-        Step::Size(4, 3),
-    ];
-    assert_eq!(rt; fails_at(rt.alloc(), &steps)?, None);
+    assert!(rt; fails_at(rt.alloc(), &DIRECTORIES)?.is_none());
     Ok(())
 }
+
+const FURTHER_NAMES: [Step<'static>; 24] = [
+    Step::Add(1, b"d", To::Dir, Some(2)),
+    Step::Add(1, b"l", To::Link(b"d/x"), Some(3)),
+    Step::Add(2, b"f", To::File, Some(4)),
+    Step::Add(1, b"f", To::Same(4), Some(4)),
+    // No further name for a directory.
+    Step::Add(2, b"d", To::Same(2), None),
+    Step::Find(1, b"f", Some(4)),
+    Step::Find(2, b"f", Some(4)),
+    Step::Text(3, Some(b"d/x")),
+    Step::Text(4, None),
+    Step::Seen(1, DIR, Some(1), 3),
+    Step::Seen(2, DIR, Some(1), 1),
+    Step::Seen(3, LINK, None, 1),
+    Step::Seen(4, FILE, None, 2),
+    Step::List(1, &[b"d", b"f", b"l"]),
+    Step::Drop(1, b"d", false),
+    Step::Drop(2, b"f", true),
+    Step::Seen(4, FILE, None, 1),
+    Step::Drop(1, b"f", true),
+    Step::Drop(1, b"l", true),
+    Step::Seen(4, None, None, 0),
+    Step::Text(3, None),
+    Step::List(1, &[b"d"]),
+    Step::Drop(1, b"d", true),
+    Step::Size(5, 1),
+];
 
 #[test]
 fn keeps_links_and_further_names(rt: HostRuntime) -> Result<(), Fail> {
-    let steps = [
-        Step::Add(1, b"d", New::Dir, Some(2)),
-        Step::Add(1, b"l", New::Link(parse(b"d/x")?), Some(3)),
-        Step::Add(2, b"f", New::File, Some(4)),
-        Step::Add(1, b"f", New::Same(4), Some(4)),
-        // No further name for a directory.
-        Step::Add(2, b"d", New::Same(2), None),
-        Step::Find(1, b"f", Some(4)),
-        Step::Find(2, b"f", Some(4)),
-        Step::Text(3, Some(b"d/x")),
-        Step::Text(4, None),
-        Step::Seen(1, DIR, Some(1), 3),
-        Step::Seen(2, DIR, Some(1), 1),
-        Step::Seen(3, LINK, None, 1),
-        Step::Seen(4, FILE, None, 2),
-        Step::List(1, &[b"d", b"f", b"l"]),
-        Step::Drop(1, b"d", false),
-        Step::Drop(2, b"f", true),
-        Step::Seen(4, FILE, None, 1),
-        Step::Drop(1, b"f", true),
-        Step::Drop(1, b"l", true),
-        Step::Seen(4, None, None, 0),
-        Step::Text(3, None),
-        Step::List(1, &[b"d"]),
-        Step::Drop(1, b"d", true),
-        Step::Size(5, 1),
-    ];
-    assert_eq!(rt; fails_at(rt.alloc(), &steps)?, None);
+    assert!(rt; fails_at(rt.alloc(), &FURTHER_NAMES)?.is_none());
     Ok(())
 }
+
+const FILES: [Step<'static>; 19] = [
+    Step::Add(1, b"a", To::File, Some(2)),
+    Step::Add(1, b"b", To::File, Some(3)),
+    Step::Add(1, b"c", To::Same(3), Some(3)),
+    Step::Add(1, b"d", To::Dir, Some(4)),
+    Step::Move((1, b"a"), (4, b"a"), true),
+    Step::List(4, &[b"a"]),
+    // Over one of two names of another file, and then over its last.
+    Step::Move((4, b"a"), (1, b"b"), true),
+    Step::Find(4, b"a", None),
+    Step::Find(1, b"b", Some(2)),
+    Step::Seen(3, FILE, None, 1),
+    Step::Move((1, b"b"), (1, b"c"), true),
+    Step::Find(1, b"b", None),
+    Step::Find(1, b"c", Some(2)),
+    Step::Seen(1, DIR, Some(1), 2),
+    Step::Seen(2, FILE, None, 1),
+    Step::Seen(3, None, None, 0),
+    Step::Seen(4, DIR, Some(1), 0),
+    Step::List(1, &[b"c", b"d"]),
+    Step::Size(5, 3),
+];
 
 #[test]
 fn moves_files(rt: HostRuntime) -> Result<(), Fail> {
-    let steps = [
-        Step::Add(1, b"a", New::File, Some(2)),
-        Step::Add(1, b"b", New::File, Some(3)),
-        Step::Add(1, b"c", New::Same(3), Some(3)),
-        Step::Add(1, b"d", New::Dir, Some(4)),
-        Step::Move((1, b"a"), (4, b"a"), true),
-        Step::List(4, &[b"a"]),
-        // Over one of two names of another file, and then over its last.
-        Step::Move((4, b"a"), (1, b"b"), true),
-        Step::Find(4, b"a", None),
-        Step::Find(1, b"b", Some(2)),
-        Step::Seen(3, FILE, None, 1),
-        Step::Move((1, b"b"), (1, b"c"), true),
-        Step::Find(1, b"b", None),
-        Step::Find(1, b"c", Some(2)),
-        Step::Seen(1, DIR, Some(1), 2),
-        Step::Seen(2, FILE, None, 1),
-        Step::Seen(3, None, None, 0),
-        Step::Seen(4, DIR, Some(1), 0),
-        Step::List(1, &[b"c", b"d"]),
-        Step::Size(5, 3),
-    ];
-    assert_eq!(rt; fails_at(rt.alloc(), &steps)?, None);
+    assert!(rt; fails_at(rt.alloc(), &FILES)?.is_none());
     Ok(())
 }
 
+const MOVED_DIRECTORY: [Step<'static>; 16] = [
+    Step::Add(1, b"a", To::Dir, Some(2)),
+    Step::Add(2, b"b", To::Dir, Some(3)),
+    Step::Add(3, b"f", To::File, Some(4)),
+    Step::Add(1, b"f", To::Dir, Some(5)),
+    // A directory in which an entry stands gives no way, an empty one does.
+    Step::Move((1, b"f"), (1, b"a"), false),
+    Step::Move((2, b"b"), (1, b"f"), true),
+    Step::Find(2, b"b", None),
+    Step::Find(1, b"f", Some(3)),
+    Step::Find(3, b"f", Some(4)),
+    Step::Seen(1, DIR, Some(1), 2),
+    Step::Seen(2, DIR, Some(1), 0),
+    Step::Seen(3, DIR, Some(1), 1),
+    Step::Seen(4, FILE, None, 1),
+    Step::Seen(5, None, None, 0),
+    Step::List(1, &[b"a", b"f"]),
+    Step::Size(6, 4),
+];
+
 #[test]
 fn moves_a_directory(rt: HostRuntime) -> Result<(), Fail> {
-    let steps = [
-        Step::Add(1, b"a", New::Dir, Some(2)),
-        Step::Add(2, b"b", New::Dir, Some(3)),
-        Step::Add(3, b"f", New::File, Some(4)),
-        Step::Add(1, b"f", New::Dir, Some(5)),
-        // A directory in which an entry stands gives no way, an empty one does.
-        Step::Move((1, b"f"), (1, b"a"), false),
-        Step::Move((2, b"b"), (1, b"f"), true),
-        Step::Find(2, b"b", None),
-        Step::Find(1, b"f", Some(3)),
-        Step::Find(3, b"f", Some(4)),
-        Step::Seen(1, DIR, Some(1), 2),
-        Step::Seen(2, DIR, Some(1), 0),
-        Step::Seen(3, DIR, Some(1), 1),
-        Step::Seen(4, FILE, None, 1),
-        Step::Seen(5, None, None, 0),
-        Step::List(1, &[b"a", b"f"]),
-        Step::Size(6, 4),
-    ];
-    assert_eq!(rt; fails_at(rt.alloc(), &steps)?, None);
+    assert!(rt; fails_at(rt.alloc(), &MOVED_DIRECTORY)?.is_none());
     Ok(())
 }
 
@@ -314,20 +363,21 @@ const LONGEST_NEW: &[u8] = &[b'b'; 255];
 
 const LONGEST_TEXT: &[u8] = &[b'/'; 4095];
 
+const LONGEST: [Step<'static>; 10] = [
+    Step::Add(1, LONGEST_OLD, To::Link(LONGEST_TEXT), Some(2)),
+    Step::Add(1, LONGEST_NEW, To::Dir, Some(3)),
+    Step::Add(3, LONGEST_NEW, To::Same(2), Some(2)),
+    Step::Text(2, Some(LONGEST_TEXT)),
+    Step::List(1, &[LONGEST_OLD, LONGEST_NEW]),
+    Step::Move((3, LONGEST_NEW), (3, LONGEST_OLD), true),
+    Step::List(3, &[LONGEST_OLD]),
+    Step::Drop(3, LONGEST_OLD, true),
+    Step::Drop(1, LONGEST_OLD, true),
+    Step::Size(4, 2),
+];
+
 #[test]
 fn takes_the_longest_names_and_texts(rt: HostRuntime) -> Result<(), Fail> {
-    let steps = [
-        Step::Add(1, LONGEST_OLD, New::Link(parse(LONGEST_TEXT)?), Some(2)),
-        Step::Add(1, LONGEST_NEW, New::Dir, Some(3)),
-        Step::Add(3, LONGEST_NEW, New::Same(2), Some(2)),
-        Step::Text(2, Some(LONGEST_TEXT)),
-        Step::List(1, &[LONGEST_OLD, LONGEST_NEW]),
-        Step::Move((3, LONGEST_NEW), (3, LONGEST_OLD), true),
-        Step::List(3, &[LONGEST_OLD]),
-        Step::Drop(3, LONGEST_OLD, true),
-        Step::Drop(1, LONGEST_OLD, true),
-        Step::Size(4, 2),
-    ];
-    assert_eq!(rt; fails_at(rt.alloc(), &steps)?, None);
+    assert!(rt; fails_at(rt.alloc(), &LONGEST)?.is_none());
     Ok(())
 }

@@ -1,8 +1,6 @@
 //! Both stores and the slow machine answer a long list of calls alike.
 use super::answered;
-use crate::calls::{
-    create, exchange, link, list, look, mkdir, readlink, rename, rmdir, stat, symlink, unlink,
-};
+use crate::calls::Ask;
 use dc_names::NoMemory;
 use dc_plain::{Call, PlainTree, Reply};
 use dc_store::{MapStore, SlabStore, Store};
@@ -26,20 +24,20 @@ fn path_of(number: u32) -> &'static [u8] {
 }
 
 /// A call of one of the eleven kinds.
-fn call_of(number: u32) -> Call<'static> {
+fn ask_of(number: u32) -> Ask<'static> {
     let (path, other) = (path_of(number), path_of(drawn(number)));
     match (number >> 12) % 14 {
-        0 | 11 => mkdir(path),
-        1 | 12 => create(path),
-        2 => link(other, path),
-        3 => symlink(other, path),
-        4 => unlink(path),
-        5 => rmdir(path),
-        6 | 13 => rename(other, path),
-        7 => look(path),
-        8 => stat(path),
-        9 => readlink(path),
-        _ => list(path),
+        0 | 11 => Ask::Mkdir(path),
+        1 | 12 => Ask::Create(path),
+        2 => Ask::Link(other, path),
+        3 => Ask::Symlink(other, path),
+        4 => Ask::Unlink(path),
+        5 => Ask::Rmdir(path),
+        6 | 13 => Ask::Rename(other, path),
+        7 => Ask::Look(path),
+        8 => Ask::Stat(path),
+        9 => Ask::Readlink(path),
+        _ => Ask::List(path),
     }
 }
 
@@ -90,7 +88,7 @@ fn stores_answer_alike(rt: HostRuntime) -> Result<(), Fail> {
     let mut number = 7;
     for _ in 0..1000 {
         number = drawn(number);
-        let Some(reply) = three.answer(rt.alloc(), &call_of(number))? else {
+        let Some(reply) = three.answer(rt.alloc(), &ask_of(number).call())? else {
             panic!(rt; "two replies differ");
         };
         counted(&mut seen, &reply);
@@ -108,12 +106,15 @@ fn stores_exchange_alike(rt: HostRuntime) -> Result<(), Fail> {
     let mut number = 7;
     for step in 0..900 {
         number = drawn(number);
-        let call = if step % 3 == 2 {
-            exchange(path_of(number), path_of(drawn(number)))
+        let ask = if step % 3 == 2 {
+            Ask::Exchange(path_of(number), path_of(drawn(number)))
         } else {
-            call_of(number)
+            ask_of(number)
         };
-        assert!(rt; three.answer(rt.alloc(), &call)?.is_some(), "step {step}");
+        assert!(rt;
+            three.answer(rt.alloc(), &ask.call())?.is_some(),
+            "step {step}"
+        );
     }
     Ok(())
 }

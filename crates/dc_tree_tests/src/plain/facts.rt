@@ -1,80 +1,134 @@
 //! Facts of a tree, what touches them, and what follows from them.
 
-use crate::calls::{look, mkdir, stat, symlink, unlink};
-use dc_names::{Kind, Name, parse};
+use crate::calls::{Ask, Want};
+use dc_names::{Kind, Name, NoMemory, parse};
 use dc_plain::{
-    Fact, Label, OwnCall, PlainTree, Reply, answer, answers_from_true_facts_are_replies,
+    Fact, Label, OwnCall, PlainTree, answer, answers_from_true_facts_are_replies,
     untouched_facts_stay,
 };
 use std::alloc::Global;
 use std::test::Fail;
 
-fn named<'a>(
-    directory: u64,
-    name: &'a [u8],
-    target: Option<(u64, Kind)>,
-) -> Result<Fact<'a>, Fail> {
-    let name = Name::new(name).ok_or("no name")?;
-    Ok(Fact::Entry(directory, Label::Name(name), target))
+/// A fact, as a table of constants has it.
+#[derive(Clone, Copy, Debug)]
+enum Told {
+    /// A directory, a name in it, and where that leads.
+    Name(u64, &'static [u8], Option<(u64, Kind)>),
+    /// A directory, and its parent.
+    Up(u64, u64),
+    /// A link, and its text.
+    Text(u64, &'static [u8]),
+}
+
+impl Told {
+    /// The fact itself, or `None` if there is no such name or text.
+    fn fact(self) -> Option<Fact<'static>> {
+        match self {
+            Told::Name(dir, name, target) => {
+                Some(Fact::Entry(dir, Label::Name(Name::new(name)?), target))
+            }
+            Told::Up(dir, parent) => {
+                Some(Fact::Entry(dir, Label::DotDot, Some((parent, Kind::Dir))))
+            }
+            Told::Text(link, text) => Some(Fact::Text(link, parse(text).ok()?)),
+        }
+    }
 }
 
 /// `/a`, and `/l`, a link to it.
-fn small_tree(alloc: Global) -> Result<PlainTree, Fail> {
+fn small_tree(alloc: Global) -> Result<PlainTree, NoMemory> {
     let mut tree = PlainTree::new(alloc, 16)?;
-    tree.apply(alloc, &mkdir(b"/a"))?;
-    tree.apply(alloc, &symlink(b"a", b"/l"))?;
+    tree.apply(alloc, &Ask::Mkdir(b"/a").call())?;
+    tree.apply(alloc, &Ask::Symlink(b"a", b"/l").call())?;
     Ok(tree)
 }
+
+/// Facts, and whether they hold in that tree.
+const HELD: [(Told, bool); 6] = [
+    (Told::Name(1, b"a", Some((2, Kind::Dir))), true),
+    (Told::Name(1, b"x", None), true),
+    (Told::Up(2, 1), true),
+    (Told::Text(3, b"a"), true),
+    (Told::Name(1, b"a", None), false),
+    (Told::Text(2, b"a"), false),
+];
 
 #[test]
 fn holds_what_is_so(rt: HostRuntime) -> Result<(), Fail> {
     let tree = small_tree(rt.alloc())?;
-    let text = parse(b"a").ok().ok_or("no path")?;
-    assert!(rt; tree.holds(&named(1, b"a", Some((2, Kind::Dir)))?));
-    assert!(rt; tree.holds(&named(1, b"x", None)?));
-    assert!(rt; tree.holds(&Fact::Entry(2, Label::DotDot, Some((1, Kind::Dir)))));
-    assert!(rt; tree.holds(&Fact::Text(3, text)));
-    assert!(rt; !tree.holds(&named(1, b"a", None)?));
-    assert!(rt; !tree.holds(&Fact::Text(2, text)));
+    for (told, holds) in HELD.iter() {
+        let fact = told.fact().ok_or("no fact")?;
+        assert!(rt; tree.holds(&fact) == *holds, "{told:?}");
+    }
     untouched_facts_stay();
     Ok(())
 }
 
+/// Facts, and whether the link's removal touches them.
+const TOUCHED: [(Told, bool); 3] = [
+    (Told::Name(1, b"l", None), true),
+    (Told::Text(3, b"a"), true),
+    (Told::Name(1, b"a", None), false),
+];
+
 #[test]
 fn touches_what_alters(rt: HostRuntime) -> Result<(), Fail> {
-    let alloc = rt.alloc();
-    let tree = small_tree(alloc)?;
-    let text = parse(b"a").ok().ok_or("no path")?;
-    let unlink = unlink(b"/l");
-    assert!(rt; tree.touches(alloc, &unlink, &named(1, b"l", None)?)?);
-    assert!(rt; tree.touches(alloc, &unlink, &Fact::Text(3, text))?);
-    assert!(rt; !tree.touches(alloc, &unlink, &named(1, b"a", None)?)?);
+    let tree = small_tree(rt.alloc())?;
+    let unlink = Ask::Unlink(b"/l").call();
+    for (told, touches) in TOUCHED.iter() {
+        let fact = told.fact().ok_or("no fact")?;
+        let found = tree.touches(rt.alloc(), &unlink, &fact)?;
+        assert!(rt; found == *touches, "{told:?}");
+    }
     Ok(())
+}
+
+/// What is told, and the answers that follow, if one does.
+const FACTS: [Told; 4] = [
+    Told::Name(1, b"l", Some((3, Kind::Link))),
+    Told::Text(3, b"a"),
+    Told::Name(1, b"a", Some((2, Kind::Dir))),
+    Told::Name(1, b"a", None),
+];
+
+const ANSWERS: [(Ask<'static>, Option<Want<'static>>); 4] = [
+    (Ask::Look(b"/l"), Some(Want::Found(2, Kind::Dir))),
+    (Ask::Look(b"/l/x"), None),
+    (Ask::Look(b""), Some(Want::Refused(2))),
+    (Ask::Stat(b"/a"), None),
+];
+
+/// Whether a call is answered so by facts.
+fn is_answered(
+    alloc: Global,
+    facts: &[Fact],
+    ask: Ask<'_>,
+    want: Option<Want<'_>>,
+) -> Result<bool, NoMemory> {
+    let reply = answer(alloc, facts, &ask.call())?;
+    Ok(match (reply, want) {
+        (Some(reply), Some(want)) => want.is(&reply),
+        (None, None) => true,
+        _ => false,
+    })
 }
 
 #[test]
 fn answers_by_facts(rt: HostRuntime) -> Result<(), Fail> {
-    let alloc = rt.alloc();
-    let text = parse(b"a").ok().ok_or("no path")?;
-    let facts = [
-        named(1, b"l", Some((3, Kind::Link)))?,
-        Fact::Text(3, text),
-        named(1, b"a", Some((2, Kind::Dir)))?,
-        named(1, b"a", None)?,
-    ];
-    let found = Reply::Found(2, Kind::Dir);
-    assert_eq!(rt; answer(alloc, &facts, &look(b"/l"))?, Some(found));
-    assert_eq!(rt; answer(alloc, &facts, &look(b"/l/x"))?, None);
-    assert_eq!(rt; answer(alloc, &facts, &look(b""))?, Some(Reply::Refused(2)));
-    assert_eq!(rt; answer(alloc, &facts, &stat(b"/a"))?, None);
+    let mut facts = Vec::new(rt.alloc());
+    for told in FACTS.iter() {
+        facts.push(told.fact().ok_or("no fact")?)?;
+    }
+    for (ask, want) in ANSWERS.iter() {
+        assert!(rt; is_answered(rt.alloc(), &facts, *ask, *want)?);
+    }
     answers_from_true_facts_are_replies();
     Ok(())
 }
 
 #[test]
 fn owns_a_call(rt: HostRuntime) -> Result<(), Fail> {
-    let alloc = rt.alloc();
-    let own = OwnCall::of(alloc, &look(b"/a"))?;
-    assert_eq!(rt; OwnCall::of(alloc, &own.as_call())?, own);
+    let own = OwnCall::of(rt.alloc(), &Ask::Look(b"/a").call())?;
+    assert!(rt; own.as_call() == Ask::Look(b"/a").call());
     Ok(())
 }

@@ -1,76 +1,98 @@
 //! Where the last part of a path stands, over fixed answers.
 
 use super::{Asked, PARENTS, ROWS, TEXTS, new_fixed};
-use dc_names::{Last, Name, Refusal, parse};
-use dc_plain::Where;
+use dc_names::{Last, Refusal, parse};
 use dc_resolve::{Placed, place};
 use std::test::Fail;
 
-fn named(name: &[u8]) -> Last<'_> {
-    match Name::new(name) {
-        Some(name) => Last::Normal(name),
-        None => Last::Root,
+/// Where a last part is to be looked up.
+#[derive(Clone, Copy)]
+enum At {
+    /// A directory, a name in it, and whether a slash follows.
+    Name(u64, &'static [u8], bool),
+    /// A directory, and a part that is no name.
+    Last(u64, Last<'static>),
+    Refused(Refusal),
+    Stopped,
+}
+
+impl At {
+    /// Whether a last part is to be looked up there.
+    fn is(self, placed: Placed<'_>) -> bool {
+        match (self, placed) {
+            (At::Name(dir, name, slash), Placed::At(at)) => {
+                let is_name = matches!(at.last, Last::Normal(last) if last.bytes() == name);
+                is_name && at.dir == dir && at.slash == slash
+            }
+            (At::Last(dir, last), Placed::At(at)) => {
+                at.dir == dir && at.last == last && !at.slash
+            }
+            (At::Refused(refusal), Placed::Refused(found)) => refusal == found,
+            (At::Stopped, Placed::Stopped) => true,
+            _ => false,
+        }
     }
 }
 
-fn at(dir: u64, last: Last<'_>, slash: bool) -> Placed<'_> {
-    Placed::At(Where { dir, last, slash })
-}
+/// A starting number, a path, and where its last part is to be looked up.
+const PLACES: [(u64, &[u8], At); 18] = [
+    (1, b"/d/f", At::Name(2, b"f", false)),
+    (1, b"/d/new//", At::Name(2, b"new", true)),
+    (1, b"///", At::Last(1, Last::Root)),
+    (1, b"/d/..", At::Last(2, Last::DotDot)),
+    (2, b"a///b/.//", At::Refused(Refusal::NotFound)),
+    (1, b"d//e///", At::Name(2, b"e", true)),
+    (2, b"f", At::Name(2, b"f", false)),
+    (4, b".", At::Last(4, Last::Dot)),
+    (4, b"../g", At::Name(2, b"g", false)),
+    (1, b"/l", At::Name(1, b"l", false)),
+    (1, b"/r/g", At::Name(4, b"g", false)),
+    (1, b"/c8/g", At::Name(2, b"g", false)),
+    (
+        1,
+        b"/c8/../c8/../c8/../c8/../c8/g",
+        At::Name(2, b"g", false),
+    ),
+    (
+        1,
+        b"/c8/../c8/../c8/../c8/../c9/g",
+        At::Refused(Refusal::TooManyLinks),
+    ),
+    (1, b"/d/q/g", At::Refused(Refusal::NotDirectory)),
+    (1, b"/none/g", At::Refused(Refusal::NotFound)),
+    (3, b"g", At::Refused(Refusal::NotFound)),
+    (1, b"/bad/g", At::Stopped),
+];
 
 #[test]
 fn places(rt: HostRuntime) -> Result<(), Fail> {
-    let cases: [(u64, &[u8], Placed<'_>); 18] = [
-        (1, b"/d/f", at(2, named(b"f"), false)),
-        (1, b"/d/new//", at(2, named(b"new"), true)),
-        (1, b"///", at(1, Last::Root, false)),
-        (1, b"/d/..", at(2, Last::DotDot, false)),
-        (2, b"a///b/.//", Placed::Refused(Refusal::NotFound)),
-        (1, b"d//e///", at(2, named(b"e"), true)),
-        (2, b"f", at(2, named(b"f"), false)),
-        (4, b".", at(4, Last::Dot, false)),
-        (4, b"../g", at(2, named(b"g"), false)),
-        (1, b"/l", at(1, named(b"l"), false)),
-        (1, b"/r/g", at(4, named(b"g"), false)),
-        (1, b"/c8/g", at(2, named(b"g"), false)),
-        (
-            1,
-            b"/c8/../c8/../c8/../c8/../c8/g",
-            at(2, named(b"g"), false),
-        ),
-        (
-            1,
-            b"/c8/../c8/../c8/../c8/../c9/g",
-            Placed::Refused(Refusal::TooManyLinks),
-        ),
-        (1, b"/d/q/g", Placed::Refused(Refusal::NotDirectory)),
-        (1, b"/none/g", Placed::Refused(Refusal::NotFound)),
-        (3, b"g", Placed::Refused(Refusal::NotFound)),
-        (1, b"/bad/g", Placed::Stopped),
-    ];
-    for (base, path, want) in cases {
+    for (base, path, want) in PLACES.iter() {
         let mut finder = new_fixed(&ROWS, &PARENTS, &TEXTS);
-        assert_eq!(rt; place(&mut finder, base, parse(path)?), want);
+        let placed = place(&mut finder, *base, parse(path)?);
+        assert!(rt; want.is(placed), "{path:?}: {placed:?}");
     }
     Ok(())
 }
 
+/// A path, and what is asked for it.
+const ASKED: [(u64, &[u8], &[Asked]); 9] = [
+    (1, b"/d/f", &[(1, b'd')]),
+    (99, b"/d/q//", &[(1, b'd')]),
+    (1, b"/l", &[]),
+    (2, b"///", &[]),
+    (2, b"/../x", &[]),
+    (4, b".", &[(4, b'.')]),
+    (4, b"../g", &[(4, b'.'), (4, b'.')]),
+    (1, b"/r/g", &[(1, b'r'), (10, b'@'), (1, b'd'), (2, b'e')]),
+    (1, b"/d/f/g/h", &[(1, b'd'), (2, b'f')]),
+];
+
 #[test]
 fn places_ask_in_order(rt: HostRuntime) -> Result<(), Fail> {
-    let cases: [(u64, &[u8], &[Asked]); 9] = [
-        (1, b"/d/f", &[(1, b'd')]),
-        (99, b"/d/q//", &[(1, b'd')]),
-        (1, b"/l", &[]),
-        (2, b"///", &[]),
-        (2, b"/../x", &[]),
-        (4, b".", &[(4, b'.')]),
-        (4, b"../g", &[(4, b'.'), (4, b'.')]),
-        (1, b"/r/g", &[(1, b'r'), (10, b'@'), (1, b'd'), (2, b'e')]),
-        (1, b"/d/f/g/h", &[(1, b'd'), (2, b'f')]),
-    ];
-    for (base, path, want) in cases {
+    for (base, path, want) in ASKED.iter() {
         let mut finder = new_fixed(&ROWS, &PARENTS, &TEXTS);
-        let _ = place(&mut finder, base, parse(path)?);
-        assert!(rt; finder.asked.as_slice() == want);
+        let _ = place(&mut finder, *base, parse(path)?);
+        assert!(rt; finder.asked.as_slice() == *want, "{path:?}");
     }
     Ok(())
 }
