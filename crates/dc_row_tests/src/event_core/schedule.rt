@@ -1,11 +1,10 @@
 //! Three actors by a fixed generator, which also evict: each finished reply is that of the slow machine
 //! at its point.
-use super::named;
-use crate::calls::{create, look, mkdir, rename};
+use crate::calls::{create, look, mkdir};
 use dc_core::{Act, Core, Event, Finished, Refused};
 use dc_names::{Kind, NoMemory};
-use dc_plain::{Call, Follow, OwnCall, PlainTree, Reply};
-use dc_row::{EMPTY_ROW, ROW_WORDS, Row, RowText, encode};
+use dc_plain::{Call, Flags, Follow, OwnCall, PlainTree, Reply};
+use dc_row::{EMPTY_ROW, ROW_WORDS, Row, RowLabel, RowText, encode};
 use std::alloc::Global;
 use std::test::Fail;
 
@@ -21,6 +20,13 @@ const SPOTS: [(&[u8], &[u8]); 6] = [
     (b"/b", b"a"),
     (b"/b", b"b"),
 ];
+
+/// The words of a row for a name in a directory.
+fn named(dir: u64, name: &[u8], target: Option<(u64, Kind)>) -> Result<[u64; ROW_WORDS], Fail> {
+    let text = RowText::of(name).ok_or("a long name")?;
+    let words = encode(&Row::Entry(dir, RowLabel::Name(text), target)).ok_or("no such row")?;
+    Ok(words)
+}
 
 /// The next number of a fixed row in which none seems to follow from the one before.
 fn drawn(number: u32) -> u32 {
@@ -46,7 +52,12 @@ fn change_of(number: u32) -> Call<'static> {
             text: b"b",
             path,
         },
-        _ => rename(other, path),
+        _ => Call::Rename {
+            base: 1,
+            old: other,
+            new: path,
+            flags: Flags::default(),
+        },
     }
 }
 
