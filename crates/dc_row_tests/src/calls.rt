@@ -2,7 +2,7 @@
 
 ghost use Rattle.dc_ops.specs.Asked.{IsChange};
 
-use dc_plain::{Call, Flags, Follow};
+use dc_plain::{Call, Follow};
 
 pub(crate) fn look(path: &[u8]) -> Call<'_> {
     Call::Look {
@@ -22,15 +22,4 @@ pub(crate) fn create(path: &[u8]) -> Call<'_>
     ensures { IsChange result }
 {
     Call::Create { base: 1, path }
-}
-
-pub(crate) fn rename<'a>(old: &'a [u8], new: &'a [u8]) -> Call<'a>
-    ensures { IsChange result }
-{
-    Call::Rename {
-        base: 1,
-        old,
-        new,
-        flags: Flags::default(),
-    }
 }

@@ -1,32 +1,61 @@
 //! Lists of events, done or refused.
 
-use crate::calls::{create, look, mkdir, rename};
 use dc_core::{Act, Core, Event, MakeFault, Refused};
-use dc_names::Kind;
-use dc_plain::{Call, Reply};
-use dc_row::{EMPTY_ROW, ROW_WORDS, Row, RowLabel, RowText, encode};
+use dc_plain::{Call, Flags, Follow, Reply};
+use dc_row::ROW_WORDS;
 use std::alloc::Global;
 use std::test::Fail;
 
 mod refusals;
-mod schedule;
 
-/// The words of a row for a name in a directory.
-fn named(dir: u64, name: &[u8], target: Option<(u64, Kind)>) -> Result<[u64; ROW_WORDS], Fail> {
-    let text = RowText::of(name).ok_or("a long name")?;
-    let words = encode(&Row::Entry(dir, RowLabel::Name(text), target)).ok_or("no such row")?;
-    Ok(words)
+/// The first words of a row after its count. The others are zero.
+type Words = [u64; 4];
+
+const NOTHING: Words = [0; 4];
+
+const A_IS_2: Words = [16_777_473, 1, 2, 97];
+
+const A_IS_ABSENT: Words = [257, 1, 0, 97];
+
+const D_IS_3: Words = [16_777_473, 2, 3, 100];
+
+const D_IS_ABSENT: Words = [257, 2, 0, 100];
+
+const F_IS_4: Words = [33_554_689, 3, 4, 102];
+
+/// What is done with a core, and how it goes, or what is seen of it. An actor comes first.
+#[derive(Clone, Copy)]
+enum Step {
+    /// It does an act.
+    Do(u64, Act<'static>),
+    /// It is refused an act, and why.
+    Not(u64, Act<'static>, Refused),
+    /// It makes a change that no row speaks of.
+    Change(u64, Call<'static>),
+    /// It makes a change of which one row speaks, and gives that row other words.
+    ChangeRow(u64, Call<'static>, u64, Words),
+    /// Without the lock it gives a row other words.
+    Fill(u64, u64, Words),
+    /// It notes a row and reads all its words.
+    Note(u64, u64),
+    /// The last record is its own, a refusal with a number, or a new inode with one, at a point.
+    Refusal(u64, u64, u64),
+    Made(u64, u64, u64),
+    /// A row's count.
+    Count(u64, u64),
+    /// How many records there are, and the clock.
+    Ended(usize, u64),
 }
 
 /// An actor does one act.
-fn step(core: &mut Core, alloc: Global, actor: u64, act: Act) -> Result<(), Refused> {
+fn does(core: &mut Core, alloc: Global, actor: u64, act: Act) -> Result<(), Refused> {
     core.step(alloc, Event { actor, act })
 }
 
 /// An actor does these acts, up to the first that is refused.
 fn act(core: &mut Core, alloc: Global, actor: u64, acts: &[Act]) -> Result<(), Refused> {
     for act in acts {
-        step(core, alloc, actor, *act)?;
+        does(core, alloc, actor, *act)?;
     }
     Ok(())
 }
@@ -37,12 +66,13 @@ fn write(
     alloc: Global,
     actor: u64,
     row: u64,
-    words: &[u64; ROW_WORDS],
+    words: &Words,
 ) -> Result<(), Refused> {
-    for i in 1..ROW_WORDS {
-        step(core, alloc, actor, Act::Write(row, i as u64, words[i]))?;
+    for i in 1..ROW_WORDS as u64 {
+        let word = words.get(i as usize - 1).copied().unwrap_or(0);
+        does(core, alloc, actor, Act::Write(row, i, word))?;
     }
-    step(core, alloc, actor, Act::Open(row))
+    does(core, alloc, actor, Act::Open(row))
 }
 
 /// An actor without the lock gives a row other words.
@@ -51,12 +81,11 @@ fn fill(
     alloc: Global,
     actor: u64,
     row: u64,
-    words: &[u64; ROW_WORDS],
+    words: &Words,
 ) -> Result<(), Refused> {
-    step(core, alloc, actor, Act::Take)?;
-    step(core, alloc, actor, Act::Shut(row))?;
+    act(core, alloc, actor, &[Act::Take, Act::Shut(row)])?;
     write(core, alloc, actor, row, words)?;
-    step(core, alloc, actor, Act::Give(false))
+    does(core, alloc, actor, Act::Give(false))
 }
 
 /// An actor makes a change that no row speaks of.
@@ -72,21 +101,18 @@ fn change_row(
     actor: u64,
     call: Call,
     row: u64,
-    words: &[u64; ROW_WORDS],
+    words: &Words,
 ) -> Result<(), Refused> {
     let acts = [Act::Begin(call), Act::Take, Act::Shut(row), Act::Commit];
     act(core, alloc, actor, &acts)?;
     write(core, alloc, actor, row, words)?;
-    step(core, alloc, actor, Act::Give(false))
+    does(core, alloc, actor, Act::Give(false))
 }
 
 /// An actor notes a row and reads all its words.
 fn note(core: &mut Core, alloc: Global, actor: u64, row: u64) -> Result<(), Refused> {
-    step(core, alloc, actor, Act::Note(row))?;
-    for _ in 1..ROW_WORDS {
-        step(core, alloc, actor, Act::Read)?;
-    }
-    Ok(())
+    does(core, alloc, actor, Act::Note(row))?;
+    act(core, alloc, actor, &[Act::Read; ROW_WORDS - 1])
 }
 
 /// The last record, if its actor, its reply and its point are these.
@@ -97,169 +123,272 @@ fn is_last(core: &Core, actor: u64, reply: &Reply, at: u64) -> bool {
     }
 }
 
+/// Whether a step goes as it should.
+fn goes(core: &mut Core, alloc: Global, it: &Step) -> bool {
+    match it {
+        Step::Do(actor, act) => does(core, alloc, *actor, *act).is_ok(),
+        Step::Not(actor, act, why) => does(core, alloc, *actor, *act) == Err(*why),
+        Step::Change(actor, call) => change(core, alloc, *actor, *call).is_ok(),
+        Step::ChangeRow(actor, call, row, words) => {
+            change_row(core, alloc, *actor, *call, *row, words).is_ok()
+        }
+        Step::Fill(actor, row, words) => fill(core, alloc, *actor, *row, words).is_ok(),
+        Step::Note(actor, row) => note(core, alloc, *actor, *row).is_ok(),
+        Step::Refusal(actor, number, at) => is_last(core, *actor, &Reply::Refused(*number), *at),
+        Step::Made(actor, number, at) => is_last(core, *actor, &Reply::Done(*number), *at),
+        Step::Count(row, count) => core.count(*row) == *count,
+        Step::Ended(records, clock) => core.finished().len() == *records && core.clock() == *clock,
+    }
+}
+
+/// The first step, counted from 0, that goes otherwise, or as many as there are.
+fn first_other(core: &mut Core, alloc: Global, steps: &[Step]) -> usize {
+    for (i, it) in steps.iter().enumerate() {
+        if !goes(core, alloc, it) {
+            return i;
+        }
+    }
+    steps.len()
+}
+
+/// The first of a core's steps that goes otherwise, where it has so many actors. The steps come in two lists.
+fn first_of_two(
+    alloc: Global,
+    actors: u64,
+    first: &[Step],
+    then: &[Step],
+) -> Result<(usize, usize), MakeFault> {
+    let mut core = Core::new(alloc, 1, actors, 16)?;
+    let found = first_other(&mut core, alloc, first);
+    Ok((found, first_other(&mut core, alloc, then)))
+}
+
+const MAKE_A: Call<'static> = Call::Mkdir {
+    base: 1,
+    path: b"/a",
+};
+
+const LOOK_A: Call<'static> = Call::Look {
+    base: 1,
+    path: b"/a",
+    follow: Follow::Yes,
+};
+
+/// A rename without flags, which no constant can ask a function for.
+const NO_FLAGS: Flags = Flags {
+    no_replace: false,
+    exchange: false,
+};
+
 /// Actor 1 makes `/a` and `/a/d`, and rows 0 and 1 say so. Actor 0 begins to look for `/a/d/f` and
 /// reads both.
-fn half_walked(alloc: Global) -> Result<Core, Fail> {
-    let mut core = Core::new(alloc, 1, 2, 16)?;
-    change(&mut core, alloc, 1, mkdir(b"/a"))?;
-    change(&mut core, alloc, 1, mkdir(b"/a/d"))?;
-    fill(
-        &mut core,
-        alloc,
+const HALF_WALKED: [Step; 7] = [
+    Step::Change(1, MAKE_A),
+    Step::Change(
         1,
+        Call::Mkdir {
+            base: 1,
+            path: b"/a/d",
+        },
+    ),
+    Step::Fill(1, 0, A_IS_2),
+    Step::Fill(1, 1, D_IS_3),
+    Step::Do(
         0,
-        &named(1, b"a", Some((2, Kind::Dir)))?,
-    )?;
-    fill(
-        &mut core,
-        alloc,
+        Act::Begin(Call::Look {
+            base: 1,
+            path: b"/a/d/f",
+            follow: Follow::Yes,
+        }),
+    ),
+    Step::Note(0, 0),
+    Step::Note(0, 1),
+];
+
+const NEVER_WAS: [Step; 16] = [
+    Step::Count(0, 2),
+    Step::Count(1, 2),
+    Step::ChangeRow(
         1,
+        Call::Rename {
+            base: 1,
+            old: b"/a/d",
+            new: b"/b",
+            flags: NO_FLAGS,
+        },
         1,
-        &named(2, b"d", Some((3, Kind::Dir)))?,
-    )?;
-    step(&mut core, alloc, 0, Act::Begin(look(b"/a/d/f")))?;
-    note(&mut core, alloc, 0, 0)?;
-    note(&mut core, alloc, 0, 1)?;
-    Ok(core)
-}
+        D_IS_ABSENT,
+    ),
+    Step::Change(
+        1,
+        Call::Create {
+            base: 1,
+            path: b"/b/f",
+        },
+    ),
+    Step::Fill(1, 2, F_IS_4),
+    Step::Note(0, 2),
+    Step::Do(0, Act::Pivot),
+    Step::Do(0, Act::Check(0)),
+    Step::Not(0, Act::Check(1), Refused::Changed(1, 2, 4)),
+    Step::Do(0, Act::Again),
+    Step::Note(0, 0),
+    Step::Note(0, 1),
+    Step::Do(0, Act::Pivot),
+    Step::Do(0, Act::Check(0)),
+    Step::Do(0, Act::Check(1)),
+    Step::Refusal(0, 2, 4),
+];
 
 #[test]
 fn a_path_that_never_was_is_not_answered(rt: HostRuntime) -> Result<(), Fail> {
-    let alloc = rt.alloc();
-    let mut core = half_walked(alloc)?;
-    assert_eq!(rt; (core.count(0), core.count(1)), (2, 2));
-    let gone = named(2, b"d", None)?;
-    change_row(&mut core, alloc, 1, rename(b"/a/d", b"/b"), 1, &gone)?;
-    change(&mut core, alloc, 1, create(b"/b/f"))?;
-    fill(
-        &mut core,
-        alloc,
-        1,
-        2,
-        &named(3, b"f", Some((4, Kind::File)))?,
-    )?;
-    note(&mut core, alloc, 0, 2)?;
-    act(&mut core, alloc, 0, &[Act::Pivot, Act::Check(0)])?;
-    let refused = step(&mut core, alloc, 0, Act::Check(1));
-    assert_eq!(rt; refused, Err(Refused::Changed(1, 2, 4)));
-    step(&mut core, alloc, 0, Act::Again)?;
-    note(&mut core, alloc, 0, 0)?;
-    note(&mut core, alloc, 0, 1)?;
-    act(
-        &mut core,
-        alloc,
-        0,
-        &[Act::Pivot, Act::Check(0), Act::Check(1)],
-    )?;
-    assert!(rt; is_last(&core, 0, &Reply::Refused(2), 4));
+    let found = first_of_two(rt.alloc(), 2, &HALF_WALKED, &NEVER_WAS)?;
+    assert_eq!(rt; found, (HALF_WALKED.len(), NEVER_WAS.len()));
     Ok(())
 }
 
 /// A body that checks each parent as it goes would pass the row before this one, and fail here.
+const GRANDPARENT: [Step; 9] = [
+    Step::ChangeRow(
+        1,
+        Call::Rename {
+            base: 1,
+            old: b"/a",
+            new: b"/b",
+            flags: NO_FLAGS,
+        },
+        0,
+        A_IS_ABSENT,
+    ),
+    Step::Change(
+        1,
+        Call::Create {
+            base: 1,
+            path: b"/b/d/f",
+        },
+    ),
+    Step::Fill(1, 2, F_IS_4),
+    Step::Note(0, 2),
+    Step::Do(0, Act::Pivot),
+    Step::Not(0, Act::Check(0), Refused::Changed(0, 2, 4)),
+    Step::Do(0, Act::Check(1)),
+    Step::Do(0, Act::Check(2)),
+    Step::Ended(4, 4),
+];
+
 #[test]
 fn a_grandparent_is_checked_after_the_pivot(rt: HostRuntime) -> Result<(), Fail> {
-    let alloc = rt.alloc();
-    let mut core = half_walked(alloc)?;
-    let gone = named(1, b"a", None)?;
-    change_row(&mut core, alloc, 1, rename(b"/a", b"/b"), 0, &gone)?;
-    change(&mut core, alloc, 1, create(b"/b/d/f"))?;
-    fill(
-        &mut core,
-        alloc,
-        1,
-        2,
-        &named(3, b"f", Some((4, Kind::File)))?,
-    )?;
-    note(&mut core, alloc, 0, 2)?;
-    step(&mut core, alloc, 0, Act::Pivot)?;
-    assert_eq!(rt; core.clock(), 4);
-    let refused = step(&mut core, alloc, 0, Act::Check(0));
-    assert_eq!(rt; refused, Err(Refused::Changed(0, 2, 4)));
-    act(&mut core, alloc, 0, &[Act::Check(1), Act::Check(2)])?;
-    assert_eq!(rt; core.finished().len(), 4);
+    let found = first_of_two(rt.alloc(), 2, &HALF_WALKED, &GRANDPARENT)?;
+    assert_eq!(rt; found, (HALF_WALKED.len(), GRANDPARENT.len()));
     Ok(())
 }
 
+const READ_ONCE: [Step; 6] = [
+    Step::Change(1, MAKE_A),
+    Step::Fill(1, 0, A_IS_2),
+    Step::Count(0, 2),
+    Step::Do(0, Act::Begin(LOOK_A)),
+    Step::Note(0, 0),
+    Step::Do(0, Act::Pivot),
+];
+
+const REFILLED: [Step; 5] = [
+    Step::Fill(1, 0, NOTHING),
+    Step::Count(0, 4),
+    Step::Fill(1, 0, A_IS_2),
+    Step::Not(0, Act::Check(0), Refused::Changed(0, 2, 6)),
+    Step::Ended(1, 1),
+];
+
 #[test]
 fn a_row_that_was_refilled_is_another(rt: HostRuntime) -> Result<(), Fail> {
-    let alloc = rt.alloc();
-    let mut core = Core::new(alloc, 1, 2, 16)?;
-    change(&mut core, alloc, 1, mkdir(b"/a"))?;
-    let words = named(1, b"a", Some((2, Kind::Dir)))?;
-    fill(&mut core, alloc, 1, 0, &words)?;
-    assert_eq!(rt; core.count(0), 2);
-    step(&mut core, alloc, 0, Act::Begin(look(b"/a")))?;
-    note(&mut core, alloc, 0, 0)?;
-    step(&mut core, alloc, 0, Act::Pivot)?;
-    fill(&mut core, alloc, 1, 0, &EMPTY_ROW)?;
-    assert_eq!(rt; core.count(0), 4);
-    fill(&mut core, alloc, 1, 0, &words)?;
-    let refused = step(&mut core, alloc, 0, Act::Check(0));
-    assert_eq!(rt; refused, Err(Refused::Changed(0, 2, 6)));
-    assert_eq!(rt; (core.finished().len(), core.clock()), (1, 1));
+    let found = first_of_two(rt.alloc(), 2, &READ_ONCE, &REFILLED)?;
+    assert_eq!(rt; found, (READ_ONCE.len(), REFILLED.len()));
     Ok(())
 }
 
 /// The first events of a core of one actor, and the change that they make.
-const FIRST: [Act<'static>; 7] = [
-    Act::Begin(Call::Mkdir {
-        base: 1,
-        path: b"/x",
-    }),
-    Act::Take,
-    Act::Shut(0),
-    Act::Write(0, 1, 257),
-    Act::Write(0, 2, 1),
-    Act::Write(0, 4, 120),
-    Act::Open(0),
+const FIRST: [Event<'static>; 7] = [
+    Event {
+        actor: 0,
+        act: Act::Begin(Call::Mkdir {
+            base: 1,
+            path: b"/x",
+        }),
+    },
+    Event {
+        actor: 0,
+        act: Act::Take,
+    },
+    Event {
+        actor: 0,
+        act: Act::Shut(0),
+    },
+    Event {
+        actor: 0,
+        act: Act::Write(0, 1, 257),
+    },
+    Event {
+        actor: 0,
+        act: Act::Write(0, 2, 1),
+    },
+    Event {
+        actor: 0,
+        act: Act::Write(0, 4, 120),
+    },
+    Event {
+        actor: 0,
+        act: Act::Open(0),
+    },
+];
+
+const TOUCHED: [Step; 12] = [
+    Step::Not(0, Act::Commit, Refused::Touched(0)),
+    Step::Do(0, Act::Shut(0)),
+    Step::Do(0, Act::Commit),
+    Step::Made(0, 2, 0),
+    Step::Not(0, Act::Open(0), Refused::Untrue),
+    Step::Do(0, Act::Write(0, 1, 16_777_473)),
+    Step::Do(0, Act::Write(0, 3, 2)),
+    Step::Do(0, Act::Open(0)),
+    Step::Not(0, Act::Give(true), Refused::NoCall),
+    Step::Do(0, Act::Give(false)),
+    Step::Count(0, 4),
+    Step::Ended(1, 1),
 ];
 
 #[test]
 fn a_change_shuts_what_it_touches(rt: HostRuntime) -> Result<(), Fail> {
-    let alloc = rt.alloc();
-    let mut core = Core::new(alloc, 1, 1, 16)?;
-    act(&mut core, alloc, 0, &FIRST)?;
-    let refused = step(&mut core, alloc, 0, Act::Commit);
-    assert_eq!(rt; refused, Err(Refused::Touched(0)));
-    act(&mut core, alloc, 0, &[Act::Shut(0), Act::Commit])?;
-    assert!(rt; is_last(&core, 0, &Reply::Done(2), 0));
-    let refused = step(&mut core, alloc, 0, Act::Open(0));
-    assert_eq!(rt; refused, Err(Refused::Untrue));
-    let now_true = [
-        Act::Write(0, 1, 16777473),
-        Act::Write(0, 3, 2),
-        Act::Open(0),
-    ];
-    act(&mut core, alloc, 0, &now_true)?;
-    let refused = step(&mut core, alloc, 0, Act::Give(true));
-    assert_eq!(rt; refused, Err(Refused::NoCall));
-    step(&mut core, alloc, 0, Act::Give(false))?;
-    assert_eq!(rt; (core.count(0), core.clock()), (4, 1));
+    let mut core = Core::new(rt.alloc(), 1, 1, 16)?;
+    assert!(rt; core.run(rt.alloc(), &FIRST).is_ok());
+    assert_eq!(rt; first_other(&mut core, rt.alloc(), &TOUCHED), TOUCHED.len());
     Ok(())
 }
 
 #[test]
 fn a_list_stops_at_the_first_refusal(rt: HostRuntime) -> Result<(), Fail> {
-    let alloc = rt.alloc();
-    let mut core = Core::new(alloc, 1, 1, 16)?;
-    let events = FIRST.map(|act| Event { actor: 0, act });
-    assert_eq!(rt; core.run(alloc, &events), Ok(()));
-    assert_eq!(rt; core.run(alloc, &events), Err((0, Refused::Holder)));
-    assert_eq!(rt; core.run(alloc, &events[2..]), Ok(()));
-    assert_eq!(rt; core.run(alloc, &events[3..]), Err((0, Refused::Even)));
-    assert_eq!(rt;
-        (
-            core.rows(),
-            core.count(0),
-            core.count(4),
-            core.count(u64::MAX)
-        ),
-        (4, 4, 0, 0)
-    );
+    let mut core = Core::new(rt.alloc(), 1, 1, 16)?;
+    assert!(rt; core.run(rt.alloc(), &FIRST).is_ok());
+    assert!(rt; core.run(rt.alloc(), &FIRST) == Err((0, Refused::Holder)));
+    assert!(rt; core.run(rt.alloc(), &FIRST[2..]).is_ok());
+    assert!(rt; core.run(rt.alloc(), &FIRST[3..]) == Err((0, Refused::Even)));
+    assert!(rt; core.rows() == 4 && core.count(0) == 4);
+    assert!(rt; core.count(4) == 0 && core.count(u64::MAX) == 0);
     Ok(())
 }
 
-/// Whether such a core can be made.
+/// Buckets, actors and inodes, and how many rows such a core has, if it can be made.
+const SIZES: [(u64, u64, u64, Result<u64, MakeFault>); 7] = [
+    (1, 0, 1, Ok(4)),
+    (1024, 3, 1048576, Ok(4096)),
+    (0, 1, 16, Err(MakeFault::BadSize)),
+    (3, 1, 16, Err(MakeFault::BadSize)),
+    (2048, 1, 16, Err(MakeFault::BadSize)),
+    (1, 1, 0, Err(MakeFault::BadSize)),
+    (1, 1, 1048577, Err(MakeFault::BadSize)),
+];
+
+/// How many rows such a core has.
 fn made(alloc: Global, buckets: u64, actors: u64, max_inodes: u64) -> Result<u64, MakeFault> {
     let core = Core::new(alloc, buckets, actors, max_inodes)?;
     Ok(core.rows())
@@ -267,16 +396,8 @@ fn made(alloc: Global, buckets: u64, actors: u64, max_inodes: u64) -> Result<u64
 
 #[test]
 fn sizes_have_bounds(rt: HostRuntime) {
-    let cases = [
-        (1, 0, 1, Ok(4)),
-        (1024, 3, 1048576, Ok(4096)),
-        (0, 1, 16, Err(MakeFault::BadSize)),
-        (3, 1, 16, Err(MakeFault::BadSize)),
-        (2048, 1, 16, Err(MakeFault::BadSize)),
-        (1, 1, 0, Err(MakeFault::BadSize)),
-        (1, 1, 1048577, Err(MakeFault::BadSize)),
-    ];
-    for (buckets, actors, max_inodes, want) in cases {
-        assert_eq!(rt; made(rt.alloc(), buckets, actors, max_inodes), want);
+    for (buckets, actors, max_inodes, want) in SIZES.iter() {
+        let found = made(rt.alloc(), *buckets, *actors, *max_inodes);
+        assert!(rt; found == *want, "{buckets} {actors} {max_inodes}");
     }
 }

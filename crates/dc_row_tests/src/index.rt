@@ -71,30 +71,41 @@ fn rows_of(alloc: Global, buckets: u64, key: &Key<'_>) -> Result<[Option<u64>; 4
 fn keys_stand_in_their_bucket(rt: HostRuntime) -> Result<(), Fail> {
     let name = Name::new(b"a").ok_or("no name")?;
     let labels = [
-        (1, Label::Name(name), 3836),
+        (1, Label::Name(name), 3836u64),
         (2, Label::DotDot, 3068),
         (2, Label::Text, 2076),
     ];
-    for (number, label, row) in labels {
+    for (number, label, row) in labels.iter().copied() {
         let rows = rows_of(rt.alloc(), 1024, &Key { number, label })?;
-        assert_eq!(rt; rows, [Some(row), Some(row + 1), Some(row + 1), None]);
+        let next = Some(row.saturating_add(1));
+        assert!(rt; rows == [Some(row), next, next, None], "{number}");
     }
     Ok(())
+}
+
+/// Whether the longest name has the rows of its bucket among so many, by its hash too.
+fn has_rows(alloc: Global, buckets: u64, name: Name<'_>) -> Result<bool, NoMemory>
+    requires { (0 < buckets) × (buckets ≤ MOST_TABLE_BUCKETS) }
+{
+    let key = Key {
+        number: u64::MAX,
+        label: Label::Name(name),
+    };
+    let bucket = bucket_of(&key, buckets);
+    let first = bucket.saturating_mul(4);
+    let next = first.saturating_add(1);
+    let rows = rows_of(alloc, buckets, &key)?;
+    Ok(
+        bucket_at(hash(key.number, name.bytes()), buckets) == bucket
+            && rows == [Some(first), Some(next), Some(next), None],
+    )
 }
 
 #[test]
 fn the_longest_name_has_a_row(rt: HostRuntime) -> Result<(), Fail> {
     let name = Name::new(&[b'a'; 255]).ok_or("no name")?;
-    let key = Key {
-        number: u64::MAX,
-        label: Label::Name(name),
-    };
-    for buckets in [1, 2, 1023, 1024] {
-        let row = 4 * bucket_of(&key, buckets);
-        assert_eq!(rt; 4 * bucket_at(hash(key.number, name.bytes()), buckets), row);
-        let rows = rows_of(rt.alloc(), buckets, &key)?;
-        assert_eq!(rt; rows, [Some(row), Some(row + 1), Some(row + 1), None]);
-    }
+    assert!(rt; has_rows(rt.alloc(), 1, name)? && has_rows(rt.alloc(), 2, name)?);
+    assert!(rt; has_rows(rt.alloc(), 1023, name)? && has_rows(rt.alloc(), 1024, name)?);
     Ok(())
 }
 
@@ -193,14 +204,19 @@ fn chosen_in(alloc: Global, bucket: u64) -> Result<[Option<u64>; 10], Fail> {
     Ok(chosen)
 }
 
+const BUCKETS: [u64; 3] = [959, 767, 519];
+
 #[test]
 fn chooses_the_least_recently_used_unpinned_row(rt: HostRuntime) -> Result<(), Fail> {
-    for bucket in [959, 767, 519] {
-        let chosen = chosen_in(rt.alloc(), bucket)?;
+    for bucket in BUCKETS.iter() {
+        let chosen = chosen_in(rt.alloc(), *bucket)?;
         for at in 0..9 {
-            assert_eq!(rt; chosen[at], Some(4 * bucket + at as u64 % 4));
+            assert!(rt;
+                chosen[at] == Some(bucket.saturating_mul(4).saturating_add(at as u64 % 4)),
+                "{at}"
+            );
         }
-        assert_eq!(rt; chosen[9], None);
+        assert!(rt; chosen[9].is_none());
     }
     Ok(())
 }

@@ -1,6 +1,6 @@
 //! Rows and the words that spell them.
 
-ghost use Rattle.std.specs.Prelude.{◌≤◌};
+ghost use Rattle.std.specs.Prelude.{◌≤◌, ◌<◌};
 ghost use Rattle.dc_row.specs.declared.TheConstants.{ROW_WORDS};
 
 use dc_names::{Kind, NAME_MAX, Name};
@@ -75,15 +75,21 @@ fn words_of(at: usize) -> Option<[u64; ROW_WORDS]> {
     encode(&example(at)?)
 }
 
+/// Whether an example is spelled by its words alone.
+fn is_spelled(at: usize) -> bool
+    requires { at < 5 }
+{
+    let words = wide(EXAMPLES[at]);
+    words_spell_one_row(&words);
+    words_of(at) == Some(words) && decode(&words) == example(at)
+}
+
 #[test]
 fn spells_the_examples(rt: HostRuntime) {
     for at in 0..5 {
-        let words = wide(EXAMPLES[at]);
-        assert_eq!(rt; words_of(at), Some(words));
-        assert_eq!(rt; decode(&words), example(at));
-        words_spell_one_row(&words);
+        assert!(rt; is_spelled(at), "{at}");
     }
-    assert_eq!(rt; decode(&EMPTY_ROW), Some(Row::Empty));
+    assert!(rt; decode(&EMPTY_ROW) == Some(Row::Empty));
     rows_have_one_spelling();
     words_have_the_fact_they_spell();
     counts_tell_nothing();
@@ -103,39 +109,51 @@ fn sought(words: &[u64], dir: u64, name: &[u8]) -> Option<Option<(u64, Kind)>> {
     }
 }
 
+/// An example, the number and the name of a key, and what its words say of that, if they are of it.
+const SOUGHT: [(usize, u64, &[u8], Option<Option<(u64, Kind)>>); 11] = [
+    (0, 1, b"usr", Some(Some((2, Kind::Dir)))),
+    (0, 2, b"usr", None),
+    (0, 1, b"us", None),
+    (0, 1, b"usx", None),
+    (0, 1, b"..", None),
+    (1, 1, b"x", Some(None)),
+    (1, 1, &[b'x'; NAME_MAX], None),
+    (2, 2, b"..", Some(Some((1, Kind::Dir)))),
+    (2, 1, b"..", None),
+    (3, 4, b"./d", None),
+    (4, 0, b"..", None),
+];
+
 #[test]
 fn finds_entries_by_their_words(rt: HostRuntime) {
-    let cases: [(usize, u64, &[u8], Option<Option<(u64, Kind)>>); 11] = [
-        (0, 1, b"usr", Some(Some((2, Kind::Dir)))),
-        (0, 2, b"usr", None),
-        (0, 1, b"us", None),
-        (0, 1, b"usx", None),
-        (0, 1, b"..", None),
-        (1, 1, b"x", Some(None)),
-        (1, 1, &[b'x'; NAME_MAX], None),
-        (2, 2, b"..", Some(Some((1, Kind::Dir)))),
-        (2, 1, b"..", None),
-        (3, 4, b"./d", None),
-        (4, 0, b"..", None),
-    ];
-    for (at, dir, name, want) in cases {
-        assert_eq!(rt; sought(&wide(EXAMPLES[at]), dir, name), want);
+    for (at, dir, name, want) in SOUGHT.iter() {
+        let found = EXAMPLES
+            .get(*at)
+            .map(|first| sought(&wide(*first), *dir, name));
+        assert!(rt; found == Some(*want), "{at} {name:?}");
     }
-    assert_eq!(rt; sought(cut(&wide(EXAMPLES[0])), 1, b"usr"), None);
+    assert!(rt; sought(cut(&wide(EXAMPLES[0])), 1, b"usr").is_none());
+}
+
+/// An example, a link, and whether its words are of the link's text.
+const TEXTS: [(usize, u64, bool); 4] = [(3, 4, true), (3, 3, false), (0, 1, false), (4, 0, false)];
+
+/// Whether the words of an example are of a link's text.
+fn is_text_of(at: usize, number: u64) -> Option<bool> {
+    let label = Label::Text;
+    let first = EXAMPLES.get(at)?;
+    Some(tells_of(&wide(*first), Key { number, label }))
 }
 
 #[test]
 fn finds_texts_by_their_words(rt: HostRuntime) {
-    let cases = [(3, 4, true), (3, 3, false), (0, 1, false), (4, 0, false)];
-    for (at, number, want) in cases {
-        let label = Label::Text;
-        assert_eq!(rt; tells_of(&wide(EXAMPLES[at]), Key { number, label }), want);
+    for (at, number, want) in TEXTS.iter() {
+        assert!(rt; is_text_of(*at, *number) == Some(*want), "{at} {number}");
     }
     let (name, text) = (wide(EXAMPLES[0]), wide(EXAMPLES[3]));
-    assert_eq!(rt; text_in(&name), RowText::of(b"usr"));
-    assert_eq!(rt; text_in(cut(&name)), None);
-    assert_eq!(rt; text_sought(cut(&text)), None);
-    assert_eq!(rt; text_of(cut(&text)), None);
+    assert!(rt; text_in(&name) == RowText::of(b"usr"));
+    assert!(rt; text_in(cut(&name)).is_none() && text_sought(cut(&text)).is_none());
+    assert!(rt; text_of(cut(&text)).is_none());
 }
 
 /// The text of link 4, if the words spell it.
@@ -148,35 +166,40 @@ fn text_sought(words: &[u64]) -> Option<RowText> {
     }
 }
 
+const FULL: u64 = 0x6161616161616161;
+
+/// The head of a row of link 4 and the words of its text, and that text, if they spell one.
+const SPELLINGS: [([u64; 5], Option<&[u8]>); 12] = [
+    ([2 + 256 * 3, 6565678, 0, 0, 0], Some(b"./d")),
+    ([2 + 256, 47, 0, 0, 0], Some(b"/")),
+    ([2 + 256 * 9, FULL, 97, 0, 0], Some(&[b'a'; 9])),
+    ([2 + 256 * 32, FULL, FULL, FULL, FULL], Some(&[b'a'; 32])),
+    // No byte, a zero byte in the text or at its end.
+    ([2, 0, 0, 0, 0], None),
+    ([2 + 256 * 3, 6553646, 0, 0, 0], None),
+    ([2 + 256 * 32, FULL, FULL, FULL, FULL >> 8], None),
+    // A byte after the text, at once or later.
+    ([2 + 256 * 2, 6565678, 0, 0, 0], None),
+    ([2 + 256 * 3, 6565678, 0, 0, 1 << 56], None),
+    // An entry, a text of some kind, and one with a higher byte in its head.
+    ([1 + 256 * 3, 6565678, 0, 0, 0], None),
+    ([2 + 256 * 3 + (1 << 24), 6565678, 0, 0, 0], None),
+    ([2 + 256 * 3 + (1 << 63), 6565678, 0, 0, 0], None),
+];
+
+/// Whether such words are read so, by both ways, and with a target not at all.
+fn is_read([head, a, b, c, d]: [u64; 5], want: Option<&[u8]>) -> bool {
+    let words = wide([7, head, 4, 0, a, b, c, d]);
+    let text = text_sought(&words);
+    text == want.and_then(RowText::of)
+        && text_of(&words) == text
+        && text_sought(&wide([7, head, 4, 1, a, b, c, d])).is_none()
+}
+
 #[test]
 fn reads_texts_from_their_words(rt: HostRuntime) {
-    const FULL: u64 = 0x6161616161616161;
-    let cases: [([u64; 5], Option<&[u8]>); 12] = [
-        ([2 + 256 * 3, 6565678, 0, 0, 0], Some(b"./d")),
-        ([2 + 256, 47, 0, 0, 0], Some(b"/")),
-        ([2 + 256 * 9, FULL, 97, 0, 0], Some(&[b'a'; 9])),
-        ([2 + 256 * 32, FULL, FULL, FULL, FULL], Some(&[b'a'; 32])),
-        // No byte, a zero byte in the text or at its end.
-        ([2, 0, 0, 0, 0], None),
-        ([2 + 256 * 3, 6553646, 0, 0, 0], None),
-        ([2 + 256 * 32, FULL, FULL, FULL, FULL >> 8], None),
-        // A byte after the text, at once or later.
-        ([2 + 256 * 2, 6565678, 0, 0, 0], None),
-        ([2 + 256 * 3, 6565678, 0, 0, 1 << 56], None),
-        // An entry, a text of some kind, and one with a higher byte in its head.
-        ([1 + 256 * 3, 6565678, 0, 0, 0], None),
-        ([2 + 256 * 3 + (1 << 24), 6565678, 0, 0, 0], None),
-        ([2 + 256 * 3 + (1 << 63), 6565678, 0, 0, 0], None),
-    ];
-    for ([head, a, b, c, d], want) in cases {
-        let text = text_sought(&wide([7, head, 4, 0, a, b, c, d]));
-        assert_eq!(rt; text, want.and_then(RowText::of), "at {head}");
-        assert_eq!(rt;
-            text_of(&wide([7, head, 4, 0, a, b, c, d])),
-            text,
-            "at {head}"
-        );
-        assert_eq!(rt; text_sought(&wide([7, head, 4, 1, a, b, c, d])), None);
+    for (words, want) in SPELLINGS.iter() {
+        assert!(rt; is_read(*words, *want), "{words:?}");
     }
 }
 
@@ -187,49 +210,58 @@ fn tells_no_longer_text_than_a_name(rt: HostRuntime) {
     words[1] = 2 + 256 * ROW_TEXT as u64;
     words[3] = 0;
     words[ROW_WORDS - 1] >>= 8;
-    assert_eq!(rt; text_of(&words), RowText::of(&[b'a'; ROW_TEXT]));
-    assert_eq!(rt; text_in(&words), text_of(&words));
-    assert!(rt; is_nothing_or_spelled(&words));
-    assert!(rt; decode(&words).is_some());
+    let text = text_of(&words);
+    assert!(rt; text == RowText::of(&[b'a'; ROW_TEXT]) && text_in(&words) == text);
+    assert!(rt; is_nothing_or_spelled(&words) && decode(&words).is_some());
     words[ROW_WORDS - 1] = 0x6161616161616161;
     words[1] = 2 + 256 * (ROW_TEXT as u64 + 1);
-    assert_eq!(rt; text_of(&words), None);
-    assert_eq!(rt; text_in(&words), None);
-    assert_eq!(rt; decode(&words), None);
+    assert!(rt; text_of(&words).is_none() && text_in(&words).is_none());
+    assert!(rt; decode(&words).is_none());
 }
 
 #[test]
 fn finds_entries_under_any_count(rt: HostRuntime) {
     let mut words = wide(EXAMPLES[0]);
     words[0] = u64::MAX;
-    assert_eq!(rt; sought(&words, 1, b"usr"), Some(Some((2, Kind::Dir))));
+    assert!(rt; sought(&words, 1, b"usr") == Some(Some((2, Kind::Dir))));
 }
 
 #[test]
 fn reads_the_fields(rt: HostRuntime) {
     let words = wide(EXAMPLES[0]);
-    assert_eq!(rt; (tag(&words), length(&words), kind(&words)), (1, 3, 1));
-    assert_eq!(rt; (number(&words), value(&words)), (1, 2));
+    assert!(rt; tag(&words) == 1 && length(&words) == 3 && kind(&words) == 1);
+    assert!(rt; number(&words) == 1 && value(&words) == 2);
+}
+
+/// Names in directories, and where they lead, that have no spelling.
+const NO_NAMES: [(u64, &[u8], Option<(u64, Kind)>); 4] = [
+    (0, b"x", None),
+    (1, b"x", Some((0, Kind::File))),
+    (1, b"..", None),
+    (1, b"a/b", None),
+];
+
+/// Links and their texts that have none.
+const NO_LINKS: [(u64, &[u8]); 3] = [(0, b"a"), (4, b""), (4, b"a\0")];
+
+/// Whether a row has no spelling.
+fn is_refused(row: Option<Row>) -> bool {
+    match row {
+        Some(row) => encode(&row).is_none(),
+        None => false,
+    }
 }
 
 #[test]
 fn refuses_what_has_no_spelling(rt: HostRuntime) {
-    let rows = [
-        named(0, b"x", None),
-        named(1, b"x", Some((0, Kind::File))),
-        named(1, b"..", None),
-        named(1, b"a/b", None),
-        Some(Row::Entry(2, RowLabel::DotDot, Some((1, Kind::File)))),
-        linked(0, b"a"),
-        linked(4, b""),
-        linked(4, b"a\0"),
-    ];
-    for row in rows.iter() {
-        assert!(rt; row.is_some());
-        if let Some(row) = row {
-            assert!(rt; encode(row).is_none());
-        }
+    for (dir, name, target) in NO_NAMES.iter() {
+        assert!(rt; is_refused(named(*dir, name, *target)), "{name:?}");
     }
+    for (number, text) in NO_LINKS.iter() {
+        assert!(rt; is_refused(linked(*number, text)), "{text:?}");
+    }
+    let up = Row::Entry(2, RowLabel::DotDot, Some((1, Kind::File)));
+    assert!(rt; is_refused(Some(up)));
     assert!(rt; RowText::of(&[b'a'; ROW_TEXT + 1]).is_none());
 }
 
@@ -242,10 +274,10 @@ fn spells_nothing_with_a_byte_after_the_text(rt: HostRuntime) {
 
 #[test]
 fn spells_with_one_bit_turned_just_what_is_read(rt: HostRuntime) {
-    for first in EXAMPLES {
+    for first in EXAMPLES.iter() {
         for at in 1..ROW_WORDS {
             for bit in 0..64u32 {
-                let mut turned = wide(first);
+                let mut turned = wide(*first);
                 turned[at] ^= 1u64 << bit;
                 assert!(rt; is_nothing_or_spelled(&turned));
             }

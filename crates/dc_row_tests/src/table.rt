@@ -7,36 +7,44 @@ use dc_store::Store;
 use dc_table::{MakeFault, Shared};
 use std::test::Fail;
 
-#[test]
-fn a_table_has_its_sizes(rt: HostRuntime) -> Result<(), Fail> {
-    for (buckets, max_inodes) in [(0, 16), (3, 16), (2048, 16), (1, 0), (1, 1_048_577)] {
-        let made = Shared::new(rt.alloc(), buckets, max_inodes);
-        assert!(rt; matches!(made, Err(MakeFault::BadSize)));
-    }
-    for (buckets, max_inodes) in [(1, 1), (1024, 1_048_576)] {
-        assert!(rt; Shared::new(rt.alloc(), buckets, max_inodes).is_ok());
-    }
-    Ok(())
-}
+/// Buckets and inodes of which no table is made.
+const BAD_SIZES: [(u64, u64); 5] = [(0, 16), (3, 16), (2048, 16), (1, 0), (1, 1_048_577)];
+
+const GOOD_SIZES: [(u64, u64); 2] = [(1, 1), (1024, 1_048_576)];
 
 #[test]
-fn a_table_is_as_large_as_the_work(rt: HostRuntime) -> Result<(), Fail> {
-    for (buckets, max_inodes) in [
-        (0, 16),
-        (3072, 16),
-        (1 << 21, 16),
-        (2048, 0),
-        (2048, 1_048_577),
-    ] {
-        let made = Shared::with_buckets(rt.alloc(), buckets, max_inodes);
+fn a_table_has_its_sizes(rt: HostRuntime) {
+    for (buckets, max_inodes) in BAD_SIZES.iter() {
+        let made = Shared::new(rt.alloc(), *buckets, *max_inodes);
         assert!(rt; matches!(made, Err(MakeFault::BadSize)));
     }
-    for buckets in [1, 2048, 65_536] {
-        let made = Shared::with_buckets(rt.alloc(), buckets, 16);
-        let (shared, _pass) = made.expect(&rt, "memory");
-        assert!(rt; shared.buckets() == buckets);
+    for (buckets, max_inodes) in GOOD_SIZES.iter() {
+        assert!(rt; Shared::new(rt.alloc(), *buckets, *max_inodes).is_ok());
     }
-    Ok(())
+}
+
+/// The same of tables as large as one wishes.
+const BAD_BUCKETS: [(u64, u64); 5] = [
+    (0, 16),
+    (3072, 16),
+    (1 << 21, 16),
+    (2048, 0),
+    (2048, 1_048_577),
+];
+
+const BUCKETS: [u64; 3] = [1, 2048, 65_536];
+
+#[test]
+fn a_table_is_as_large_as_the_work(rt: HostRuntime) {
+    for (buckets, max_inodes) in BAD_BUCKETS.iter() {
+        let made = Shared::with_buckets(rt.alloc(), *buckets, *max_inodes);
+        assert!(rt; matches!(made, Err(MakeFault::BadSize)));
+    }
+    for buckets in BUCKETS.iter() {
+        let made = Shared::with_buckets(rt.alloc(), *buckets, 16);
+        let (shared, _pass) = made.expect(&rt, "memory");
+        assert!(rt; shared.buckets() == *buckets);
+    }
 }
 
 #[test]

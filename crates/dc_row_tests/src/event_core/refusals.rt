@@ -1,8 +1,7 @@
 //! Each act refused for each of its reasons, and by the first of them where several hold. The reasons
 //! of the last count and the last clock are left out, since no list of events comes so far.
-use super::{fill, named};
+use super::{A_IS_2, LOOK_A, MAKE_A, fill};
 use dc_core::{Act, Core, Event, Refused};
-use dc_names::Kind;
 use dc_plain::{Call, Follow};
 use dc_row::ROW_WORDS;
 use std::alloc::Global;
@@ -11,21 +10,10 @@ use std::test::Fail;
 /// An actor, its act, and why it is refused, if it is.
 type Case = (u64, Act<'static>, Option<Refused>);
 
-const LOOK_A: Call<'static> = Call::Look {
-    base: 1,
-    path: b"/a",
-    follow: Follow::Yes,
-};
-
 const LOOK_AB: Call<'static> = Call::Look {
     base: 1,
     path: b"/a/b",
     follow: Follow::Yes,
-};
-
-const MAKE_A: Call<'static> = Call::Mkdir {
-    base: 1,
-    path: b"/a",
 };
 
 const MAKE_B: Call<'static> = Call::Mkdir {
@@ -214,41 +202,38 @@ fn first_other(core: &mut Core, alloc: Global, cases: &[Case]) -> usize {
     cases.len()
 }
 
+/// Before row 0 is filled anew, and afterwards.
+const BEFORE: [&[Case]; 9] = [
+    &NO_ACTOR,
+    &NO_LOCK_NO_CALL,
+    &LOCKED,
+    &ROWS,
+    &TOUCHED,
+    &UNALTERED,
+    &WALK,
+    &READ_WHOLE,
+    &READ,
+];
+
+const AFTERWARDS: [&[Case]; 3] = [&REFILLED, &READ_WHOLE, &CHANGED];
+
+/// The first list, counted from 0, and its first case that went otherwise, or `None` if none did.
+fn first_wrong(core: &mut Core, alloc: Global, lists: &[&[Case]]) -> Option<(usize, usize)> {
+    for (i, cases) in lists.iter().enumerate() {
+        let found = first_other(core, alloc, cases);
+        if found != cases.len() {
+            return Some((i, found));
+        }
+    }
+    None
+}
+
 #[test]
 fn each_act_is_refused_for_each_reason(rt: HostRuntime) -> Result<(), Fail> {
-    let alloc = rt.alloc();
-    let mut core = Core::new(alloc, 1, 2, 16)?;
-    let lists: [&[Case]; 9] = [
-        &NO_ACTOR,
-        &NO_LOCK_NO_CALL,
-        &LOCKED,
-        &ROWS,
-        &TOUCHED,
-        &UNALTERED,
-        &WALK,
-        &READ_WHOLE,
-        &READ,
-    ];
-    for (i, cases) in lists.iter().enumerate() {
-        assert_eq!(rt;
-            first_other(&mut core, alloc, cases),
-            cases.len(),
-            "list {i}"
-        );
-    }
-    fill(
-        &mut core,
-        alloc,
-        0,
-        0,
-        &named(1, b"a", Some((2, Kind::Dir)))?,
-    )?;
-    assert_eq!(rt; first_other(&mut core, alloc, &REFILLED), REFILLED.len());
-    assert_eq!(rt;
-        first_other(&mut core, alloc, &READ_WHOLE),
-        READ_WHOLE.len()
-    );
-    assert_eq!(rt; first_other(&mut core, alloc, &CHANGED), CHANGED.len());
-    assert_eq!(rt; (core.finished().len(), core.clock()), (2, 1));
+    let mut core = Core::new(rt.alloc(), 1, 2, 16)?;
+    assert_eq!(rt; first_wrong(&mut core, rt.alloc(), &BEFORE), None);
+    assert!(rt; fill(&mut core, rt.alloc(), 0, 0, &A_IS_2).is_ok());
+    assert_eq!(rt; first_wrong(&mut core, rt.alloc(), &AFTERWARDS), None);
+    assert!(rt; core.finished().len() == 2 && core.clock() == 1);
     Ok(())
 }
