@@ -13,8 +13,6 @@ use dc_store::{MapStore, New, SlabStore, Store};
 use std::alloc::Global;
 use std::test::Fail;
 
-mod refused;
-
 /// Whether a name in a directory is free.
 fn is_free<S: Store>(store: &S, dir: u64, name: Name<'_>) -> bool
     ensures { result ≡ (is_live_directory (S.tree store.now) dir
@@ -194,35 +192,12 @@ fn answers<S: Store>(store: &mut S, alloc: Global, step: Step<'_>) -> Result<boo
     }
 }
 
-fn new_map(alloc: Global) -> Result<MapStore, NoMemory> {
-    match MapStore::new(alloc) {
-        Ok(store) => Ok(store),
-        Err(NoMemory) => MapStore::new(alloc),
-    }
-}
-
-fn new_slab(alloc: Global) -> Result<SlabStore, NoMemory> {
-    match SlabStore::new(alloc) {
-        Ok(store) => Ok(store),
-        Err(NoMemory) => SlabStore::new(alloc),
-    }
-}
-
 /// The place of the first step of a new store of either kind that answers otherwise.
 fn fails_at(alloc: Global, steps: &[Step<'_>]) -> Result<Option<usize>, NoMemory> {
-    if let Some(place) = fails_in(&mut new_map(alloc)?, alloc, steps)? {
+    if let Some(place) = fails_in(&mut MapStore::new(alloc)?, alloc, steps)? {
         return Ok(Some(place));
     }
-    fails_in(&mut new_slab(alloc)?, alloc, steps)
-}
-
-/// Whether a step answers so. One that is refused memory is taken once more, and answers then as if it
-/// hadn't been.
-fn answers_again<S: Store>(store: &mut S, alloc: Global, step: Step<'_>) -> Result<bool, NoMemory> {
-    match answers(store, alloc, step) {
-        Ok(right) => Ok(right),
-        Err(NoMemory) => answers(store, alloc, step),
-    }
+    fails_in(&mut SlabStore::new(alloc)?, alloc, steps)
 }
 
 /// The place of the first step that answers otherwise.
@@ -232,7 +207,7 @@ fn fails_in<S: Store>(
     steps: &[Step<'_>],
 ) -> Result<Option<usize>, NoMemory> {
     for (place, step) in steps.iter().enumerate() {
-        if !answers_again(store, alloc, *step)? {
+        if !answers(store, alloc, *step)? {
             return Ok(Some(place));
         }
     }
@@ -379,5 +354,35 @@ const LONGEST: [Step<'static>; 10] = [
 #[test]
 fn takes_the_longest_names_and_texts(rt: HostRuntime) -> Result<(), Fail> {
     assert!(rt; fails_at(rt.alloc(), &LONGEST)?.is_none());
+    Ok(())
+}
+
+const CHANGES: [Step<'static>; 20] = [
+    Step::Add(1, b"d", To::Dir, Some(2)),
+    Step::Add(2, b"f", To::File, Some(3)),
+    Step::Add(1, b"l", To::Link(b"d/f"), Some(4)),
+    Step::Add(2, b"l", To::Same(4), Some(4)),
+    Step::Add(1, b"g", To::Same(3), Some(3)),
+    Step::Move((2, b"f"), (1, b"h"), true),
+    // What goes leaves its slot to the next that is made.
+    Step::Drop(1, b"l", true),
+    Step::Drop(2, b"l", true),
+    Step::Add(2, b"e", To::Dir, Some(5)),
+    Step::Drop(2, b"e", true),
+    Step::Add(1, b"e", To::File, Some(6)),
+    Step::Move((1, b"e"), (1, b"g"), true),
+    Step::Move((1, b"g"), (1, b"h"), true),
+    Step::Add(2, b"a", To::Dir, Some(7)),
+    Step::Add(1, b"b", To::Dir, Some(8)),
+    Step::Move((2, b"a"), (1, b"b"), true),
+    Step::Drop(1, b"d", true),
+    Step::Add(7, b"l", To::Link(b"."), Some(9)),
+    Step::List(1, &[b"b", b"h"]),
+    Step::Size(10, 4),
+];
+
+#[test]
+fn slots_are_used_again(rt: HostRuntime) -> Result<(), Fail> {
+    assert!(rt; fails_at(rt.alloc(), &CHANGES)?.is_none());
     Ok(())
 }
