@@ -85,12 +85,14 @@ fn is_whole(stamp: &Stamp) -> bool {
     })
 }
 
+const BUCKETS: [u64; 2] = [1, 16];
+
 #[test]
 fn no_look_up_sees_half_an_exchange(rt: HostRuntime) -> Result<(), Fail> {
     let alloc = rt.alloc();
     let input = lines(alloc)?;
-    for buckets in [1, 16] {
-        let stamps = record(&rt, alloc, buckets, &input)?;
+    for buckets in BUCKETS.iter() {
+        let stamps = record(&rt, alloc, *buckets, &input)?;
         assert_eq!(rt;
             stamps.len() as u64,
             6 + SESSIONS + PHASES * LINES * SESSIONS

@@ -143,11 +143,14 @@ fn judge<R: Threads + Wait + Sync>(
     run_and_judge(rt, alloc, buckets, &input)
 }
 
+/// Buckets, and whether the sessions turn links.
+const JUDGED: [(u64, bool); 2] = [(1, false), (8, true)];
+
 #[test]
 fn eight_sessions_are_legal(rt: HostRuntime) -> Result<(), Fail> {
-    for (buckets, linked) in [(1, false), (8, true)] {
-        let (answers, verdict) = judge(&rt, rt.alloc(), buckets, linked)?;
-        assert_eq!(rt; answers, SESSIONS * PHASES * LINES);
+    for (buckets, linked) in JUDGED.iter() {
+        let (answers, verdict) = judge(&rt, rt.alloc(), *buckets, *linked)?;
+        assert!(rt; answers == SESSIONS * PHASES * LINES);
         assert!(rt; verdict == PhasedVerdict::Legal, "{verdict:?}");
     }
     Ok(())
@@ -175,13 +178,15 @@ const THREADED: [(&str, u64); 6] = [
 
 #[test]
 fn threaded_inputs_are_legal(rt: HostRuntime) -> Result<(), Fail> {
-    for (input, answers) in THREADED {
+    for (input, answers) in THREADED.iter() {
         let (found, verdict) = run_and_judge(&rt, rt.alloc(), 1, input.as_bytes())?;
-        assert_eq!(rt; found, answers, "{input}");
+        assert!(rt; found == *answers, "{input}");
         assert!(rt; verdict == PhasedVerdict::Legal, "{input}: {verdict:?}");
     }
     Ok(())
 }
+
+const VERBS_OF_ALL: [&str; 3] = ["cd /", "mkdir ", "rename /7 "];
 
 /// All sessions at once, each in a directory of its own.
 #[test]
@@ -192,7 +197,7 @@ fn sixteen_sessions_are_legal(rt: HostRuntime) -> Result<(), Fail> {
         let line = format!(in alloc; "7 mkdir /{session}\n")?;
         input.extend_from_slice(line.as_bytes())?;
     }
-    for verb in ["cd /", "mkdir ", "rename /7 "] {
+    for verb in VERBS_OF_ALL.iter() {
         input.extend_from_slice(b"sync\n")?;
         for session in 0..16u64 {
             let line = format!(in alloc; "{session} {verb}{session}\n")?;

@@ -6,6 +6,7 @@ use std::alloc::Global;
 use std::io::Write;
 use std::sync::atomic::{AtomicBool, AtomicU64, Ordering};
 use std::sync::{Mutex, Wait};
+use std::thread::Threads;
 use std::time::Duration;
 use std::{io, thread};
 
@@ -54,17 +55,15 @@ impl<'a, R: Wait> Recorder<'a, R> {
         let calls = self.calls.lock(self.rt);
         let mut own = calls.iter().filter(|call| call.session == session);
         for line in lines {
-            for when in [When::Before, When::After] {
-                let found = own.next().copied();
-                if found
-                    != Some(GateCall {
-                        session,
-                        line: *line,
-                        when,
-                    })
-                {
-                    return false;
-                }
+            let call = |when| GateCall {
+                session,
+                line: *line,
+                when,
+            };
+            let before = own.next().copied();
+            let after = own.next().copied();
+            if before != Some(call(When::Before)) || after != Some(call(When::After)) {
+                return false;
             }
         }
         own.next().is_none()
@@ -142,22 +141,35 @@ impl Gate for Looking<'_> {
     fn after(&self, _session: u64, _line: u64) {}
 }
 
+/// Lines, and how many bytes stand written when their commands begin.
+const WRITTEN: [(u64, u64); 4] = [(1, 0), (2, 0), (4, 20), (6, 34)];
+
+/// What a run of three phases comes to, how many bytes stood written when the command of a line began, and how many at
+/// the end.
+fn written_before<R: Threads + Wait + Sync>(
+    rt: &R,
+    alloc: Global,
+    line: u64,
+) -> (Result<(), ServeFault>, u64, u64) {
+    let count = AtomicU64::new(0);
+    let gate = Looking {
+        count: &count,
+        line,
+        seen: AtomicU64::new(u64::MAX),
+    };
+    let mut writer = Counting { count: &count };
+    let mut rest = b"0 mkdir /a\n0 mkdir /b\nsync\n1 look /a\nsync\n2 look /\n".as_slice();
+    let result = run(rt, alloc, &mut rest, &mut writer, USUAL, &gate);
+    let seen = gate.seen.load(Ordering::SeqCst);
+    (result, seen, count.load(Ordering::SeqCst))
+}
+
 /// The replies of a phase stand written when the next one runs, and none before it is over.
 #[test]
 fn phases_are_written_one_after_the_other(rt: HostRuntime) {
-    for (line, bytes) in [(1, 0), (2, 0), (4, 20), (6, 34)] {
-        let count = AtomicU64::new(0);
-        let gate = Looking {
-            count: &count,
-            line,
-            seen: AtomicU64::new(u64::MAX),
-        };
-        let mut writer = Counting { count: &count };
-        let mut rest = b"0 mkdir /a\n0 mkdir /b\nsync\n1 look /a\nsync\n2 look /\n".as_slice();
-        let result = run(&rt, rt.alloc(), &mut rest, &mut writer, USUAL, &gate);
-        assert_eq!(rt; result, Ok(()));
-        assert_eq!(rt; gate.seen.load(Ordering::SeqCst), bytes, "{line}");
-        assert_eq!(rt; count.load(Ordering::SeqCst), 48);
+    for (line, bytes) in WRITTEN.iter() {
+        let found = written_before(&rt, rt.alloc(), *line);
+        assert!(rt; found == (Ok(()), *bytes, 48), "{line}");
     }
 }
 

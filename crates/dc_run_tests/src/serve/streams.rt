@@ -81,31 +81,35 @@ fn read_from<R: Threads + Wait + Sync>(
     (result, reader.reads, output.is_empty())
 }
 
+/// How many bytes a reader gives, what it does then, what a run makes of it, and how often it reads.
+const ENDS: [(u32, Turn, Result<(), ServeFault>, u32); 5] = [
+    (18, Turn::Ends, Ok(()), 19),
+    (18, Turn::PausesOnce, Ok(()), 19),
+    // The longest input isn't refused by its reader: its last line breaks off.
+    (
+        1_048_576,
+        Turn::Ends,
+        Err(ServeFault::BadLine(116_509)),
+        1_048_577,
+    ),
+    (1_048_577, Turn::Ends, Err(ServeFault::Read), 1_048_577),
+    (u32::MAX, Turn::Ends, Err(ServeFault::Read), 1_048_577),
+];
+
+const FAILS: [Turn; 2] = [Turn::Fails, Turn::FailsOnce];
+
 /// A read that fails or ends is not tried again, and nothing is answered after a fault.
 #[test]
 fn inputs_that_end_badly(rt: HostRuntime) {
-    for (left, turn, want, reads) in [
-        (18, Turn::Ends, Ok(()), 19),
-        (18, Turn::PausesOnce, Ok(()), 19),
-        // The longest input isn't refused by its reader: its last line breaks off.
-        (
-            1_048_576,
-            Turn::Ends,
-            Err(ServeFault::BadLine(116_509)),
-            1_048_577,
-        ),
-        (1_048_577, Turn::Ends, Err(ServeFault::Read), 1_048_577),
-        (u32::MAX, Turn::Ends, Err(ServeFault::Read), 1_048_577),
-    ] {
-        let (result, made, _) = read_from(&rt, rt.alloc(), left, turn);
-        assert_eq!(rt; result, want, "{left}");
-        assert_eq!(rt; made, reads, "{left}");
+    for (left, turn, want, reads) in ENDS.iter() {
+        let (result, made, _) = read_from(&rt, rt.alloc(), *left, *turn);
+        assert!(rt; result == *want && made == *reads, "{left}");
     }
-    for left in 0..19 {
-        for turn in [Turn::Fails, Turn::FailsOnce] {
-            let (result, reads, nothing) = read_from(&rt, rt.alloc(), left, turn);
-            assert_eq!(rt; result, Err(ServeFault::Read), "{left}");
-            assert!(rt; nothing && reads == left.saturating_add(1), "{left}");
+    for left in 0..19u32 {
+        let reads = left.saturating_add(1);
+        for turn in FAILS.iter() {
+            let found = read_from(&rt, rt.alloc(), left, *turn);
+            assert!(rt; found == (Err(ServeFault::Read), reads, true), "{left}");
         }
     }
 }
@@ -170,25 +174,33 @@ fn write_to<R: Threads + Wait + Sync>(
     (result, writer)
 }
 
+/// Whether a flush is refused, and what a run makes of it.
+const FLUSHES: [(bool, Result<(), ServeFault>); 2] = [
+    (false, Ok(())),
+    (true, Err(ServeFault::Write)),
+];
+
 /// A text is written whole to who takes it byte by byte, and is flushed once.
 #[test]
 fn outputs_that_are_taken(rt: HostRuntime) {
-    for (refuses_flush, want) in [(false, Ok(())), (true, Err(ServeFault::Write))] {
-        let (result, writer) = write_to(&rt, rt.alloc(), usize::MAX, Turn::Ends, refuses_flush);
-        assert_eq!(rt; result, want);
+    for (refuses_flush, want) in FLUSHES.iter() {
+        let (result, writer) = write_to(&rt, rt.alloc(), usize::MAX, Turn::Ends, *refuses_flush);
+        assert!(rt; result == *want);
         assert!(rt; writer.taken.as_slice() == OUTPUT && writer.flushes == 1);
     }
 }
+
+const TURNS: [Turn; 4] = [Turn::Ends, Turn::PausesOnce, Turn::Fails, Turn::FailsOnce];
 
 /// A write that fails or takes nothing is not tried again, wherever it stands, and nothing is flushed.
 #[test]
 fn outputs_that_end_badly(rt: HostRuntime) {
     for room in 0..OUTPUT.len() {
-        for turn in [Turn::Ends, Turn::PausesOnce, Turn::Fails, Turn::FailsOnce] {
-            let (result, writer) = write_to(&rt, rt.alloc(), room, turn, false);
-            assert_eq!(rt; result, Err(ServeFault::Write), "{room}");
+        for turn in TURNS.iter() {
+            let (result, writer) = write_to(&rt, rt.alloc(), room, *turn, false);
+            assert!(rt; result == Err(ServeFault::Write), "{room}");
             assert!(rt; writer.taken.as_slice() == &OUTPUT[..room], "{room}");
-            assert_eq!(rt; writer.flushes, 0, "{room}");
+            assert!(rt; writer.flushes == 0, "{room}");
         }
     }
 }
