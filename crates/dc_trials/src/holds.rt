@@ -5,6 +5,7 @@ use dc_hold::{
     Found, Hold, Lost, Status, flags_of, follow_of, lost_of, put_names, put_text, told_change,
     told_fast, told_read, told_tried,
 };
+use std::alloc::Global;
 use std::test::Fail;
 
 fn found(number: u64, kind: u32, count: u64, at: u64) -> Found {
@@ -41,104 +42,129 @@ fn a_directory_is_made_and_found(rt: HostRuntime) -> Result<(), Fail> {
     Ok(())
 }
 
-#[test]
-fn what_a_name_lost_is_told(rt: HostRuntime) -> Result<(), Fail> {
-    let mut hold = Hold::new(rt.alloc(), 16, 16).expect(&rt, "memory");
-    let calls = [
-        Call::Create {
-            base: ROOT,
-            path: b"/f",
-        },
-        Call::Link {
+const MADE: [Call<'static>; 4] = [
+    Call::Create {
+        base: ROOT,
+        path: b"/f",
+    },
+    Call::Link {
+        base: ROOT,
+        old: b"/f",
+        new: b"/g",
+    },
+    Call::Mkdir {
+        base: ROOT,
+        path: b"/d",
+    },
+    Call::Symlink {
+        base: ROOT,
+        text: b"./d",
+        path: b"/s",
+    },
+];
+
+const NO_FLAGS: Flags = Flags {
+    no_replace: false,
+    exchange: false,
+};
+
+/// Changes, and the number, the kind and whether it was the last name of what they take away.
+const LOSSES: [(Call<'static>, u64, u32, u32); 5] = [
+    (
+        Call::Rename {
             base: ROOT,
             old: b"/f",
             new: b"/g",
+            flags: NO_FLAGS,
         },
-        Call::Mkdir {
+        0,
+        0,
+        0,
+    ),
+    (
+        Call::Unlink {
+            base: ROOT,
+            path: b"/f",
+        },
+        2,
+        2,
+        0,
+    ),
+    (
+        Call::Rename {
+            base: ROOT,
+            old: b"/s",
+            new: b"/g",
+            flags: NO_FLAGS,
+        },
+        2,
+        2,
+        1,
+    ),
+    (
+        Call::Unlink {
             base: ROOT,
             path: b"/d",
         },
-        Call::Symlink {
+        0,
+        0,
+        0,
+    ),
+    (
+        Call::Rmdir {
             base: ROOT,
-            text: b"./d",
-            path: b"/s",
+            path: b"/d",
         },
-    ];
-    for call in calls {
-        let made = told_change(&hold.try_change(rt.alloc(), &call));
-        assert!(rt; made.status == Status::Done);
+        3,
+        1,
+        1,
+    ),
+];
+
+/// Whether a change is made.
+fn is_done(hold: &mut Hold, alloc: Global, call: &Call<'_>) -> bool {
+    told_change(&hold.try_change(alloc, call)).status == Status::Done
+}
+
+/// What a change takes away, or `None` if the lock is held.
+fn lost(hold: &mut Hold, alloc: Global, call: &Call<'_>) -> Option<Lost> {
+    let (_made, gone) = hold.try_change_telling(alloc, call)?;
+    Some(lost_of(gone))
+}
+
+#[test]
+fn what_a_name_lost_is_told(rt: HostRuntime) -> Result<(), Fail> {
+    let mut hold = Hold::new(rt.alloc(), 16, 16).expect(&rt, "memory");
+    for call in MADE.iter() {
+        assert!(rt; is_done(&mut hold, rt.alloc(), call));
     }
-    let flags = Flags {
-        no_replace: false,
-        exchange: false,
-    };
-    let cases: [(Call<'_>, u64, u32, u32); 5] = [
-        (
-            Call::Rename {
-                base: ROOT,
-                old: b"/f",
-                new: b"/g",
-                flags,
-            },
-            0,
-            0,
-            0,
-        ),
-        (
-            Call::Unlink {
-                base: ROOT,
-                path: b"/f",
-            },
-            2,
-            2,
-            0,
-        ),
-        (
-            Call::Rename {
-                base: ROOT,
-                old: b"/s",
-                new: b"/g",
-                flags,
-            },
-            2,
-            2,
-            1,
-        ),
-        (
-            Call::Unlink {
-                base: ROOT,
-                path: b"/d",
-            },
-            0,
-            0,
-            0,
-        ),
-        (
-            Call::Rmdir {
-                base: ROOT,
-                path: b"/d",
-            },
-            3,
-            1,
-            1,
-        ),
-    ];
-    for (call, number, kind, last) in cases {
-        let (_made, gone) = hold
-            .try_change_telling(rt.alloc(), &call)
-            .expect(&rt, "the lock is free");
-        assert!(rt; lost_of(gone) == (Lost { number, kind, last }));
+    for (call, number, kind, last) in LOSSES.iter() {
+        let want = Lost {
+            number: *number,
+            kind: *kind,
+            last: *last,
+        };
+        assert!(rt; lost(&mut hold, rt.alloc(), call) == Some(want));
     }
     Ok(())
 }
 
+const DIRECTORIES: [Call<'static>; 2] = [
+    Call::Mkdir {
+        base: ROOT,
+        path: b"/ab",
+    },
+    Call::Mkdir {
+        base: ROOT,
+        path: b"/cd",
+    },
+];
+
 #[test]
 fn texts_and_names_are_written(rt: HostRuntime) -> Result<(), Fail> {
     let mut hold = Hold::new(rt.alloc(), 16, 16).expect(&rt, "memory");
-    for path in [b"/ab", b"/cd"] {
-        let mkdir = Call::Mkdir { base: ROOT, path };
-        let made = told_change(&hold.try_change(rt.alloc(), &mkdir));
-        assert!(rt; made.status == Status::Done);
+    for call in DIRECTORIES.iter() {
+        assert!(rt; is_done(&mut hold, rt.alloc(), call));
     }
     let tried = hold.try_list(rt.alloc(), ROOT, b"/");
     assert!(rt; told_read(&tried).status == Status::Done);

@@ -41,12 +41,12 @@ fn rounds_are_legal(rt: HostRuntime) -> Result<(), Fail> {
 
 #[test]
 fn all_sizes_come(rt: HostRuntime) {
-    for buckets in BUCKETS {
+    for buckets in BUCKETS.iter() {
         for threads in 2..17 {
             assert!(rt;
                 (0..60).any(|seed| {
                     let round = Round::of(seed, 8_000);
-                    round.buckets() == buckets && round.threads == threads
+                    round.buckets() == *buckets && round.threads == threads
                 }),
                 "{threads} on {buckets}"
             );

@@ -26,3 +26,13 @@ pub(crate) fn rename<'a>(old: &'a [u8], new: &'a [u8]) -> Call<'a>
         flags: Flags::default(),
     }
 }
+
+pub(crate) fn symlink<'a>(text: &'a [u8], path: &'a [u8]) -> Call<'a>
+    ensures { IsChange result }
+{
+    Call::Symlink {
+        base: 1,
+        text,
+        path,
+    }
+}

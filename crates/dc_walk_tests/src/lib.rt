@@ -6,4 +6,6 @@ mod calls;
 #[cfg(test)]
 mod narrow;
 #[cfg(test)]
+mod steps;
+#[cfg(test)]
 mod walk;

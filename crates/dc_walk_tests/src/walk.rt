@@ -11,10 +11,10 @@ mod pinned;
 mod probe;
 mod spoiled;
 
-use crate::calls::{mkdir, rename};
+use crate::steps::{Act, Step, Want, is_again, play_alone};
 use dc_names::{Kind, NAME_MAX, Name, parse};
 use dc_plain::{Call, Follow, Key, Label, Reply};
-use dc_rows::{change as make, pin, shrink, unpin_all};
+use dc_rows::change as make;
 use dc_table::{Pass, Shared};
 use dc_walk::{Fast, Look, Room, Why, walk_counted, walk_fast};
 use std::alloc::Global;
@@ -31,7 +31,7 @@ fn from_root(text: &[u8]) -> Option<Look<'_>> {
 }
 
 /// What the fast walk of a path from the root comes to, or `None` where the text is no path.
-fn look(shared: &Shared, pass: &mut Pass, text: &[u8]) -> Option<Fast>
+pub(crate) fn look(shared: &Shared, pass: &mut Pass, text: &[u8]) -> Option<Fast>
     requires { CanWalk shared.now pass.old }
     ensures { CanWalk shared.now pass.new }
 {
@@ -40,7 +40,7 @@ fn look(shared: &Shared, pass: &mut Pass, text: &[u8]) -> Option<Fast>
 
 /// What the walk that fills and pins rows comes to for a path from the root, or `None` where the text
 /// is no path.
-fn count<R: Wait>(
+pub(crate) fn count<R: Wait>(
     rt: &R,
     alloc: Global,
     shared: &Shared,
@@ -55,7 +55,7 @@ fn count<R: Wait>(
 }
 
 /// What a change is answered, and at which point, or `None` without memory.
-fn change<R: Wait>(
+pub(crate) fn change<R: Wait>(
     rt: &R,
     alloc: Global,
     shared: &Shared,
@@ -68,46 +68,53 @@ fn change<R: Wait>(
     make(shared, rt, alloc, pass, call).ok()
 }
 
-/// Whether a path was answered so after so many changes.
-fn is_answered(found: &Option<Fast>, reply: &Reply, at: u64) -> bool {
-    match found {
-        Some(Fast::Done(stamped)) => stamped.at == at && stamped.reply == *reply,
-        _ => false,
-    }
+/// The key of a name in the root.
+pub(crate) fn in_root(name: &[u8]) -> Option<Key<'_>> {
+    Some(Key {
+        number: 1,
+        label: Label::Name(Name::new(name)?),
+    })
 }
 
-/// Whether a path led to the root after so many changes.
-fn is_root_at(found: &Option<Fast>, at: u64) -> bool {
-    is_answered(found, &Reply::Found(1, Kind::Dir), at)
-}
+/// Paths that ask for a name.
+const ASKS: [Step<'static>; 5] = [
+    Step::Again(b"/z", Why::Miss(0)),
+    Step::Again(b"/a/z", Why::Miss(0)),
+    Step::Again(b"//./z/", Why::Miss(0)),
+    Step::Again(b"z", Why::Miss(0)),
+    Step::Again(b"..//../z", Why::Miss(0)),
+];
 
 #[test]
 fn empty_rows_answer_no_question(rt: HostRuntime) -> Result<(), Fail> {
-    let (shared, mut p) = Shared::new(rt.alloc(), 1, 16).expect(&rt, "memory");
-    for text in [b"/z".as_slice(), b"/a/z", b"//./z/", b"z", b"..//../z"] {
-        let found = look(&shared, &mut p, text);
-        assert!(rt; matches!(found, Some(Fast::Again(Why::Miss(0)))));
-    }
+    assert_eq!(rt; play_alone(&rt, rt.alloc(), 1, &ASKS), Ok(None));
     Ok(())
 }
+
+/// Paths that ask for none.
+const ROOTS: [Step<'static>; 5] = [
+    Step::Look(b"/", Want::Found(1, Kind::Dir), 0),
+    Step::Look(b".", Want::Found(1, Kind::Dir), 0),
+    Step::Look(b"..", Want::Found(1, Kind::Dir), 0),
+    Step::Look(b"/../.", Want::Found(1, Kind::Dir), 0),
+    Step::Look(b"///", Want::Found(1, Kind::Dir), 0),
+];
 
 #[test]
 fn the_root_asks_no_question(rt: HostRuntime) -> Result<(), Fail> {
-    let (shared, mut p) = Shared::new(rt.alloc(), 1024, 16).expect(&rt, "memory");
-    for text in [b"/".as_slice(), b".", b"..", b"/../.", b"///"] {
-        assert!(rt; is_root_at(&look(&shared, &mut p, text), 0));
-    }
+    assert_eq!(rt; play_alone(&rt, rt.alloc(), 1024, &ROOTS), Ok(None));
     Ok(())
 }
 
+const CLOCK: [Step<'static>; 3] = [
+    Step::Change(Act::Mkdir(b"/a"), Want::Done(2), 0),
+    Step::Look(b"/", Want::Found(1, Kind::Dir), 1),
+    Step::Again(b"/a", Why::Miss(0)),
+];
+
 #[test]
 fn the_point_is_the_clock(rt: HostRuntime) -> Result<(), Fail> {
-    let (shared, mut p) = Shared::new(rt.alloc(), 1, 16).expect(&rt, "memory");
-    let made = make(&shared, &rt, rt.alloc(), &mut p, &mkdir(b"/a"));
-    assert!(rt; matches!(made, Ok((Reply::Done(2), 0))));
-    assert!(rt; is_root_at(&look(&shared, &mut p, b"/"), 1));
-    let found = look(&shared, &mut p, b"/a");
-    assert!(rt; matches!(found, Some(Fast::Again(Why::Miss(0)))));
+    assert_eq!(rt; play_alone(&rt, rt.alloc(), 1, &CLOCK), Ok(None));
     Ok(())
 }
 
@@ -118,42 +125,28 @@ fn a_name_is_sought_or_no_name(rt: HostRuntime) -> Result<(), Fail> {
     text[0] = b'/';
     assert!(rt; look(&shared, &mut p, &text).is_none());
     let found = look(&shared, &mut p, &text[..NAME_MAX + 1]);
-    assert!(rt; matches!(found, Some(Fast::Again(Why::Miss(0)))));
+    assert!(rt; is_again(&found, Why::Miss(0)));
     Ok(())
 }
 
-/// The key of a name in the root.
-fn in_root(name: &[u8]) -> Option<Key<'_>> {
-    Some(Key {
-        number: 1,
-        label: Label::Name(Name::new(name)?),
-    })
-}
+const FILLED: [Step<'static>; 12] = [
+    Step::Change(Act::Mkdir(b"/a"), Want::Done(2), 0),
+    Step::Pin(b"a", 0),
+    Step::Pin(b"b", 1),
+    Step::Unpin(&[0, 1]),
+    Step::Look(b"/a", Want::Found(2, Kind::Dir), 1),
+    Step::Look(b"/b", Want::Refused(2), 1),
+    Step::Change(Act::Rename(b"/a", b"/b"), Want::Unit, 1),
+    Step::Look(b"/a", Want::Refused(2), 2),
+    Step::Look(b"/b", Want::Found(2, Kind::Dir), 2),
+    Step::Shrink(4, 2),
+    Step::Again(b"/a", Why::Miss(0)),
+    Step::Look(b"/", Want::Found(1, Kind::Dir), 2),
+];
 
 /// Rows that were filled answer, what is there and what is not, and a change turns them.
 #[test]
 fn filled_rows_answer(rt: HostRuntime) -> Result<(), Fail> {
-    let (shared, mut p) = Shared::new(rt.alloc(), 1, 16).expect(&rt, "memory");
-    let made = make(&shared, &rt, rt.alloc(), &mut p, &mkdir(b"/a"));
-    assert!(rt; matches!(made, Ok((Reply::Done(2), 0))));
-    let a = in_root(b"a").expect(&rt, "a name");
-    let b = in_root(b"b").expect(&rt, "a name");
-    assert!(rt; matches!(pin(&shared, &rt, rt.alloc(), &mut p, &a), Ok(Some(0))));
-    assert!(rt; matches!(pin(&shared, &rt, rt.alloc(), &mut p, &b), Ok(Some(1))));
-    unpin_all(&shared, &rt, &mut p, &[0, 1]);
-    let found = look(&shared, &mut p, b"/a");
-    assert!(rt; is_answered(&found, &Reply::Found(2, Kind::Dir), 1));
-    let found = look(&shared, &mut p, b"/b");
-    assert!(rt; is_answered(&found, &Reply::Refused(2), 1));
-    let moved = make(&shared, &rt, rt.alloc(), &mut p, &rename(b"/a", b"/b"));
-    assert!(rt; matches!(moved, Ok((Reply::Unit, 1))));
-    let found = look(&shared, &mut p, b"/a");
-    assert!(rt; is_answered(&found, &Reply::Refused(2), 2));
-    let found = look(&shared, &mut p, b"/b");
-    assert!(rt; is_answered(&found, &Reply::Found(2, Kind::Dir), 2));
-    assert!(rt; shrink(&shared, &rt, &mut p, 4) == 2);
-    let found = look(&shared, &mut p, b"/a");
-    assert!(rt; matches!(found, Some(Fast::Again(Why::Miss(0)))));
-    assert!(rt; shared.learn(&mut p) == 2);
+    assert_eq!(rt; play_alone(&rt, rt.alloc(), 1, &FILLED), Ok(None));
     Ok(())
 }

@@ -13,10 +13,10 @@ ghost use Rattle.dc_table.specs.Passes.{view, share, CanShut, CanWrite};
 ghost use Rattle.dc_table.specs.Rows.{MayStand};
 ghost use Rattle.dc_walk.specs.Findings.{CanWalk};
 
-use super::{change, count, in_root, is_answered, look};
-use crate::calls::mkdir;
+use super::{in_root, look};
+use crate::steps::{Act, Step, Want, is_again, is_answered, play};
 use dc_names::Kind;
-use dc_plain::{Key, Reply};
+use dc_plain::Key;
 use dc_row::{EMPTY_ROW, ROW_WORDS, empty_row_spells_nothing};
 use dc_table::{Guarded, Holder, MOST_COUNT, Pass, Shared};
 use dc_walk::{Fast, Why};
@@ -194,30 +194,28 @@ fn evict_under_lock(
     met
 }
 
-/// Whether a walk gave up since row 0 was being written.
-fn is_busy(found: &Option<Fast>) -> bool {
-    matches!(found, Some(Fast::Again(Why::Busy(0))))
-}
+const BEFORE: [Step<'static>; 3] = [
+    Step::Change(Act::Mkdir(b"/a"), Want::Done(2), 0),
+    Step::Count(b"/a", Want::Found(2, Kind::Dir), 1),
+    Step::Count(b"/b", Want::Refused(2), 1),
+];
+
+const AFTERWARDS: [Step<'static>; 2] = [
+    Step::Again(b"/a", Why::Miss(0)),
+    Step::Look(b"/b", Want::Refused(2), 1),
+];
 
 /// Where no other row tells of the key, the walk gives up; where one does, it answers.
 #[test]
 fn a_row_that_is_written_is_busy(rt: HostRuntime) -> Result<(), Fail> {
     let (shared, mut p) = Shared::new(rt.alloc(), 1, 16).expect(&rt, "memory");
     let mut q = shared.split(&mut p);
-    let made = change(&rt, rt.alloc(), &shared, &mut q, &mkdir(b"/a"));
-    assert!(rt; made == Some((Reply::Done(2), 0)));
-    let found = count(&rt, rt.alloc(), &shared, &mut q, b"/a");
-    assert!(rt; is_answered(&found, &Reply::Found(2, Kind::Dir), 1));
-    let found = count(&rt, rt.alloc(), &shared, &mut q, b"/b");
-    assert!(rt; is_answered(&found, &Reply::Refused(2), 1));
+    assert!(rt; play(&rt, rt.alloc(), &shared, &mut q, &BEFORE).is_none());
     let a = in_root(b"a").expect(&rt, "a name");
     let met = evict_under_lock(&shared, &mut p, &mut q, &a).expect(&rt, "a row with the key");
     assert!(rt; met.row == 0 && met.odd == 3);
-    assert!(rt; is_busy(&met.own) && is_busy(&met.none));
-    assert!(rt; is_answered(&met.other, &Reply::Refused(2), 1));
-    let found = look(&shared, &mut p, b"/a");
-    assert!(rt; matches!(found, Some(Fast::Again(Why::Miss(0)))));
-    let found = look(&shared, &mut p, b"/b");
-    assert!(rt; is_answered(&found, &Reply::Refused(2), 1));
+    assert!(rt; is_again(&met.own, Why::Busy(0)) && is_again(&met.none, Why::Busy(0)));
+    assert!(rt; is_answered(&met.other, &Want::Refused(2), 1));
+    assert!(rt; play(&rt, rt.alloc(), &shared, &mut p, &AFTERWARDS).is_none());
     Ok(())
 }

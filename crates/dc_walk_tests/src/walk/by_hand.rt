@@ -8,16 +8,19 @@ ghost use Rattle.dc_table.specs.Passes.{view, share};
 ghost use Rattle.dc_walk.specs.Findings.{CanWalk};
 ghost use Rattle.dc_walk.specs.Probes.{note_of, walk_with};
 
+use super::look;
 use super::probe::{Words, probe};
-use super::{change, count, is_answered, look};
-use crate::calls::{create, mkdir, rename};
+use crate::steps::{Act, Step, Want, is_answered, play};
 use dc_names::Kind;
-use dc_plain::{Call, Reply};
+use dc_plain::Call;
 use dc_row::widened;
 use dc_table::{Pass, Shared};
 use std::alloc::Global;
 use std::sync::Wait;
 use std::test::Fail;
+
+/// What checks found: an `Err` has the counts noted and found.
+type Checks = [Result<(), (u64, u64)>; 3];
 
 /// Begins a walk, and notes rows 0 and 1.
 pub(super) fn note_two(shared: &Shared, pass: &mut Pass, path: &[u8]) -> Option<(Words, Words)>
@@ -39,7 +42,7 @@ pub(super) fn turn(
     pass: &mut Pass,
     path: &[u8],
     noted: &(Words, Words),
-) -> Option<(Words, u64, [Result<(), (u64, u64)>; 3])>
+) -> Option<(Words, u64, Checks)>
     requires can { CanWalk shared.now pass.old × (3 < (share pass.old).rows) }
     requires noted { (view pass.old).walk ≡ walk_with (Stat 1 path.now)
         (note_of 0 noted.now.0 ∷ note_of 1 noted.now.1 ∷ []) }
@@ -56,40 +59,36 @@ pub(super) fn turn(
     Some((last, at, [first, second, third]))
 }
 
-/// A directory is renamed away from a path, and a file made below it. The path with the old name of
-/// the directory and the new name of the file never was.
+/// What the checks of a walk of `/a/d/f` find, where another pass renames a directory and makes a file
+/// below it once two rows are noted; or `None` where anything else is otherwise than it should be. The path
+/// with the old name of the directory and the new name of the file never was.
+fn overtaken<R: Wait>(rt: &R, alloc: Global, old: &[u8], file: &[u8]) -> Option<Checks> {
+    let (shared, mut pass) = Shared::new(alloc, 1, 16).ok()?;
+    let mut other = shared.split(&mut pass);
+    let made = make_two(rt, alloc, &shared, &mut other);
+    let noted = note_two(&shared, &mut pass, b"/a/d/f")?;
+    let moved = move_away(rt, alloc, &shared, &mut other, old, file);
+    let (last, at, found) = turn(&shared, &mut pass, b"/a/d/f", &noted)?;
+    let again = look(&shared, &mut pass, b"/a/d/f");
+    let read = noted.0 == widened(&[2, 16_777_473, 1, 2, 97])
+        && noted.1 == widened(&[2, 16_777_473, 2, 3, 100])
+        && last == widened(&[2, 33_554_689, 3, 4, 102]);
+    let right = made && moved && read && at == 4 && is_answered(&again, &Want::Refused(2), 4);
+    right.then_some(found)
+}
+
 #[test]
 fn a_path_that_never_was_is_not_answered(rt: HostRuntime) -> Result<(), Fail> {
-    let (shared, mut p) = Shared::new(rt.alloc(), 1, 16).expect(&rt, "memory");
-    let mut q = shared.split(&mut p);
-    assert!(rt; make_two(&rt, rt.alloc(), &shared, &mut q));
-    let noted = note_two(&shared, &mut p, b"/a/d/f").expect(&rt, "even rows");
-    assert!(rt; noted.0 == widened(&[2, 16_777_473, 1, 2, 97]));
-    assert!(rt; noted.1 == widened(&[2, 16_777_473, 2, 3, 100]));
-    assert!(rt; move_away(&rt, rt.alloc(), &shared, &mut q, b"/a/d", b"/b/f"));
-    let (last, at, found) = turn(&shared, &mut p, b"/a/d/f", &noted).expect(&rt, "an even row");
-    assert!(rt; last == widened(&[2, 33_554_689, 3, 4, 102]) && at == 4);
-    assert!(rt; found == [Ok(()), Err((2, 4)), Ok(())]);
-    let found = look(&shared, &mut p, b"/a/d/f");
-    assert!(rt; is_answered(&found, &Reply::Refused(2), 4));
+    let found = overtaken(&rt, rt.alloc(), b"/a/d", b"/b/f");
+    assert!(rt; found == Some([Ok(()), Err((2, 4)), Ok(())]));
     Ok(())
 }
 
 /// A directory further up is renamed away: its own row alone tells of it.
 #[test]
 fn a_moved_grandparent_is_seen(rt: HostRuntime) -> Result<(), Fail> {
-    let (shared, mut p) = Shared::new(rt.alloc(), 1, 16).expect(&rt, "memory");
-    let mut q = shared.split(&mut p);
-    assert!(rt; make_two(&rt, rt.alloc(), &shared, &mut q));
-    let noted = note_two(&shared, &mut p, b"/a/d/f").expect(&rt, "even rows");
-    assert!(rt; noted.0 == widened(&[2, 16_777_473, 1, 2, 97]));
-    assert!(rt; noted.1 == widened(&[2, 16_777_473, 2, 3, 100]));
-    assert!(rt; move_away(&rt, rt.alloc(), &shared, &mut q, b"/a", b"/b/d/f"));
-    let (last, at, found) = turn(&shared, &mut p, b"/a/d/f", &noted).expect(&rt, "an even row");
-    assert!(rt; last == widened(&[2, 33_554_689, 3, 4, 102]) && at == 4);
-    assert!(rt; found == [Err((2, 4)), Ok(()), Ok(())]);
-    let found = look(&shared, &mut p, b"/a/d/f");
-    assert!(rt; is_answered(&found, &Reply::Refused(2), 4));
+    let found = overtaken(&rt, rt.alloc(), b"/a", b"/b/d/f");
+    assert!(rt; found == Some([Err((2, 4)), Ok(()), Ok(())]));
     Ok(())
 }
 
@@ -106,23 +105,24 @@ fn move_away<R: Wait>(
     requires { CanWalk shared.now pass.old }
     ensures { CanWalk shared.now pass.new }
 {
-    let moved = change(rt, alloc, shared, pass, &rename(old, b"/b"));
-    let created = change(rt, alloc, shared, pass, &create(file));
-    let found = count(rt, alloc, shared, pass, file);
-    moved == Some((Reply::Unit, 2))
-        && created == Some((Reply::Done(4), 3))
-        && is_answered(&found, &Reply::Found(4, Kind::File), 4)
+    let steps = [
+        Step::Change(Act::Rename(old, b"/b"), Want::Unit, 2),
+        Step::Change(Act::Create(file), Want::Done(4), 3),
+        Step::Count(file, Want::Found(4, Kind::File), 4),
+    ];
+    play(rt, alloc, shared, pass, &steps).is_none()
 }
+
+const TWO: [Step<'static>; 3] = [
+    Step::Change(Act::Mkdir(b"/a"), Want::Done(2), 0),
+    Step::Change(Act::Mkdir(b"/a/d"), Want::Done(3), 1),
+    Step::Count(b"/a/d", Want::Found(3, Kind::Dir), 2),
+];
 
 /// Makes `/a` and `/a/d`, and fills rows 0 and 1 with them.
 pub(super) fn make_two<R: Wait>(rt: &R, alloc: Global, shared: &Shared, pass: &mut Pass) -> bool
     requires { CanWalk shared.now pass.old }
     ensures { CanWalk shared.now pass.new }
 {
-    let first = change(rt, alloc, shared, pass, &mkdir(b"/a"));
-    let second = change(rt, alloc, shared, pass, &mkdir(b"/a/d"));
-    let found = count(rt, alloc, shared, pass, b"/a/d");
-    first == Some((Reply::Done(2), 0))
-        && second == Some((Reply::Done(3), 1))
-        && is_answered(&found, &Reply::Found(3, Kind::Dir), 2)
+    play(rt, alloc, shared, pass, &TWO).is_none()
 }

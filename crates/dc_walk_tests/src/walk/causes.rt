@@ -1,11 +1,11 @@
 //! Why walks give up.
 
-use super::{change, count, is_answered, look};
+use super::{change, count, look};
 use crate::calls::mkdir;
+use crate::steps::{Want, is_again, is_answered};
 use dc_names::Kind;
-use dc_plain::Reply;
 use dc_table::Shared;
-use dc_walk::{Fast, Why};
+use dc_walk::Why;
 use std::test::Fail;
 
 /// The first bytes of a text, so many at most.
@@ -28,30 +28,34 @@ fn one_key_more_than_can_be_used_is_long(rt: HostRuntime) -> Result<(), Fail> {
         assert!(rt; made.is_some());
     }
     let found = count(&rt, rt.alloc(), &shared, &mut p, &text);
-    assert!(rt; matches!(found, Some(Fast::Again(Why::Long))));
+    assert!(rt; is_again(&found, Why::Long));
     let found = look(&shared, &mut p, front(&text, 512));
-    assert!(rt; is_answered(&found, &Reply::Found(257, Kind::Dir), 257));
+    assert!(rt; is_answered(&found, &Want::Found(257, Kind::Dir), 257));
     let found = look(&shared, &mut p, &text);
-    assert!(rt; matches!(found, Some(Fast::Again(Why::Long))));
+    assert!(rt; is_again(&found, Why::Long));
     Ok(())
 }
 
+const CAUSES: [(Why, &str); 6] = [
+    (Why::Miss(2), "no row has the name after 2 questions"),
+    (Why::Busy(7), "row 7 is being changed"),
+    (
+        Why::Changed {
+            row: 3,
+            noted: 2,
+            found: 4,
+        },
+        "row 3 went from count 2 to 4",
+    ),
+    (Why::Long, "the path is too long for the rows"),
+    (Why::Link, "no row has the text of the link"),
+    (Why::Memory, "no memory for a row"),
+];
+
 #[test]
 fn causes_are_told(rt: HostRuntime) -> Result<(), Fail> {
-    let changed = Why::Changed {
-        row: 3,
-        noted: 2,
-        found: 4,
-    };
-    for (why, text) in [
-        (Why::Miss(2), "no row has the name after 2 questions"),
-        (Why::Busy(7), "row 7 is being changed"),
-        (changed, "row 3 went from count 2 to 4"),
-        (Why::Long, "the path is too long for the rows"),
-        (Why::Link, "no row has the text of the link"),
-        (Why::Memory, "no memory for a row"),
-    ] {
-        assert_eq!(rt; format!(in rt.alloc(); "{why}")?.as_str(), text);
+    for (why, text) in CAUSES.iter() {
+        assert!(rt; why.to_string(rt.alloc())?.as_str() == *text, "{text}");
     }
     Ok(())
 }

@@ -7,14 +7,12 @@ ghost use Rattle.dc_walk.specs.Findings.{CanWalk};
 
 use super::by_hand::{make_two, note_two, turn};
 use super::probe::{Words, probe};
-use super::{change, count, is_answered, look};
-use crate::calls::rename;
+use crate::steps::{Act, Step, Want, play};
 use dc_names::Kind;
-use dc_plain::{Call, Reply};
+use dc_plain::Call;
 use dc_row::ROW_WORDS;
-use dc_rows::shrink;
 use dc_table::{Pass, Shared};
-use dc_walk::{Fast, Why};
+use dc_walk::Why;
 use std::test::Fail;
 
 /// The first words of a row: its count, its header, a directory, a target, and a name of one byte.
@@ -67,6 +65,8 @@ fn are_rows(shared: &Shared, pass: &mut Pass, first: &Front, second: &Front, thi
         && is_row(&row_3, &NOTHING)
 }
 
+const HIT: [Step<'static>; 1] = [Step::Look(b"/a/d", Want::Found(3, Kind::Dir), 2)];
+
 /// It writes nothing.
 #[test]
 fn a_hit(rt: HostRuntime) -> Result<(), Fail> {
@@ -74,12 +74,20 @@ fn a_hit(rt: HostRuntime) -> Result<(), Fail> {
     let mut q = shared.split(&mut p);
     assert!(rt; make_two(&rt, rt.alloc(), &shared, &mut q));
     assert!(rt; are_rows(&shared, &mut p, &A_IS_2, &D_IS_3, &NOTHING));
-    let found = look(&shared, &mut q, b"/a/d");
-    assert!(rt; is_answered(&found, &Reply::Found(3, Kind::Dir), 2));
+    assert!(rt; play(&rt, rt.alloc(), &shared, &mut q, &HIT).is_none());
     assert!(rt; are_rows(&shared, &mut p, &A_IS_2, &D_IS_3, &NOTHING));
     assert!(rt; shared.learn(&mut q) == 2);
     Ok(())
 }
+
+const MISS: [Step<'static>; 1] = [Step::Again(b"/a/z", Why::Miss(1))];
+
+const COUNTED: [Step<'static>; 1] = [Step::Count(b"/a/z", Want::Refused(2), 2)];
+
+const HIT_AT_LAST: [Step<'static>; 2] = [
+    Step::Look(b"/a/z", Want::Refused(2), 2),
+    Step::Shrink(4, 3),
+];
 
 /// The walk by rows alone gives up after one answered question; the counted walk fills row 2, alters
 /// neither the tree nor another row, and leaves no pin.
@@ -88,18 +96,20 @@ fn a_miss(rt: HostRuntime) -> Result<(), Fail> {
     let (shared, mut p) = Shared::new(rt.alloc(), 1, 16).expect(&rt, "memory");
     let mut q = shared.split(&mut p);
     assert!(rt; make_two(&rt, rt.alloc(), &shared, &mut q));
-    let found = look(&shared, &mut q, b"/a/z");
-    assert!(rt; matches!(found, Some(Fast::Again(Why::Miss(1)))));
+    assert!(rt; play(&rt, rt.alloc(), &shared, &mut q, &MISS).is_none());
     assert!(rt; are_rows(&shared, &mut p, &A_IS_2, &D_IS_3, &NOTHING));
-    let found = count(&rt, rt.alloc(), &shared, &mut q, b"/a/z");
-    assert!(rt; is_answered(&found, &Reply::Refused(2), 2));
+    assert!(rt; play(&rt, rt.alloc(), &shared, &mut q, &COUNTED).is_none());
     assert!(rt; are_rows(&shared, &mut p, &A_IS_2, &D_IS_3, &Z_IS_ABSENT));
-    let found = look(&shared, &mut q, b"/a/z");
-    assert!(rt; is_answered(&found, &Reply::Refused(2), 2));
-    assert!(rt; shared.learn(&mut q) == 2);
-    assert!(rt; shrink(&shared, &rt, &mut q, 4) == 3);
+    assert!(rt; play(&rt, rt.alloc(), &shared, &mut q, &HIT_AT_LAST).is_none());
     Ok(())
 }
+
+const MOVED: [Step<'static>; 1] = [Step::Change(Act::Rename(b"/a", b"/b"), Want::Unit, 2)];
+
+const LOST: [Step<'static>; 2] = [
+    Step::Look(b"/a/d", Want::Refused(2), 3),
+    Step::Again(b"/b", Why::Miss(0)),
+];
 
 /// A look-up of `/a/d` notes rows 0 and 1, then `/a` becomes `/b`: the check of row 0 fails, with
 /// count 4 where 2 was noted. The change adds one to the clock and writes row 0 alone, since `b` has
@@ -110,17 +120,12 @@ fn a_loss_and_its_change(rt: HostRuntime) -> Result<(), Fail> {
     let mut q = shared.split(&mut p);
     assert!(rt; make_two(&rt, rt.alloc(), &shared, &mut q));
     let noted = note_two(&shared, &mut p, b"/a/d").expect(&rt, "even rows");
-    let moved = change(&rt, rt.alloc(), &shared, &mut q, &rename(b"/a", b"/b"));
-    assert!(rt; moved == Some((Reply::Unit, 2)));
+    assert!(rt; play(&rt, rt.alloc(), &shared, &mut q, &MOVED).is_none());
     let (last, at, found) = turn(&shared, &mut p, b"/a/d", &noted).expect(&rt, "an even row");
     assert!(rt; is_row(&Some(noted.0), &A_IS_2) && is_row(&Some(noted.1), &D_IS_3));
     assert!(rt; last == [0; ROW_WORDS] && at == 3);
     assert!(rt; found == [Err((2, 4)), Ok(()), Ok(())]);
-    let found = look(&shared, &mut q, b"/a/d");
-    assert!(rt; is_answered(&found, &Reply::Refused(2), 3));
-    let found = look(&shared, &mut q, b"/b");
-    assert!(rt; matches!(found, Some(Fast::Again(Why::Miss(0)))));
-    assert!(rt; shared.learn(&mut q) == 3);
+    assert!(rt; play(&rt, rt.alloc(), &shared, &mut q, &LOST).is_none());
     Ok(())
 }
 
@@ -130,8 +135,7 @@ fn a_change(rt: HostRuntime) -> Result<(), Fail> {
     let (shared, mut p) = Shared::new(rt.alloc(), 1, 16).expect(&rt, "memory");
     let mut q = shared.split(&mut p);
     assert!(rt; make_two(&rt, rt.alloc(), &shared, &mut q));
-    let moved = change(&rt, rt.alloc(), &shared, &mut q, &rename(b"/a", b"/b"));
-    assert!(rt; moved == Some((Reply::Unit, 2)));
+    assert!(rt; play(&rt, rt.alloc(), &shared, &mut q, &MOVED).is_none());
     assert!(rt; are_rows(&shared, &mut p, &A_IS_ABSENT, &D_IS_3, &NOTHING));
     assert!(rt; shared.learn(&mut q) == 3);
     Ok(())

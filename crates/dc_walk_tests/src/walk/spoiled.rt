@@ -9,13 +9,12 @@ ghost use Rattle.dc_table.specs.Passes.{view, share};
 ghost use Rattle.dc_walk.specs.Findings.{CanWalk};
 ghost use Rattle.dc_walk.specs.Probes.{note_of, walk_with};
 
+use super::look;
 use super::probe::{Words, probe};
-use super::{change, count, is_answered, look};
-use crate::calls::mkdir;
+use crate::steps::{Act, Step, Want, is_answered, play};
 use dc_names::Kind;
-use dc_plain::{Call, Reply};
+use dc_plain::Call;
 use dc_row::widened;
-use dc_rows::shrink;
 use dc_table::{Pass, Shared};
 use dc_walk::Fast;
 use std::alloc::Global;
@@ -41,8 +40,13 @@ const FACTS: [[u64; 5]; 3] = [
 
 /// Whether the path led to the directory that was made last.
 fn is_there(found: &Option<Fast>) -> bool {
-    is_answered(found, &Reply::Found(4, Kind::Dir), 3)
+    is_answered(found, &Want::Found(4, Kind::Dir), 3)
 }
+
+const SPOILED: [Step<'static>; 2] = [
+    Step::Shrink(4, 3),
+    Step::Count(PATH, Want::Found(4, Kind::Dir), 3),
+];
 
 /// Empties the rows and fills them again, if it is time. Says whether that was done as it should.
 fn spoil<R: Wait>(rt: &R, alloc: Global, shared: &Shared, other: &mut Pass, now: bool) -> bool
@@ -52,9 +56,7 @@ fn spoil<R: Wait>(rt: &R, alloc: Global, shared: &Shared, other: &mut Pass, now:
     if !now {
         return true;
     }
-    let emptied = shrink(shared, rt, other, 4);
-    let found = count(rt, alloc, shared, other, PATH);
-    emptied == 3 && is_there(&found)
+    play(rt, alloc, shared, other, &SPOILED).is_none()
 }
 
 /// Begins a walk, and notes rows 0 and 1.
@@ -143,16 +145,19 @@ fn wanted(row: usize, place: usize) -> Result<(), (u64, u64)> {
     }
 }
 
+const THREE: [Step<'static>; 4] = [
+    Step::Change(Act::Mkdir(b"/a"), Want::Done(2), 0),
+    Step::Change(Act::Mkdir(b"/a/b"), Want::Done(3), 1),
+    Step::Change(Act::Mkdir(PATH), Want::Done(4), 2),
+    Step::Count(PATH, Want::Found(4, Kind::Dir), 3),
+];
+
 /// Makes `/a`, `/a/b` and `/a/b/c`, and fills rows 0, 1 and 2 with them.
 fn make_three<R: Wait>(rt: &R, alloc: Global, shared: &Shared, pass: &mut Pass) -> bool
     requires { CanWalk shared.now pass.old }
     ensures { CanWalk shared.now pass.new }
 {
-    let first = change(rt, alloc, shared, pass, &mkdir(b"/a"));
-    let second = change(rt, alloc, shared, pass, &mkdir(b"/a/b"));
-    let third = change(rt, alloc, shared, pass, &mkdir(PATH));
-    let found = count(rt, alloc, shared, pass, PATH);
-    first.is_some() && second.is_some() && third.is_some() && is_there(&found)
+    play(rt, alloc, shared, pass, &THREE).is_none()
 }
 
 /// Whether a walk by hand over a table of its own, whose rows are spoiled at a place, finds what it should;
