@@ -1,6 +1,6 @@
 //! Calls that alter nothing.
 
-ghost use Rattle.std.specs.Prelude.{◌≡◌, ◌+◌, ◌*◌, ℕ, IfOk, IfSome, OnErr, length};
+ghost use Rattle.std.specs.Prelude.{◌≡◌, ◌+◌, ◌*◌, ℕ, true, IfNone, IfOk, IfSome, OnErr, length};
 ghost use Rattle.dc_names.specs.declared.limits.TheConstants.{MOST_LINKS};
 ghost use Rattle.dc_names.specs.Refusals.{Gives};
 ghost use Rattle.dc_plain.specs.Reads.{look, stat, readlink, list_names};
@@ -64,6 +64,7 @@ pub fn look_by<F: Finder>(
         (2 + length path.bytes.now + MOST_LINKS * F.link_bytes) }
     ensures becomes { F.becomes finder.old finder.new }
     ensures reply { IfSome result (RepliesBy (F.said finder.new) base path.entry.bytes.now follow) }
+    ensures stopped { IfNone result (F.has_stopped finder.new ≡ true) }
 {
     alters_tells_whether_trees_differ();
     match walk(finder, base, path, follow) {
