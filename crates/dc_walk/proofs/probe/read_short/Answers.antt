@@ -1,13 +1,14 @@
-use Rattle.std.proofs.Common.{◌≡◌, ℕ, ◌+◌, ◌↔◌, [], ◌∷◌, ◌++◌, IsTrue, bit_or, get_or, length, refl, ap₂, sym, ◌∙◌, subst, arith, length-append}
+use Rattle.std.proofs.Common.{◌≡◌, ℕ, ◌+◌, ◌*◌, ◌↔◌, [], ◌∷◌, ◌++◌, bit_or, bit_xor, get_or, length, refl, ap₂, sym, ◌∙◌, subst, arith, length-append}
 use Rattle.std.proofs.lemmas.Bool.{eq-eqb, eqb-true}
 use Rattle.std.proofs.lemmas.Nat.{le_or_l, le_or_r}
 use Rattle.std.specs.Int.Bits.{or_zero_l}
+use Rattle.dc_row.specs.declared.short.TheConstants.{SHORT_WORDS}
 use Rattle.dc_table.specs.Passes.{view}
+use Rattle.dc_walk.specs.declared.probe.TheConstants.{BLOCK_WORDS}
 use Rattle.dc_walk.proofs.Probed.{can_go_on, goes_on}
 use Rattle.dc_walk.proofs.Seats.{fits_still, row_still, stays_again}
-use Rattle.dc_walk.proofs.Shorts.{first_more, past_more}
+use Rattle.dc_walk.proofs.Shorts.{differ_zero, first_more, past_more}
 use Rattle.dc_walk.proofs.probe.read_short.Goals as goal
-use Rattle.dc_walk.proofs.probe.read_short.Goals.{then-is_its, else-is_its}
 
 pub read_word-value-requires : goal.read_word-value-requires
 read_word-value-requires c = let r = c.requires.reading in let t = c.args.top in record {
@@ -26,12 +27,12 @@ read_word-word-requires c = let i = c.loop-i.invariant in let r = c.requires.rea
       );
     }
 
-pub read_word-requires : goal.read_word-requires
-read_word-requires c = let i = c.loop-i-2.invariant in let r = c.requires.reading in let t = c.args.top in
+pub read_word-past-requires : goal.read_word-past-requires
+read_word-past-requires c = let i = c.loop-i-2.invariant in let r = c.requires.reading in let t = c.args.top in
     let s = i.read r.before r.read in let size = s.size in record {
       can = (
         record { fits = i.fits; idle = i.stays.idle; inside = row_still c.requires.row i.stays.same },
-        can_go_on r.before c.args.row t.count (t.head ∷ t.number ∷ c.read_word-value.result ∷ s.rest) s.read r.early c.loop-i-2.i (omega arith) (omega arith),
+        can_go_on r.before c.args.row t.count (t.head ∷ t.number ∷ c.read_word-value.result ∷ s.rest) s.read r.early (4 + SHORT_WORDS + BLOCK_WORDS * c.loop-block.block + c.loop-i-2.i) (omega arith) (omega arith),
       );
     }
 
@@ -51,32 +52,25 @@ pub loop-i-preserved : goal.loop-i-preserved
 loop-i-preserved c = let i = c.loop-i.invariant in let e = c.read_word-word.ensures in let t = c.args.top in let w = c.read_word-word.result in let text = c.args.text.now in record {
   fits = fits_still i.fits e.same.same;
   stays = stays_again i.stays e.same;
-  read = λ v h. let s = i.read v h in let size = s.size in let more = length-append s.rest (w ∷ []) in
-      let step : (n : ℕ) → n ≡ c.loop-i.i → IsTrue c.if-is_its.is_its ↔ (IsTrue c.loop-i.is_its × (w ≡ get_or text n 0)) = λ n same. elim c.if-is_its.branch [
-        | then-is_its b ↦ (
-          λ q. (b.if-is_its.true, subst (λ (k : ℕ). w ≡ get_or text k 0) (sym same) (eqb-true _ _ (sym b.is_its-is ∙ q))),
-          λ both. b.is_its-is ∙ eq-eqb _ _ (subst (λ (k : ℕ). w ≡ get_or text k 0) same both.1),
-        )
-        | else-is_its b ↦ (let no = b.if-is_its.false in let new = b.is_its-is in (λ q. absurd cc, λ both. let is = both.0 in absurd cc))
-      ] in record {
-        rest = s.rest ++ w ∷ [];
-        size = omega arith;
-        read = goes_on v c.args.row t.count (t.head ∷ t.number ∷ c.read_word-value.result ∷ s.rest) s.read (view c.read_word-word.new.pass) w e.view;
-        its = first_more text s.rest w (omega arith) s.its (step (length s.rest) size);
-      };
+  read = λ v h. let s = i.read v h in let size = s.size in let more = length-append s.rest (w ∷ []) in record {
+    rest = s.rest ++ w ∷ [];
+    size = omega arith;
+    read = goes_on v c.args.row t.count (t.head ∷ t.number ∷ c.read_word-value.result ∷ s.rest) s.read (view c.read_word-word.new.pass) w e.view;
+    its = first_more text s.rest w (omega arith) s.its (subst (λ (k : ℕ). (bit_or c.loop-i.differ (bit_xor w (get_or text c.loop-i.i 0)) ≡ 0) ↔ ((c.loop-i.differ ≡ 0) × (w ≡ get_or text k 0))) (sym size) (differ_zero c.loop-i.differ w (get_or text c.loop-i.i 0)));
+  };
 }
 
 pub loop-i-2-preserved : goal.loop-i-2-preserved
-loop-i-2-preserved c = let i = c.loop-i-2.invariant in let e = c.read_word.ensures in let t = c.args.top in let w = c.read_word.result in let past = c.loop-i-2.past in record {
+loop-i-2-preserved c = let i = c.loop-i-2.invariant in let e = c.read_word-past.ensures in let t = c.args.top in let w = c.read_word-past.result in let before = c.loop-i-2.differ in record {
   fits = fits_still i.fits e.same.same;
   stays = stays_again i.stays e.same;
-  read = λ v h. let s = i.read v h in let size = s.size in let more = length-append s.rest (w ∷ []) in let begun = c.loop-i-2.auto.i in let left = le_or_l past w in let right = le_or_r past w in record {
+  read = λ v h. let s = i.read v h in let size = s.size in let more = length-append s.rest (w ∷ []) in let left = le_or_l before w in let right = le_or_r before w in record {
     rest = s.rest ++ w ∷ [];
     size = omega arith;
-    read = goes_on v c.args.row t.count (t.head ∷ t.number ∷ c.read_word-value.result ∷ s.rest) s.read (view c.read_word.new.pass) w e.view;
+    read = goes_on v c.args.row t.count (t.head ∷ t.number ∷ c.read_word-value.result ∷ s.rest) s.read (view c.read_word-past.new.pass) w e.view;
     its = past_more c.args.text.now s.rest w (omega arith) s.its (
-      λ q. let none = q.1 in ((q.0, omega arith), omega arith),
-      λ q. (q.0.0, ap₂ bit_or q.0.1 q.1 ∙ or_zero_l 0),
+      λ q. (omega arith, omega arith),
+      λ q. ap₂ bit_or q.0 q.1 ∙ or_zero_l 0,
     );
   };
 }
