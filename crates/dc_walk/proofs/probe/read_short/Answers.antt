@@ -1,5 +1,4 @@
-use Rattle.std.proofs.Common.{◌≡◌, ℕ, ◌+◌, ◌*◌, ◌↔◌, [], ◌∷◌, ◌++◌, bit_or, bit_xor, get_or, length, refl, ap₂, sym, ◌∙◌, subst, arith, length-append}
-use Rattle.std.proofs.lemmas.Bool.{eq-eqb, eqb-true}
+use Rattle.std.proofs.Common.{◌≡◌, ℕ, ◌+◌, ◌*◌, ◌↔◌, [], ◌∷◌, ◌++◌, bit_or, bit_xor, get_or, refl, ap₂, sym, ◌∙◌, subst, arith, length-append}
 use Rattle.std.proofs.lemmas.Nat.{le_or_l, le_or_r}
 use Rattle.std.specs.Int.Bits.{or_zero_l}
 use Rattle.dc_row.specs.declared.short.TheConstants.{SHORT_WORDS}
