@@ -89,8 +89,8 @@ pub fn look<R: Wait>(
     }
 }
 
-/// Whether a path leads somewhere, by `look`. The reply is read where it stands: to move it costs the
-/// benchmark 5 ns, as the cache has just written it word by word.
+/// Whether a path leads somewhere, counted as `look` counts. The reply is read where it stands: to move
+/// it is the benchmark's time and not the cache's.
 #[inline(always)]
 fn finds<R: Wait>(
     rt: &R,
