@@ -6,8 +6,9 @@ use Rattle.dc_plain.specs.Facts.{Target, Label, Fact, same_bytes}
 use Rattle.dc_plain.specs.Facts.Label.{Entry, Parent}
 use Rattle.dc_plain.specs.Facts.Fact.{Leads, Reads}
 use Rattle.dc_row.specs.Decoding.{byte_in, bytes_from, fact_by, target_by, SpelledIsRead}
-use Rattle.dc_row.specs.Spelling.{Spells, fields_of, has_spelling, kind_code, target_number, text_word}
+use Rattle.dc_row.specs.Spelling.{Spells, TellsTarget, fields_of, has_spelling, kind_code, target_number, text_word}
 use Rattle.dc_row.specs.declared.TheConstants.{ROW_WORDS, ROW_ROOM}
+use Rattle.dc_row.specs.declared.layout.TheConstants.{KIND_UNIT, TAGS}
 use Rattle.dc_row.proofs.Labels.{entry_is, parent_is}
 use Rattle.dc_row.proofs.Packed.{bytes_in-word_of, get_or-padded}
 use Rattle.dc_row.proofs.Read.{head_is, length_is, part_at, part_bytes, part_short, small, tag_is, text_fits}
@@ -45,6 +46,13 @@ target_so None = refl
 target_so (Some (n, Dir)) = refl
 target_so (Some (n, File)) = refl
 target_so (Some (n, Link)) = refl
+
+-- an entry leads where its head and its value say
+pub target_told : (head value : ℕ) (result : Option Target) → target_by (head / KIND_UNIT % TAGS) value ≡ result → (words : List ℕ) → get_or words 1 0 ≡ head → get_or words 3 0 ≡ value → TellsTarget words result
+target_told head value result says words head_so value_so d label target s =
+    let kind : head / KIND_UNIT % TAGS ≡ kind_code target = ap (λ (w : ℕ). w / KIND_UNIT % TAGS) (sym head_so) ∙ kind_is s in
+    let number : value ≡ target_number target = sym value_so ∙ s.spelled 3 (omega arith) (omega arith) in
+    sym says ∙ (λ i. target_by (kind i) (number i)) ∙ target_so target
 
 label_so : (d : ℕ) (label : Label) (target : Option Target) (text : List ℕ) (b : Bool) → same_bytes text (46 ∷ 46 ∷ []) ≡ b → has_spelling (Some (Leads d label target)) ≡ true → text ≡ (fields_of (Some (Leads d label target))).text → cond b Parent (Entry text) ≡ label
 label_so d label target text true dotted ok is = parent_is d label target text ok is dotted

@@ -6,12 +6,11 @@ use Rattle.std.proofs.Math.Nat.{min-eq_left}
 use Rattle.dc_plain.specs.Facts.{Label, Target}
 use Rattle.dc_plain.specs.Facts.Fact.{Leads}
 use Rattle.dc_row.specs.Narrow.{told_words, widened, words_for, RowsEndInZeros}
-use Rattle.dc_row.specs.Decoding.{target_by}
 use Rattle.dc_row.specs.Spelling.{fields_of, kind_code, target_number, Fields, IsSpelled, Spells}
 use Rattle.dc_row.specs.declared.TheConstants.{ROW_WORDS}
 use Rattle.dc_row.specs.declared.layout.TheConstants.{KIND_UNIT, TAGS}
 use Rattle.dc_row.proofs.Compared.{all_same}
-use Rattle.dc_row.proofs.Decoded.{kind_is, target_so}
+use Rattle.dc_row.proofs.Decoded.{kind_is}
 use Rattle.dc_row.proofs.Packed.{get_or-padded}
 use Rattle.dc_row.proofs.Read.{length_is, text_fits}
 use Rattle.dc_row.proofs.Written.{word_at-text, word_past}
@@ -68,8 +67,3 @@ wide_kind words is s = is ∙ (ap (λ (w : ℕ). w / KIND_UNIT % TAGS) (sym (wid
 
 pub wide_value : (words : List ℕ) {value d : ℕ} {label : Label} {target : Option Target} → value ≡ get_or words 3 0 → Spells (widened words) (Some (Leads d label target)) → value ≡ target_number target
 wide_value words is s = is ∙ (sym (wide_word words 3) ∙ s.spelled 3 (omega arith) (omega arith))
-
--- an entry leads where the first four words say
-pub narrow_target : (words : List ℕ) (kind value : ℕ) → kind ≡ get_or words 1 0 / KIND_UNIT % TAGS → value ≡ get_or words 3 0 → 4 ≤ length words → (d : ℕ) (label : Label) (target : Option Target) → Spells (widened words) (Some (Leads d label target)) → target_by kind value ≡ target
-narrow_target words kind value kind_so value_so long d label target s =
-    (λ i. target_by (wide_kind words kind_so s i) (wide_value words value_so s i)) ∙ target_so target

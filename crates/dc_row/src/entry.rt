@@ -171,11 +171,7 @@ pub(crate) fn is_target(kind: u64, value: u64) -> bool
     ensures all { (target : Option Target) → kind ≡ kind_code target → value ≡ target_number target
         → is_numbered target ≡ true → result ≡ true }
 {
-    if kind == 0 {
-        value == 0
-    } else {
-        kind <= 3 && value != 0
-    }
+    kind <= 3 && (kind == 0) == (value == 0)
 }
 
 /// Whether an entry that leads to something of a kind can stand in a row.

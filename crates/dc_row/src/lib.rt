@@ -22,7 +22,7 @@ pub use laws::{
 };
 pub use layout::{KIND_UNIT, LENGTH_UNIT, LENGTHS, TAGS};
 pub use narrow::{told_words, widened};
-pub use reading::{decode, spelled_text, target, text_in};
+pub use reading::{decode, leads_to, spelled_text, target, text_in};
 pub use row::{Row, RowLabel};
 pub use short::{SHORT_TEXT, SHORT_WORDS, leads, short_words};
 pub use text::RowText;

@@ -1,6 +1,6 @@
 //! What the words of a row tell.
 
-ghost use Rattle.std.specs.Prelude.{◌≡◌, ◌≤◌, length, Option, Some, IfSome};
+ghost use Rattle.std.specs.Prelude.{◌≡◌, ◌≤◌, ℕ, List, length, slice_index, Option, Some, IfSome};
 ghost use Rattle.std.specs.Option.{option_map};
 ghost use Rattle.dc_plain.specs.Facts.{Fact};
 ghost use Rattle.dc_row.specs.Decoding.{IsRoomOf};
@@ -9,8 +9,10 @@ ghost use Rattle.dc_row.specs.Rows.{row_shown, label_shown};
 ghost use Rattle.dc_row.specs.Spelling.{Spells, SpellsText, TellsRow, TellsLabel, TellsTarget, TellsText, fields_of};
 ghost use Rattle.dc_row.specs.declared.TheConstants.{ROW_WORDS};
 
+use crate::fields::word;
 use crate::{
-    ROW_ROOM, ROW_TEXT, ROW_WORDS, Row, RowLabel, RowText, encode, kind, length, number, tag, value,
+    KIND_UNIT, ROW_ROOM, ROW_TEXT, ROW_WORDS, Row, RowLabel, RowText, TAGS, encode, length, number,
+    tag, value,
 };
 use dc_names::Kind;
 
@@ -65,10 +67,22 @@ pub fn target(words: &[u64]) -> Option<(u64, Kind)>
     ensures told { TellsTarget words.now result }
     ensures narrow { 4 ≤ length words.now → TellsTarget (widened words.now) result }
 {
-    match kind(words) {
-        1 => Some((value(words), Kind::Dir)),
-        2 => Some((value(words), Kind::File)),
-        3 => Some((value(words), Kind::Link)),
+    leads_to(word(words, 1), value(words))
+}
+
+/// Where an entry leads of whose row these are the head and the value. Of other words it is whatever
+/// their kind and value say.
+#[must_use]
+// Inlined, as is `target`.
+#[inline(always)]
+pub fn leads_to(head: u64, value: u64) -> Option<(u64, Kind)>
+    ensures told { (words : List ℕ) → slice_index words 1 ≡ head → slice_index words 3 ≡ value →
+        TellsTarget words result }
+{
+    match head / KIND_UNIT % TAGS {
+        1 => Some((value, Kind::Dir)),
+        2 => Some((value, Kind::File)),
+        3 => Some((value, Kind::Link)),
         _ => None,
     }
 }

@@ -9,7 +9,7 @@ ghost use Rattle.dc_row.specs.declared.TheConstants.{ROW_WORDS, ROW_TEXT};
 ghost use Rattle.dc_row.specs.declared.layout.TheConstants.{KIND_UNIT, LENGTH_UNIT};
 
 use crate::{KIND_UNIT, LENGTH_UNIT, ROW_WORDS, Row, RowLabel, RowText};
-use dc_names::{Kind, Name, pack, parse};
+use dc_names::{Kind, Name, parse};
 
 /// The words of a row, with 0 for its sequence count, or `None` where nothing spells the row.
 ///
@@ -160,6 +160,27 @@ fn last_word(text: &[u8], from: usize) -> u64
     match text.last_chunk::<8>() {
         // The bytes before are shifted out: the end of a loop over so few is often guessed wrong.
         Some(block) => u64::from_le_bytes(*block) >> (8 * (from + 8 - text.len())),
-        None => pack(&text[from..]),
+        None => short_word(&text[from..]),
     }
+}
+
+/// At most eight bytes in one word, with zeros past their end.
+// Inlined, as is `last_word`. Byte by byte it is a loop whose end no processor guesses (measured).
+#[inline(always)]
+fn short_word(bytes: &[u8]) -> u64
+    requires few { length bytes.now ≤ 8 }
+    ensures { result ≡ word_of bytes.now }
+{
+    // The last four, or two, may begin among the first, and what both have is shifted out.
+    if let (Some(first), Some(last)) = (bytes.first_chunk::<4>(), bytes.last_chunk::<4>()) {
+        let low = u64::from(u32::from_le_bytes(*first));
+        let high = u64::from(u32::from_le_bytes(*last)) >> (8 * (8 - bytes.len()));
+        return low + (high << 32);
+    }
+    if let (Some(first), Some(last)) = (bytes.first_chunk::<2>(), bytes.last_chunk::<2>()) {
+        let low = u64::from(u16::from_le_bytes(*first));
+        let high = u64::from(u16::from_le_bytes(*last)) >> (8 * (4 - bytes.len()));
+        return low + (high << 16);
+    }
+    u64::from(bytes.first().copied().unwrap_or(0))
 }

@@ -1,4 +1,4 @@
-use Rattle.std.proofs.Common.{◌≡◌, ◌+◌, ◌-◌, ◌*◌, ◌/◌, ◌^◌, ◌≤◌, drop, length, ap, ◌∙◌, rules}
+use Rattle.std.proofs.Common.{◌≡◌, ◌+◌, ◌-◌, ◌*◌, ◌/◌, ◌^◌, ◌≤◌, drop, length, ap, ◌∙◌, arith, rules}
 use Rattle.std.specs.Int.{from_le_bytes, w64}
 use Rattle.dc_names.specs.Words.{word_of}
 use Rattle.dc_row.proofs.Lasts.{last_bytes}
@@ -11,4 +11,4 @@ returns-in-Some c =
     let long : 8 ≤ length text = search rules in
     let is : c.in-Some.block.now ≡ drop (length text - 8) text = search rules in
     let packed : c.from_le_bytes.result ≡ from_le_bytes w64 (drop (length text - 8) text) = c.from_le_bytes.ensures ∙ ap (from_le_bytes w64) is in
-    ap (λ n. n / 2 ^ (8 * (c.args.from + 8 - length text))) packed ∙ last_bytes text c.args.from long c.requires.few (λ i. (c.type_inv.text i).fits)
+    ap (λ n. n / 2 ^ (8 * (c.args.from + 8 - length text))) packed ∙ last_bytes 8 text c.args.from (omega arith) long c.requires.few (λ i. (c.type_inv.text i).fits)
