@@ -1,4 +1,5 @@
 pub mod Keys
 pub mod Places
+pub mod Powers
 pub mod Kept
 pub mod Chosen

@@ -49,14 +49,13 @@ pub fn bucket_of(key: &Key<'_>, buckets: u64) -> u64
 /// The bucket of a key by its hash. The number of buckets is mostly a power of two, and then nothing is
 /// divided.
 #[must_use]
-// Inlined: three instructions on the path of each look-up.
+// Inlined: a few instructions on the path of each look-up.
 #[inline(always)]
 pub fn bucket_at(hash: u64, buckets: u64) -> u64
     requires { 0 < buckets }
     ensures { result ≡ hash % buckets }
 {
-    let power = buckets.trailing_zeros();
-    if buckets == 1u64.wrapping_shl(power) {
+    if buckets.is_power_of_two() {
         hash & (buckets - 1)
     } else {
         hash % buckets
