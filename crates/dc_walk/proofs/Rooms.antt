@@ -4,7 +4,7 @@ use Rattle.std.proofs.lemmas.Bool.Decides.{nat_tests}
 use Rattle.std.proofs.lemmas.Grind.{common_steps}
 use Rattle.std.proofs.Math.Seq.{drop-append_seam, take-append_seam, take-set-lt}
 use borrow.Rule.Slice.PartMut.{post_of, put_mid, take_put}
-use Rattle.std.proofs.lemmas.List.{get_or_append_left, drop-set-add, drop-take, length-drop, get_or-map, get_or-take, length-map}
+use Rattle.std.proofs.lemmas.List.{get_or_append_left, drop-set-add, drop-take, length-drop, get_or-drop, get_or-map, get_or-take, length-map}
 use Rattle.std.proofs.lemmas.Bool.{or_parts}
 use Rattle.std.specs.List.{list_any}
 use Rattle.dc_names.specs.Bytes.{is_empty, pieces}
@@ -19,8 +19,8 @@ use Rattle.dc_row.specs.Narrow.{told_words, widened, RowsEndInZeros}
 use Rattle.dc_row.specs.Spelling.{fields_of, has_room, has_spelling, TellsOf}
 use Rattle.dc_resolve.specs.Asked.{label_of}
 use Rattle.dc_row.specs.declared.TheConstants.{ROW_WORDS, ROW_TEXT}
-use Rattle.dc_walk.specs.declared.TheConstants.{MOST_BYTES, MOST_USED}
-use Rattle.dc_walk.specs.Rooms.{key_bytes, no_place, no_use, stored_at, used_at, used_in, HasWords, IsBelow, IsRoom, Keeps, Kept, Used}
+use Rattle.dc_walk.specs.declared.TheConstants.{MOST_BYTES, MOST_USED, ROOM_WORDS}
+use Rattle.dc_walk.specs.Rooms.{kept_in, key_bytes, no_place, no_use, stored_at, used_at, used_in, HasWords, IsBelow, IsRoom, Keeps, Kept, Used}
 use Rattle.dc_walk.specs.declared.used.Stored.{Stored}
 
 -- with the same rows a room has words for the same
@@ -115,7 +115,7 @@ same_rows a b end same (s ∷ rows) below =
     λ i. here i ∷ rest i
 
 module _ {rows : List Stored} {len : ℕ} {words : List ℕ} {end : ℕ} (is : IsRoom rows len words end) where
-  few_rows : len ≤ length rows
+  pub few_rows : len ≤ length rows
   few_rows = let few = is.few in let many = is.many in omega arith
 
   below_taken : (i : ℕ) → i < length (take len rows) → IsBelow end (stored_at (take len rows) i)
@@ -184,3 +184,34 @@ module _ {rows : List Stored} {len : ℕ} {words : List ℕ} {end : ℕ} (is : I
 
   pub put_size : (row : List ℕ) (k : ℕ) → length row ≡ ROW_WORDS → length (slice_range (put_mid end k words row) end (end + ROW_WORDS)) ≡ ROW_WORDS
   put_size row k size = ap (λ (ws : List ℕ). length ws) (put_is row k size) ∙ size
+
+-- a row that is kept has a place, and its first four words where they begin
+module _ {rows : List Stored} {len : ℕ} {words : List ℕ} {end : ℕ} (is : IsRoom rows len words end) (r : Kept) (same : kept_in rows len words end ≡ r) (at : ℕ) (l : at < length r.items) where
+  items_so : map (used_in words) (take len rows) ≡ r.items
+  items_so = ap (λ (x : Kept). x.items) same
+
+  kept_there : at < len
+  kept_there = let many = ap (λ (us : List Used). length us) items_so in let all = kept_many rows len words (few_rows is) in omega arith
+
+  pub kept_place : at < MOST_USED
+  kept_place = let there = kept_there in let few = is.few in omega arith
+
+  pub kept_is : used_at r.items at ≡ used_in words (stored_at rows at)
+  kept_is =
+      let many = ap (λ (us : List Used). length us) items_so in
+      ap (λ (us : List Used). used_at us at) (sym items_so) ∙ kept_at rows len words at (few_rows is) (omega arith)
+
+  pub kept_inside : (k : ℕ) → k < 4 → (stored_at rows at).start + k < ROOM_WORDS
+  kept_inside k few = let below = is.below at kept_there in let head = below.head in let within = below.within in let fits = is.fits in omega arith
+
+  pub kept_word : (k : ℕ) → k < 4 → get_or (used_at r.items at).words k 0 ≡ get_or words ((stored_at rows at).start + k) 0
+  kept_word k few =
+      let s = stored_at rows at in let below = is.below at kept_there in let head = below.head in let within = below.within in let fits = is.fits in let size = is.size in
+      let n = s.end - s.start in
+      let long : length (slice_range words s.start s.end) ≡ n = length-take-le n (drop s.start words) (let left = length-drop s.start words in omega arith) in
+      ap (λ (u : Used). get_or u.words k 0) kept_is
+      ∙ (first_word (slice_range words s.start s.end) k (omega arith)
+      ∙ (get_or-take n (drop s.start words) k 0 (omega arith) ∙ get_or-drop s.start words k 0))
+
+  pub kept_first : get_or words (stored_at rows at).start 0 ≡ get_or (used_at r.items at).words 0 0
+  kept_first = let s = stored_at rows at in let same_place : s.start ≡ s.start + 0 = omega arith in ap (λ (n : ℕ). get_or words n 0) same_place ∙ sym (kept_word 0 (omega arith))

@@ -5,15 +5,15 @@ use Rattle.std.proofs.lemmas.Bool.{cases_eq, cases_lt}
 use Rattle.std.proofs.lemmas.List.{get_or_append_left}
 use Rattle.std.proofs.lemmas.Nat.{and_le_l, and_le_r, le_or_l, le_or_r}
 use Rattle.std.specs.Int.Bits.{or_zero_l, xor_add_and, xor_self}
-use Rattle.dc_plain.specs.Facts.{Fact, Key, key_of, label_bytes}
-use Rattle.dc_plain.specs.Facts.Label.{Text}
+use Rattle.dc_plain.specs.Facts.{Fact, Key, Label, key_of, label_bytes}
+use Rattle.dc_plain.specs.Facts.Label.{Entry, Parent, Text}
 use Rattle.dc_plain.specs.Facts.Fact.{Leads, Reads}
 use Rattle.dc_row.specs.declared.TheConstants.{ROW_WORDS}
-use Rattle.dc_row.specs.declared.short.TheConstants.{SHORT_WORDS}
+use Rattle.dc_row.specs.declared.short.TheConstants.{SHORT_TEXT, SHORT_WORDS}
 use Rattle.dc_row.specs.Short.{HasHead, HasText}
 use Rattle.dc_row.specs.Spelling.{fields_of, text_word}
 use Rattle.dc_events.specs.Views.{View}
-use Rattle.dc_walk.specs.Probes.{probed, row_of, AreZero, IsText}
+use Rattle.dc_walk.specs.Probes.{probed, row_of, AreZero, IsShort, IsText}
 use Rattle.dc_walk.specs.declared.probe.Top.{Top}
 
 -- so many words behind the value were read, and what is known of them says whether they are the text's
@@ -122,3 +122,14 @@ first_eight top value text (a ∷ b ∷ c ∷ d ∷ rest) size is = λ i. top.co
 pub text_of_key : (fact : Fact) (key : Key) → key_of fact ≡ key → key.label ≢ Text → (fields_of (Some fact)).text ≡ label_bytes key.label
 text_of_key (Leads d label target) key about other = ap (λ (k : Key). label_bytes k.label) about
 text_of_key (Reads n text) key about other = absurd (other (sym (ap (λ (k : Key). k.label) about)))
+
+-- a short name is no text, and isn't long
+pub short_entry : (label : Label) → IsShort label → label ≢ Text
+short_entry (Entry name) is = λ same. absurd cc
+short_entry Parent is = absurd is
+short_entry Text is = absurd is
+
+pub short_size : (label : Label) → IsShort label → length (label_bytes label) ≤ SHORT_TEXT
+short_size (Entry name) is = is
+short_size Parent is = absurd is
+short_size Text is = absurd is

@@ -1,11 +1,12 @@
 -- What a probe of a row makes of a view.
 use Rattle.std.specs.Prelude.{◌≡◌, ℕ, ◌+◌, ◌-◌, ◌<◌, ◌≤◌, ◌↔◌, List, [], ◌∷◌, ◌++◌, Bool, true, false, Option, Some, None, IsTrue, length, get_or, take, drop}
-use Rattle.dc_plain.specs.Facts.{Key}
+use Rattle.dc_plain.specs.Facts.{Key, Label, label_bytes}
+use Rattle.dc_plain.specs.Facts.Label.{Entry, Parent, Text}
 use Rattle.dc_row.specs.Narrow.{told_words}
-use Rattle.dc_row.specs.Spelling.{TellsOf}
+use Rattle.dc_row.specs.Spelling.{TellsOf, text_word}
 use Rattle.dc_plain.specs.Requests.{Request}
 use Rattle.dc_row.specs.declared.TheConstants.{ROW_WORDS}
-use Rattle.dc_row.specs.declared.short.TheConstants.{SHORT_WORDS}
+use Rattle.dc_row.specs.declared.short.TheConstants.{SHORT_TEXT, SHORT_WORDS}
 use Rattle.dc_events.specs.Views.{Note, Walk, View}
 use Rattle.dc_table.specs.Passes.{Pass, view}
 use Rattle.dc_walk.specs.Rooms.{Kept}
@@ -72,6 +73,17 @@ row_of top value rest = top.count ∷ top.head ∷ top.number ∷ value ∷ rest
 pub record IsText (text rest : List ℕ) : Type 0 where
   pub first : (i : ℕ) → i < length rest → i < SHORT_WORDS → get_or rest i 0 ≡ get_or text i 0
   pub past : (i : ℕ) → i < length rest → SHORT_WORDS ≤ i → get_or rest i 0 ≡ 0
+
+-- a label is a short name
+abbrev pub IsShort : Label → Type 0
+IsShort (Entry name) = length name ≤ SHORT_TEXT
+IsShort Parent = ⊥
+IsShort Text = ⊥
+
+-- if a label is a short name, these words spell it, and no word is needed past them
+pub record SpellsShort (words : List ℕ) (label : Label) : Type 0 where
+  pub first : IsShort label → (i : ℕ) → i < SHORT_WORDS → get_or words i 0 ≡ text_word (label_bytes label) i
+  pub past : IsShort label → (i : ℕ) → SHORT_WORDS ≤ i → text_word (label_bytes label) i ≡ 0
 
 -- a row was read whole, its value and whether its text has these words were seen
 pub record ReadsShort (v w : View) (row : ℕ) (top : Top) (text : List ℕ) (value : ℕ) (is_its : Bool) : Type 0 where

@@ -15,7 +15,7 @@ ghost use Rattle.dc_names.specs.declared.limits.TheConstants.{BUCKET_ROWS};
 ghost use Rattle.dc_walk.specs.declared.TheConstants.{MOST_USED};
 
 use crate::probe::Extent;
-use crate::row::{Seen, look_at};
+use crate::row::{Seen, look_at, words_of};
 use crate::rows::Rows;
 use crate::source::Lane;
 use dc_plain::Key;
@@ -52,9 +52,10 @@ fn ask_rows(
     ensures looked { IfErr result (LookedWhole (now_in rows.new) lane.first (key_shown key.entry)
         extent lane.many) }
 {
+    let short = words_of(key);
     let mut odd = None;
     for k in 0..lane.many {
-        match look_at(rows, lane.first + k, key, hash, extent, earlier, k) {
+        match look_at(rows, lane.first + k, key, &short, hash, extent, earlier, k) {
             Seen::Tells(at) => return Ok(at),
             Seen::Odd => odd = odd.or(Some(lane.first + k)),
             Seen::Other => {}

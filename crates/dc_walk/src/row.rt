@@ -1,18 +1,15 @@
 //! A look at one row for what it tells of a key.
 
-ghost use Rattle.std.specs.Prelude.{◌≡◌, ◌≢◌, ◌<◌, ◌≤◌, ◌+◌, None, length, true};
-ghost use Rattle.dc_plain.specs.Facts.{label_bytes};
-ghost use Rattle.dc_plain.specs.Facts.Label.{Text};
+ghost use Rattle.std.specs.Prelude.{◌≡◌, ◌<◌, ◌+◌, None, length};
 ghost use Rattle.dc_plain.specs.KeysShown.{key_shown};
 ghost use Rattle.dc_resolve.specs.Needs.{IsUntold};
-ghost use Rattle.dc_row.specs.declared.short.TheConstants.{SHORT_TEXT};
 ghost use Rattle.dc_table.specs.Holders.{table_of};
 ghost use Rattle.dc_table.specs.Passes.{known, view, share, Fits, IsIdle, StaysOut};
 ghost use Rattle.dc_table.specs.Shares.{HasNotTried};
 ghost use Rattle.dc_walk.specs.Asking.{GoesOn};
 ghost use Rattle.dc_walk.specs.Filters.{key_hash};
 ghost use Rattle.dc_walk.specs.Findings.{SameRows, IsFinding, now_in, outcome_in, said_in};
-ghost use Rattle.dc_walk.specs.Probes.{IsReadingTop, TakesRow};
+ghost use Rattle.dc_walk.specs.Probes.{IsReadingTop, IsShort, SpellsShort, TakesRow};
 ghost use Rattle.dc_walk.specs.Rooms.{key_bytes, HasWords};
 ghost use Rattle.dc_walk.specs.Sights.{Saw};
 ghost use Rattle.dc_names.specs.declared.limits.TheConstants.{BUCKET_ROWS};
@@ -23,8 +20,8 @@ use crate::rows::Rows;
 use crate::used::Room;
 use dc_plain::{Key, Label};
 use dc_row::{
-    SHORT_TEXT, leads, rows_end_in_zeros, rows_have_their_text, short_words, tells_by_first,
-    told_words, words_have_the_fact_they_spell,
+    SHORT_TEXT, SHORT_WORDS, leads, rows_end_in_zeros, rows_have_their_text, short_words,
+    tells_by_first, told_words, words_have_the_fact_they_spell,
 };
 use dc_table::{Pass, Reader};
 
@@ -38,20 +35,19 @@ pub(crate) enum Seen {
     Tells(usize),
 }
 
-/// Whether a key's row is an entry with a short text.
+/// The words that spell a key's name, if it is short.
 #[inline(always)]
-fn is_short(key: Key<'_>) -> bool
-    ensures { result ≡ true → let label = (key_shown key.entry).label in
-        (label ≢ Text) × (length (label_bytes label) ≤ SHORT_TEXT) }
+pub(crate) fn words_of(key: Key<'_>) -> [u64; SHORT_WORDS]
+    ensures { SpellsShort result (key_shown key.entry).label }
 {
     match key.label {
-        Label::Text => false,
-        Label::Name(_) | Label::DotDot => key.label.bytes().len() <= SHORT_TEXT,
+        Label::Name(name) if name.bytes().len() <= SHORT_TEXT => short_words(name.bytes()),
+        Label::Name(_) | Label::DotDot | Label::Text => [0; SHORT_WORDS],
     }
 }
 
-/// Reads the rest of a row whose top was read, for a key with a short text, and keeps the row if it tells
-/// of the key.
+/// Reads the rest of a row whose top was read, for a key with a short name, which these words spell, and
+/// keeps the row if it tells of the key.
 #[inline(always)]
 fn take_short(
     room: &mut Room,
@@ -61,22 +57,22 @@ fn take_short(
     place: u64,
     top: Top,
     key: Key<'_>,
+    words: &[u64; SHORT_WORDS],
 ) -> Option<usize>
     requires pass { Fits (table_of reader) pass.old × IsIdle pass.old }
     requires row { row < (share pass.old).rows }
     requires reading { IsReadingTop (view pass.old) row top }
     requires some { length room.old.items < MOST_USED }
     requires words { HasWords room.old (key_bytes (key_shown key).label) }
-    requires entry { (key_shown key).label ≢ Text }
-    requires short { length (label_bytes (key_shown key).label) ≤ SHORT_TEXT }
+    requires short { IsShort (key_shown key).label }
+    requires spelled { SpellsShort words.now (key_shown key).label }
     ensures same { StaysOut pass.old pass.new }
     ensures takes { TakesRow pass.old pass.new row place top (key_shown key.entry) room.old room.new result }
 {
     rows_end_in_zeros();
     rows_have_their_text();
     let text = key.label.bytes();
-    let words = short_words(text);
-    let (value, is_its) = read_short(reader, pass, row, top, &words);
+    let (value, is_its) = read_short(reader, pass, row, top, words);
     if !is_its || !leads(top.head, top.number, value, key) {
         return None;
     }
@@ -127,29 +123,42 @@ fn take_in(
     place: u64,
     top: Top,
     key: Key<'_>,
+    words: &[u64; SHORT_WORDS],
 ) -> Option<usize>
     requires pass { Fits (table_of reader) pass.old × IsIdle pass.old }
     requires row { row < (share pass.old).rows }
     requires reading { IsReadingTop (view pass.old) row top }
     requires some { length room.old.items < MOST_USED }
     requires words { HasWords room.old (key_bytes (key_shown key).label) }
+    requires spelled { SpellsShort words.now (key_shown key).label }
     ensures same { StaysOut pass.old pass.new }
     ensures takes { TakesRow pass.old pass.new row place top (key_shown key.entry) room.old room.new result }
 {
-    if is_short(key) {
-        take_short(room, reader, pass, row, place, top, key)
-    } else {
-        take_wide(room, reader, pass, row, place, top, key)
+    match key.label {
+        Label::Name(name) if name.bytes().len() <= SHORT_TEXT => {
+            // Made anew, with a label that the compiler knows: it then tests it no more (measured).
+            let label = Label::Name(name);
+            let key = Key {
+                number: key.number,
+                label,
+            };
+            take_short(room, reader, pass, row, place, top, key, words)
+        }
+        Label::Name(_) | Label::DotDot | Label::Text => {
+            take_wide(room, reader, pass, row, place, top, key)
+        }
     }
 }
 
-/// Looks at a row for what it tells of a key, with the key's hash. Where it does it is the last of the
-/// used ones. So many rows were looked at before, and before this look at the bucket.
+/// Looks at a row for what it tells of a key, with the key's hash and the words of a short name. Where it
+/// does it is the last of the used ones. So many rows were looked at before, and before this look at the
+/// bucket.
 #[inline(always)]
 pub(crate) fn look_at(
     rows: &mut Rows<'_>,
     row: u64,
     key: Key<'_>,
+    short: &[u64; SHORT_WORDS],
     hash: u64,
     extent: Extent,
     earlier: u64,
@@ -158,6 +167,7 @@ pub(crate) fn look_at(
     requires finding { IsFinding rows.old (earlier + before) }
     requires row { row < (share rows.old.pass.now).rows }
     requires hash { hash ≡ key_hash (key_shown key) }
+    requires spelled { SpellsShort short.now (key_shown key).label }
     requires few { before < BUCKET_ROWS }
     requires early { earlier < BUCKET_ROWS + 1 }
     requires room { length rows.old.used.now.items < MOST_USED }
@@ -186,7 +196,16 @@ pub(crate) fn look_at(
         Extent::Head if !may_tell(top, key) => return Seen::Other,
         Extent::Head | Extent::Whole => {}
     }
-    match take_in(rows.used, rows.reader, rows.pass, row, place, top, key) {
+    match take_in(
+        rows.used,
+        rows.reader,
+        rows.pass,
+        row,
+        place,
+        top,
+        key,
+        short,
+    ) {
         Some(at) => {
             rows.filter.add(hash);
             Seen::Tells(at)

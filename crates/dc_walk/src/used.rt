@@ -18,7 +18,7 @@ use crate::probe::{are_past, read_words};
 use crate::{MOST_USED, ROOM_WORDS};
 use dc_names::Kind;
 use dc_plain::Key;
-use dc_row::{ROW_WORDS, number, target, tells_by_first, words_have_the_fact_they_spell};
+use dc_row::{ROW_WORDS, leads_to, number, tells_by_first, words_have_the_fact_they_spell};
 use dc_table::{Pass, Reader};
 use std::marker::Model;
 
@@ -107,7 +107,9 @@ impl Room {
         requires kept { at < length self.now.items }
         ensures { result ≡ (used_at self.now.items at).row }
     {
-        self.rows[..self.len][at].row
+        // For the proof: that there are so few places.
+        let _many = self.many();
+        self.rows[at].row
     }
 
     /// The place of the note of a row that was kept.
@@ -116,7 +118,9 @@ impl Room {
         requires kept { at < length self.now.items }
         ensures { result ≡ (used_at self.now.items at).place }
     {
-        self.rows[..self.len][at].place
+        // For the proof: that there are so few places.
+        let _many = self.many();
+        self.rows[at].place
     }
 
     /// The first words of a row that was kept, with zeros past which it is whole.
@@ -136,7 +140,9 @@ impl Room {
         requires kept { at < length self.now.items }
         ensures { result ≡ slice_index (used_at self.now.items at).words 0 }
     {
-        self.words_at(at)[0]
+        // For the proof: that there are so few places.
+        let _many = self.many();
+        self.words[self.rows[at].start]
     }
 
     /// Where a row that was kept says that its entry leads.
@@ -145,7 +151,10 @@ impl Room {
         requires kept { at < length self.now.items }
         ensures { TellsTarget (used_at self.now.items at).words result }
     {
-        target(self.words_at(at))
+        // For the proof: that there are so few places.
+        let _many = self.many();
+        let start = self.rows[at].start;
+        leads_to(self.words[start + 1], self.words[start + 3])
     }
 
     /// The text of a link that a row that was kept has.
