@@ -70,7 +70,7 @@ pub extern "C" fn gb_look_fast(
     };
     let fast = hold.look_fast(base, path, follow);
     pass.put(hold);
-    tell(found, told_fast(fast))
+    tell(found, told_fast(&fast))
 }
 
 /// Where a path leads, under the lock if the rows don't answer.

@@ -26,13 +26,13 @@ fn a_directory_is_made_and_found(rt: HostRuntime) -> Result<(), Fail> {
     };
     let made = told_change(&hold.try_change(rt.alloc(), &mkdir));
     assert!(rt; made.status == Status::Done && made.found == found(2, 0, 0, 0));
-    let fast = told_fast(hold.look_fast(ROOT, b"/a", Follow::Yes));
+    let fast = told_fast(&hold.look_fast(ROOT, b"/a", Follow::Yes));
     assert!(rt; fast.status == Status::Again && fast.found.why == 1);
     let tried = told_tried(&hold.try_look(rt.alloc(), ROOT, b"/a", Follow::Yes));
     assert!(rt; tried.status == Status::Done && tried.found == found(2, 1, 0, 1));
-    let fast = told_fast(hold.look_fast(ROOT, b"/a", Follow::Yes));
+    let fast = told_fast(&hold.look_fast(ROOT, b"/a", Follow::Yes));
     assert!(rt; fast == tried);
-    let fast = told_fast(hold.look_fast(ROOT, b"", Follow::Yes));
+    let fast = told_fast(&hold.look_fast(ROOT, b"", Follow::Yes));
     assert!(rt; fast.status == Status::Refused(2) && fast.status.number() == 2);
     let stat = told_tried(&hold.try_stat(ROOT, b"/"));
     assert!(rt; stat.found == found(1, 1, 1, 1));
