@@ -6,7 +6,7 @@ ghost use Rattle.dc_names.specs.Paths.{parts_of};
 
 use dc_names::{
     Last, Name, Part, PathText, Refusal, TextFault, first_part_hashed, hash, no_piece_is_longer,
-    pack, parse, parts_are_names_or_dots, unpack,
+    pack, pack_from, parse, parts_are_names_or_dots, unpack,
 };
 use std::alloc::{AllocError, Global};
 use std::test::Fail;
@@ -184,5 +184,6 @@ fn splits_and_hashes_at_once(rt: HostRuntime) -> Result<(), Fail> {
 #[test]
 fn packs_the_first_byte_lowest(rt: HostRuntime) {
     assert_eq!(rt; pack(b"usr"), 7500661);
+    assert_eq!(rt; pack_from(b"/etc/usr", 5), 7500661);
     assert_eq!(rt; unpack(6565678), *b"./d\0\0\0\0\0");
 }

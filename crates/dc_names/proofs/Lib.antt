@@ -5,3 +5,4 @@ pub mod Numbered
 pub mod Packed
 pub mod Short
 pub mod Chunks
+pub mod Lasts

@@ -1,9 +1,9 @@
 -- Bytes in a word and back.
-use Rattle.std.proofs.Common.{◌≡◌, ℕ, zero, suc, ◌+◌, ◌-◌, ◌*◌, ◌^◌, ◌<◌, ◌≤◌, ◌∷◌, [], ◌++◌, List, length, replicate, get_or, drop, refl, sym, subst, ap, ◌∙◌, arith}
-use Rattle.std.specs.Int.{sum_through, byte_worth}
-use Rattle.std.proofs.lemmas.Nat.{le_bytes_8, from_le_bytes-to_le_bytes_8}
-use Rattle.std.proofs.Math.Seq.{drop-cons, drop-length}
-use Rattle.std.proofs.lemmas.List.{get_or-drop, length-drop}
+use Rattle.std.proofs.Common.{◌≡◌, ℕ, zero, suc, ◌+◌, ◌-◌, ◌*◌, ◌/◌, ◌^◌, ◌<◌, ◌≤◌, ◌∷◌, [], ◌++◌, List, length, replicate, get_or, take, drop, length-take, refl, sym, ap, ◌∙◌, arith}
+use Rattle.std.specs.Int.{w16, w32, from_le_bytes, sum_through, byte_worth}
+use Rattle.std.proofs.Math.Nat.{zero-div}
+use Rattle.std.proofs.lemmas.Nat.{le_bytes_8, from_le_bytes-to_le_bytes_8, pow-add, shr_high, shr-shr}
+use Rattle.std.proofs.lemmas.List.{get_or_past}
 use Rattle.std.proofs.lemmas.Grind.{common_steps}
 use Rattle.dc_names.specs.Words.{AreBytes, word_of, bytes_in, padded}
 
@@ -32,37 +32,47 @@ unfolding word_of bytes_in
 word_of-bytes_in n small = from_le_bytes-to_le_bytes_8 n small
 
 -- one byte more before the others
-pub word_of-cons : (b : ℕ) (bs : List ℕ) → length bs ≤ 7 → word_of (b ∷ bs) ≡ word_of bs * 256 + b
+word_of-cons : (b : ℕ) (bs : List ℕ) → length bs ≤ 7 → word_of (b ∷ bs) ≡ word_of bs * 2 ^ 8 + b
 unfolding word_of
 word_of-cons b bs short = let past : get_or bs 7 0 ≡ 0 = grind (arith, common_steps) in omega arith
 
-pub word_of-small : (bs : List ℕ) → length bs ≤ 7 → AreBytes bs → word_of bs < 2 ^ 56
+word_of-none : word_of [] ≡ 0
 unfolding word_of
-word_of-small bs short are =
-    let past : get_or bs 7 0 ≡ 0 = grind (arith, common_steps) in
-    omega (arith, are 0, are 1, are 2, are 3, are 4, are 5, are 6)
+word_of-none = refl
 
--- the bytes from the i-th on
-pub word_of-rest : (bs : List ℕ) (i : ℕ) → 0 < i → i ≤ length bs → length bs ≤ 8 → word_of (drop (i - 1) bs) ≡ word_of (drop i bs) * 256 + get_or bs (i - 1) 0
-word_of-rest bs i pos within short =
-    let next : suc (i - 1) ≡ i = omega arith in
-    let size = length-drop i bs in
-    ap word_of (drop-cons bs (i - 1) 0 (omega arith)) ∙ ap (λ (k : ℕ). word_of (get_or bs (i - 1) 0 ∷ drop k bs)) next ∙ word_of-cons (get_or bs (i - 1) 0) (drop i bs) (omega arith)
+-- a shift by so many bytes loses the first ones
+pub word_of-drop : (k : ℕ) (bs : List ℕ) → length bs ≤ 8 → AreBytes bs → word_of bs / 2 ^ (8 * k) ≡ word_of (drop k bs)
+word_of-drop zero bs short are = omega arith
+word_of-drop (suc k) [] short are = ap (λ (n : ℕ). n / 2 ^ (8 * suc k)) word_of-none ∙ zero-div (2 ^ (8 * suc k)) ∙ sym word_of-none
+word_of-drop (suc k) (b ∷ bs) short are =
+    let first : word_of (b ∷ bs) / 2 ^ 8 ≡ word_of bs = ap (λ (n : ℕ). n / 2 ^ 8) (word_of-cons b bs (omega arith)) ∙ shr_high (word_of bs) 8 b (are 0) in
+    let more : 8 * suc k ≡ 8 + 8 * k = omega arith in
+    ap (λ (n : ℕ). word_of (b ∷ bs) / 2 ^ n) more ∙ sym (shr-shr (word_of (b ∷ bs)) 8 (8 * k)) ∙ ap (λ (n : ℕ). n / 2 ^ (8 * k)) first
+    ∙ word_of-drop k bs (omega arith) (λ i. are (suc i))
 
-pub rest-small : (bs : List ℕ) (i : ℕ) → 0 < i → length bs ≤ 8 → AreBytes bs → word_of (drop i bs) < 2 ^ 56
-rest-small bs i pos short are =
-    let size = length-drop i bs in
-    word_of-small (drop i bs) (omega arith) (λ k. subst (λ (b : ℕ). b < 256) (sym (get_or-drop i bs k 0)) (are (i + k)))
+-- the first ones, and the others past them
+pub word_of-split : (k : ℕ) (bs : List ℕ) → length bs ≤ 8 → word_of bs ≡ word_of (take k bs) + word_of (drop k bs) * 2 ^ (8 * k)
+word_of-split zero bs short = omega (arith, word_of-none)
+word_of-split (suc k) [] short =
+    let first : word_of (take (suc k) []) ≡ 0 = word_of-none in
+    let others : word_of (drop (suc k) []) * 2 ^ (8 * suc k) ≡ 0 * 2 ^ (8 * suc k) = ap (λ (n : ℕ). n * 2 ^ (8 * suc k)) word_of-none in
+    omega (arith, word_of-none)
+word_of-split (suc k) (b ∷ bs) short =
+    let few : length (take k bs) ≤ 7 = omega (arith, length-take {A = ℕ}) in
+    let more : 8 * suc k ≡ 8 + 8 * k = omega arith in
+    let power : 2 ^ (8 * suc k) ≡ 2 ^ 8 * 2 ^ (8 * k) = ap (λ (n : ℕ). 2 ^ n) more ∙ pow-add 2 8 (8 * k) in
+    let worth : word_of (drop k bs) * 2 ^ (8 * suc k) ≡ word_of (drop k bs) * (2 ^ 8 * 2 ^ (8 * k)) = ap (λ (n : ℕ). word_of (drop k bs) * n) power in
+    omega (arith, word_of-cons b bs (omega arith), word_of-split k bs (omega arith), word_of-cons b (take k bs) few)
 
--- no byte is packed yet
-pub none_packed : (bs : List ℕ) → 0 ≡ word_of (drop (length bs) bs)
+-- few bytes are no more in a longer word
+pub word_of-4 : (bs : List ℕ) → length bs ≤ 4 → from_le_bytes w32 bs ≡ word_of bs
 unfolding word_of
-none_packed bs = rw (drop-length bs) refl
+word_of-4 bs short = omega (arith, get_or_past bs 4 0 short, get_or_past bs 5 0 (omega arith), get_or_past bs 6 0 (omega arith), get_or_past bs 7 0 (omega arith))
 
--- with the bytes from the i-th on packed, there is room for one more
-pub room_packed : (bs : List ℕ) (i word : ℕ) → 0 < i → length bs ≤ 8 → AreBytes bs → word ≡ word_of (drop i bs) → word * 256 + 255 < 2 ^ 64
-room_packed bs i word pos short are is = let small = rest-small bs i pos short are in omega arith
+pub word_of-2 : (bs : List ℕ) → length bs ≤ 2 → from_le_bytes w16 bs ≡ word_of bs
+unfolding word_of
+word_of-2 bs short = omega (arith, get_or_past bs 2 0 short, get_or_past bs 3 0 (omega arith), get_or_past bs 4 0 (omega arith), get_or_past bs 5 0 (omega arith), get_or_past bs 6 0 (omega arith), get_or_past bs 7 0 (omega arith))
 
--- all bytes are packed
-pub all_packed : (bs : List ℕ) (i word : ℕ) → i ≡ 0 → length bs ≤ 8 → AreBytes bs → word ≡ word_of (drop i bs) → bytes_in word ≡ padded bs
-all_packed bs i word none short are is = rw (is, none) (bytes_in-word_of bs short are)
+pub word_of-1 : (bs : List ℕ) → length bs ≤ 1 → get_or bs 0 0 ≡ word_of bs
+unfolding word_of
+word_of-1 bs short = omega (arith, get_or_past bs 1 0 short, get_or_past bs 2 0 (omega arith), get_or_past bs 3 0 (omega arith), get_or_past bs 4 0 (omega arith), get_or_past bs 5 0 (omega arith), get_or_past bs 6 0 (omega arith), get_or_past bs 7 0 (omega arith))

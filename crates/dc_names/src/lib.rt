@@ -31,4 +31,4 @@ pub use path::{PathText, parse};
 pub use refusal::Refusal;
 pub use sizes::{MakeFault, are_right};
 pub use tables::{MOST_TABLE_BUCKETS, MOST_TABLE_ROWS, fit_a_table};
-pub use words::{pack, unpack};
+pub use words::{pack, pack_from, unpack};

@@ -9,7 +9,6 @@ pub mod Paths
 pub mod Texts
 pub mod Lanes
 pub mod Empty
-pub mod Lasts
 pub mod Entries
 pub mod Firsts
 pub mod Roomed

@@ -1,7 +1,7 @@
 //! The words that spell a row.
 
-ghost use Rattle.std.specs.Prelude.{◌≡◌, ◌≤◌, ◌<◌, ◌↔◌, ◌+◌, ◌*◌, length, drop, slice_index, Some, IfSome, IsSome, IsTrue};
-ghost use Rattle.dc_names.specs.Words.{AreBytes, word_of};
+ghost use Rattle.std.specs.Prelude.{◌≡◌, ◌≤◌, ◌<◌, ◌↔◌, ◌+◌, ◌*◌, length, slice_index, Some, IfSome, IsSome, IsTrue};
+ghost use Rattle.dc_names.specs.Words.{AreBytes};
 ghost use Rattle.dc_plain.specs.Facts.Fact.{Reads};
 ghost use Rattle.dc_row.specs.Rows.{row_shown};
 ghost use Rattle.dc_row.specs.Spelling.{Spells, has_spelling, is_numbered, kind_code, target_number, text_word, fields, IsSpelled};
@@ -9,7 +9,7 @@ ghost use Rattle.dc_row.specs.declared.TheConstants.{ROW_WORDS, ROW_TEXT};
 ghost use Rattle.dc_row.specs.declared.layout.TheConstants.{KIND_UNIT, LENGTH_UNIT};
 
 use crate::{KIND_UNIT, LENGTH_UNIT, ROW_WORDS, Row, RowLabel, RowText};
-use dc_names::{Kind, Name, parse};
+use dc_names::{Kind, Name, pack_from, parse};
 
 /// The words of a row, with 0 for its sequence count, or `None` where nothing spells the row.
 ///
@@ -145,42 +145,6 @@ pub(crate) fn text_word(text: &[u8], at: usize) -> u64
     }
     match text[from..].first_chunk::<8>() {
         Some(block) => u64::from_le_bytes(*block),
-        None => last_word(text, from),
+        None => pack_from(text, from),
     }
-}
-
-/// The bytes of a text from one of its last eight on, in one word.
-// Inlined, as is `text_word`: it has one caller.
-#[inline(always)]
-fn last_word(text: &[u8], from: usize) -> u64
-    requires some { from < length text.now }
-    requires few { length text.now ≤ from + 8 }
-    ensures { result ≡ word_of (drop from text.now) }
-{
-    match text.last_chunk::<8>() {
-        // The bytes before are shifted out: the end of a loop over so few is often guessed wrong.
-        Some(block) => u64::from_le_bytes(*block) >> (8 * (from + 8 - text.len())),
-        None => short_word(&text[from..]),
-    }
-}
-
-/// At most eight bytes in one word, with zeros past their end.
-// Inlined, as is `last_word`. Byte by byte it is a loop whose end no processor guesses (measured).
-#[inline(always)]
-fn short_word(bytes: &[u8]) -> u64
-    requires few { length bytes.now ≤ 8 }
-    ensures { result ≡ word_of bytes.now }
-{
-    // The last four, or two, may begin among the first, and what both have is shifted out.
-    if let (Some(first), Some(last)) = (bytes.first_chunk::<4>(), bytes.last_chunk::<4>()) {
-        let low = u64::from(u32::from_le_bytes(*first));
-        let high = u64::from(u32::from_le_bytes(*last)) >> (8 * (8 - bytes.len()));
-        return low + (high << 32);
-    }
-    if let (Some(first), Some(last)) = (bytes.first_chunk::<2>(), bytes.last_chunk::<2>()) {
-        let low = u64::from(u16::from_le_bytes(*first));
-        let high = u64::from(u16::from_le_bytes(*last)) >> (8 * (4 - bytes.len()));
-        return low + (high << 16);
-    }
-    u64::from(bytes.first().copied().unwrap_or(0))
 }

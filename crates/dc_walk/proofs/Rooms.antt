@@ -19,7 +19,7 @@ use Rattle.dc_row.specs.Narrow.{told_words, widened, RowsEndInZeros}
 use Rattle.dc_row.specs.Spelling.{fields_of, has_room, has_spelling, TellsOf}
 use Rattle.dc_resolve.specs.Asked.{label_of}
 use Rattle.dc_row.specs.declared.TheConstants.{ROW_WORDS, ROW_TEXT}
-use Rattle.dc_walk.specs.declared.TheConstants.{MOST_BYTES, MOST_USED, ROOM_WORDS}
+use Rattle.dc_walk.specs.declared.TheConstants.{MOST_BYTES, MOST_USED}
 use Rattle.dc_walk.specs.Rooms.{kept_in, key_bytes, no_place, no_use, stored_at, used_at, used_in, HasWords, IsBelow, IsRoom, Keeps, Kept, Used}
 use Rattle.dc_walk.specs.declared.used.Stored.{Stored}
 
@@ -193,16 +193,10 @@ module _ {rows : List Stored} {len : ℕ} {words : List ℕ} {end : ℕ} (is : I
   kept_there : at < len
   kept_there = let many = ap (λ (us : List Used). length us) items_so in let all = kept_many rows len words (few_rows is) in omega arith
 
-  pub kept_place : at < MOST_USED
-  kept_place = let there = kept_there in let few = is.few in omega arith
-
   pub kept_is : used_at r.items at ≡ used_in words (stored_at rows at)
   kept_is =
       let many = ap (λ (us : List Used). length us) items_so in
       ap (λ (us : List Used). used_at us at) (sym items_so) ∙ kept_at rows len words at (few_rows is) (omega arith)
-
-  pub kept_inside : (k : ℕ) → k < 4 → (stored_at rows at).start + k < ROOM_WORDS
-  kept_inside k few = let below = is.below at kept_there in let head = below.head in let within = below.within in let fits = is.fits in omega arith
 
   pub kept_word : (k : ℕ) → k < 4 → get_or (used_at r.items at).words k 0 ≡ get_or words ((stored_at rows at).start + k) 0
   kept_word k few =

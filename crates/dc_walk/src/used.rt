@@ -107,7 +107,7 @@ impl Room {
         requires kept { at < length self.now.items }
         ensures { result ≡ (used_at self.now.items at).row }
     {
-        // For the proof: that there are so few places.
+        // For the proof, here and in the accessors below: that there are so few places.
         let _many = self.many();
         self.rows[at].row
     }
@@ -118,7 +118,6 @@ impl Room {
         requires kept { at < length self.now.items }
         ensures { result ≡ (used_at self.now.items at).place }
     {
-        // For the proof: that there are so few places.
         let _many = self.many();
         self.rows[at].place
     }
@@ -140,7 +139,6 @@ impl Room {
         requires kept { at < length self.now.items }
         ensures { result ≡ slice_index (used_at self.now.items at).words 0 }
     {
-        // For the proof: that there are so few places.
         let _many = self.many();
         self.words[self.rows[at].start]
     }
@@ -151,7 +149,6 @@ impl Room {
         requires kept { at < length self.now.items }
         ensures { TellsTarget (used_at self.now.items at).words result }
     {
-        // For the proof: that there are so few places.
         let _many = self.many();
         let start = self.rows[at].start;
         leads_to(self.words[start + 1], self.words[start + 3])

@@ -17,4 +17,4 @@ returns-in-Some c =
 pub returns-in-None : goal.returns-in-None
 returns-in-None c =
     let few : length c.args.text.now ≤ 8 * c.args.at + 8 = grind (arith, common_steps) in
-    c.last_word.ensures ∙ sym (ap word_of (take_all 8 (drop (8 * c.args.at) c.args.text.now) (omega (arith, length-drop (8 * c.args.at) c.args.text.now))))
+    c.pack_from.ensures ∙ sym (ap word_of (take_all 8 (drop (8 * c.args.at) c.args.text.now) (omega (arith, length-drop (8 * c.args.at) c.args.text.now))))

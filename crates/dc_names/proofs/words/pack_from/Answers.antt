@@ -1,8 +1,8 @@
 use Rattle.std.proofs.Common.{◌≡◌, ◌+◌, ◌-◌, ◌*◌, ◌/◌, ◌^◌, ◌≤◌, drop, length, ap, ◌∙◌, arith, rules}
 use Rattle.std.specs.Int.{from_le_bytes, w64}
 use Rattle.dc_names.specs.Words.{word_of}
-use Rattle.dc_row.proofs.Lasts.{last_bytes}
-use Rattle.dc_row.proofs.writing.last_word.Goals as goal
+use Rattle.dc_names.proofs.Lasts.{last_bytes}
+use Rattle.dc_names.proofs.words.pack_from.Goals as goal
 
 pub returns-in-Some : goal.returns-in-Some
 unfolding word_of

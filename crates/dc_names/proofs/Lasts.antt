@@ -3,7 +3,7 @@ use Rattle.std.proofs.Common.{◌≡◌, ℕ, ◌+◌, ◌-◌, ◌*◌, ◌/◌
 use Rattle.std.proofs.lemmas.List.{drop-drop, get_or-drop, length-drop}
 use Rattle.std.proofs.lemmas.Nat.{shl_whole, shr_le}
 use Rattle.dc_names.specs.Words.{AreBytes, word_of}
-use Rattle.dc_row.proofs.Packed.{word_of-drop, word_of-split}
+use Rattle.dc_names.proofs.Packed.{word_of-drop, word_of-split}
 
 -- the last `w` bytes without those before the given one
 pub last_bytes : (w : ℕ) (text : List ℕ) (from : ℕ) → w ≤ 8 → w ≤ length text → length text ≤ from + w → AreBytes text → word_of (drop (length text - w) text) / 2 ^ (8 * (from + w - length text)) ≡ word_of (drop from text)
