@@ -1,6 +1,7 @@
 //! The tests that changes make of a store and of their paths, each with its refusal.
 
-ghost use Rattle.std.specs.Prelude.{◌≡◌, ◌≤◌, true, false, None, Some, is_some, IfOk, IfErr, OnOk};
+ghost use Rattle.std.specs.Prelude.{◌≡◌, ◌≤◌, true, false, None, Some, is_some, IfOk, IfErr, IfSome, OnOk};
+ghost use Rattle.dc_ops.specs.Known.{IsKnownOn};
 ghost use Rattle.dc_names.specs.Lasts.{last_shown, name_or, name_or_each};
 ghost use Rattle.dc_names.specs.Lasts.Last.{Name as Named};
 ghost use Rattle.dc_names.specs.Refusals.{Gives};
@@ -12,6 +13,7 @@ ghost use Rattle.dc_plain.specs.Spots.{where_shown};
 ghost use Rattle.dc_plain.specs.Trees.{entry_of, target_at, names_of};
 ghost use Rattle.dc_ops.specs.Found.{number_at};
 
+use crate::Known;
 use crate::finder::entry;
 use crate::paths::{path_of, place_path};
 use dc_names::{Last, Name, Refusal};
@@ -29,12 +31,14 @@ pub(crate) fn refuse(test: bool, refusal: Refusal) -> Result<(), Refusal>
 /// Where a text's last part is to be looked up, or its refusal.
 pub(crate) fn place_text<'p, S: Store>(
     store: &S,
+    known: Option<Known<'_>>,
     base: u64,
     text: &'p [u8],
 ) -> Result<Where<'p>, Refusal>
+    requires known { IfSome known (IsKnownOn (S.tree store.now)) }
     ensures { Gives result where_shown (where_on (S.tree store.now) base text.now) }
 {
-    place_path(store, base, path_of(text)?)
+    place_path(store, known, base, path_of(text)?)
 }
 
 /// The name that a path ends in, or else this refusal.

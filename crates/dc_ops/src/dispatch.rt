@@ -1,15 +1,16 @@
 //! Plans of all changes.
 
-ghost use Rattle.std.specs.Prelude.{IfOk, IfErr};
+ghost use Rattle.std.specs.Prelude.{IfOk, IfErr, IfSome};
 ghost use Rattle.dc_plain.specs.Requests.{request_of};
 ghost use Rattle.dc_ops.specs.Asked.{IsChange};
+ghost use Rattle.dc_ops.specs.Known.{IsKnownOn};
 ghost use Rattle.dc_ops.specs.Plans.{Plans, CallTakesNoMemory};
 ghost use Rattle.dc_ops.specs.Settled.{DeclinesCall, FoundTakesNoMemory, SettlesCallIf};
 
-use crate::Plan;
 use crate::makes::{plan_link, plan_make, plan_symlink};
 use crate::renames::plan_rename;
 use crate::takes::{plan_rmdir, plan_unlink};
+use crate::{Known, Plan};
 use dc_names::Refusal;
 use dc_plain::{Call, Reply, alters_tells_whether_trees_differ, names_in_directories_are_in_order};
 use dc_store::{New, Store};
@@ -24,9 +25,26 @@ pub fn plan<'a, S: Store>(store: &S, call: &Call<'a>, max_inodes: u64) -> Result
     ensures declined { IfErr result (λ reply.
         DeclinesCall max_inodes (S.tree store.now) call.now reply) }
 {
+    plan_knowing(store, call, max_inodes, None)
+}
+
+/// The plan of a change, as `plan`, for a caller that knows where a path leads. The store isn't asked for
+/// the directory of a name whose path is that one and the name.
+pub fn plan_knowing<'a, S: Store>(
+    store: &S,
+    call: &Call<'a>,
+    max_inodes: u64,
+    known: Option<Known<'_>>,
+) -> Result<Plan<'a>, Reply>
+    requires change { IsChange call.now }
+    requires known { IfSome known (IsKnownOn (S.tree store.now)) }
+    ensures planned { IfOk result (Plans max_inodes (S.tree store.now) (request_of call.now)) }
+    ensures declined { IfErr result (λ reply.
+        DeclinesCall max_inodes (S.tree store.now) call.now reply) }
+{
     alters_tells_whether_trees_differ();
     names_in_directories_are_in_order();
-    match found(store, call, max_inodes) {
+    match found(store, call, max_inodes, known) {
         Ok(Some(plan)) => Ok(plan),
         Ok(None) => Err(Reply::Unit),
         Err(refusal) => Err(Reply::Refused(refusal.number())),
@@ -38,26 +56,42 @@ fn found<'a, S: Store>(
     store: &S,
     call: &Call<'a>,
     max_inodes: u64,
+    known: Option<Known<'_>>,
 ) -> Result<Option<Plan<'a>>, Refusal>
-    requires { IsChange call.now }
+    requires change { IsChange call.now }
+    requires known { IfSome known (IsKnownOn (S.tree store.now)) }
     ensures settled { SettlesCallIf max_inodes (S.tree store.now) (request_of call.now) result }
     ensures without_memory { CallTakesNoMemory (request_of call.now) → FoundTakesNoMemory result }
 {
     Ok(match *call {
-        Call::Mkdir { base, path } => Some(plan_make(store, base, path, New::Dir, max_inodes)?),
-        Call::Create { base, path } => Some(plan_make(store, base, path, New::File, max_inodes)?),
+        Call::Mkdir { base, path } => Some(plan_make(
+            store,
+            known,
+            base,
+            path,
+            New::Dir,
+            max_inodes,
+        )?),
+        Call::Create { base, path } => Some(plan_make(
+            store,
+            known,
+            base,
+            path,
+            New::File,
+            max_inodes,
+        )?),
         Call::Symlink { base, text, path } => {
-            Some(plan_symlink(store, base, text, path, max_inodes)?)
+            Some(plan_symlink(store, known, base, text, path, max_inodes)?)
         }
-        Call::Link { base, old, new } => Some(plan_link(store, base, old, new)?),
-        Call::Unlink { base, path } => Some(plan_unlink(store, base, path)?),
-        Call::Rmdir { base, path } => Some(plan_rmdir(store, base, path)?),
+        Call::Link { base, old, new } => Some(plan_link(store, known, base, old, new)?),
+        Call::Unlink { base, path } => Some(plan_unlink(store, known, base, path)?),
+        Call::Rmdir { base, path } => Some(plan_rmdir(store, known, base, path)?),
         Call::Rename {
             base,
             old,
             new,
             flags,
-        } => plan_rename(store, base, old, new, flags)?,
+        } => plan_rename(store, known, base, old, new, flags)?,
         // A read has no plan, and the caller knows that this is a change.
         Call::Look { .. } | Call::Readlink { .. } | Call::Stat { .. } | Call::List { .. } => {
             unreachable!()

@@ -6,6 +6,7 @@ mod dispatch;
 mod effects;
 mod finder;
 mod keys;
+mod known;
 mod makes;
 mod paths;
 mod plans;
@@ -14,8 +15,9 @@ mod renames;
 mod takes;
 
 pub use dc_plain::{Call, Flags, Key, Label, Reply};
-pub use dispatch::plan;
+pub use dispatch::{plan, plan_knowing};
 pub use effects::carry;
 pub use finder::StoreFinder;
+pub use known::Known;
 pub use plans::{Moved, Plan};
 pub use reads::{ask, look_by, seek};

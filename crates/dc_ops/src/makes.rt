@@ -1,6 +1,7 @@
 //! Plans of entries that come.
 
-ghost use Rattle.std.specs.Prelude.{◌≡◌, nat_le, false, Some};
+ghost use Rattle.std.specs.Prelude.{◌≡◌, nat_le, false, Some, IfSome};
+ghost use Rattle.dc_ops.specs.Known.{IsKnownOn};
 ghost use Rattle.dc_plain.specs.Requests.Request.{Hard_link, Symlink};
 ghost use Rattle.dc_plain.specs.Resolution.{is_directory};
 ghost use Rattle.dc_plain.specs.Trees.{names_of, target_at};
@@ -8,9 +9,9 @@ ghost use Rattle.dc_names.specs.declared.limits.TheConstants.{MOST_NAMES};
 ghost use Rattle.dc_ops.specs.Makes.{MakesInode, SettlesMade, may_end_in_slash};
 ghost use Rattle.dc_ops.specs.Settled.{SettlesCall, SettlesUnlimited};
 
-use crate::Plan;
 use crate::conditions::{is_full, is_there, name_or, place_text, present, refuse};
 use crate::paths::{path_of, place_path};
+use crate::{Known, Plan};
 use dc_names::Refusal;
 use dc_plain::{MOST_NAMES, Target, is_directory, paths_lead_to_the_living};
 use dc_store::{New, Store};
@@ -18,16 +19,18 @@ use dc_store::{New, Store};
 /// The plan of an entry for a new inode.
 pub(crate) fn plan_make<'a, S: Store>(
     store: &S,
+    known: Option<Known<'_>>,
     base: u64,
     path: &'a [u8],
     new: New<'a>,
     max_inodes: u64,
 ) -> Result<Plan<'a>, Refusal>
-    requires { MakesInode new }
+    requires new { MakesInode new }
+    requires known { IfSome known (IsKnownOn (S.tree store.now)) }
     ensures { SettlesMade max_inodes (S.tree store.now) base path.now new.entry result }
 {
     paths_lead_to_the_living();
-    let at = place_text(store, base, path)?;
+    let at = place_text(store, known, base, path)?;
     let name = name_or(Refusal::Exists, at.last)?;
     refuse(is_there(store, at.dir, name), Refusal::Exists)?;
     refuse(at.slash && !may_end_in_slash(new), Refusal::NotFound)?;
@@ -50,32 +53,36 @@ fn may_end_in_slash(new: New<'_>) -> bool
 /// The plan of a new symbolic link.
 pub(crate) fn plan_symlink<'a, S: Store>(
     store: &S,
+    known: Option<Known<'_>>,
     base: u64,
     text: &'a [u8],
     path: &'a [u8],
     max_inodes: u64,
 ) -> Result<Plan<'a>, Refusal>
+    requires known { IfSome known (IsKnownOn (S.tree store.now)) }
     ensures { SettlesCall max_inodes (S.tree store.now) (Symlink base text.now path.now) result }
 {
     // The text's fault is refused before the path is looked at.
     let text = path_of(text)?;
-    plan_make(store, base, path, New::Link(text), max_inodes)
+    plan_make(store, known, base, path, New::Link(text), max_inodes)
 }
 
 /// The plan of a further name.
 pub(crate) fn plan_link<'a, S: Store>(
     store: &S,
+    known: Option<Known<'_>>,
     base: u64,
     old: &'a [u8],
     new: &'a [u8],
 ) -> Result<Plan<'a>, Refusal>
+    requires known { IfSome known (IsKnownOn (S.tree store.now)) }
     ensures { SettlesUnlimited (S.tree store.now) (Hard_link base old.now new.now) result }
 {
     paths_lead_to_the_living();
     let old_path = path_of(old)?;
     let new_path = path_of(new)?;
-    let from = place_path(store, base, old_path)?;
-    let to = place_path(store, base, new_path)?;
+    let from = place_path(store, known, base, old_path)?;
+    let to = place_path(store, known, base, new_path)?;
     let old_name = name_or(Refusal::NotPermitted, from.last)?;
     let new_name = name_or(Refusal::Exists, to.last)?;
     let inode = present(store, from.dir, old_name)?;

@@ -1,16 +1,18 @@
 //! Where paths lead on a store.
 
-ghost use Rattle.std.specs.Prelude.{◌≡◌, IfOk};
+ghost use Rattle.std.specs.Prelude.{◌≡◌, IfOk, IfSome};
+ghost use Rattle.dc_ops.specs.Known.{IsKnownOn};
 ghost use Rattle.dc_names.specs.Paths.{path_in};
 ghost use Rattle.dc_names.specs.Refusals.{Gives};
 ghost use Rattle.dc_plain.specs.Ends.{end_on};
 ghost use Rattle.dc_plain.specs.Refusals.{path_or_fault, place_on};
 ghost use Rattle.dc_plain.specs.Spots.{where_shown};
 
+use crate::Known;
 use crate::finder::StoreFinder;
 use dc_names::{PathText, Refusal, parse};
 use dc_plain::{Follow, Target, Where};
-use dc_resolve::{Placed, Walked, place, walk};
+use dc_resolve::{Placed, Walked, place, place_in, walk};
 use dc_store::Store;
 
 /// The path of a text, or the refusal of its first fault.
@@ -42,15 +44,23 @@ pub(crate) fn walk_path<S: Store>(
     }
 }
 
-/// Where the last part of a path is to be looked up, or the path's refusal.
+/// Where the last part of a path is to be looked up, or the path's refusal. Where the directory is known
+/// the store isn't asked.
 pub(crate) fn place_path<'p, S: Store>(
     store: &S,
+    known: Option<Known<'_>>,
     base: u64,
     path: PathText<'p>,
 ) -> Result<Where<'p>, Refusal>
+    requires known { IfSome known (IsKnownOn (S.tree store.now)) }
     ensures { Gives result where_shown
         (place_on (S.tree store.now) base (path_in path.entry.bytes.now)) }
 {
+    if let Some(known) = known
+        && known.is_front_of(base, path)
+    {
+        return Ok(place_in(known.dir, path));
+    }
     let mut finder = StoreFinder { store };
     let placed = place(&mut finder, base, path);
     let StoreFinder { store: _ } = finder;

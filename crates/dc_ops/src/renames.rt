@@ -9,6 +9,7 @@ ghost use Rattle.dc_plain.specs.Resolution.{is_directory};
 ghost use Rattle.dc_plain.specs.Spots.{spot_at, spot_shown};
 ghost use Rattle.dc_plain.specs.TouchedKeys.{keys_gone, with_number};
 ghost use Rattle.dc_plain.specs.Trees.{is_live_directory, names_of, target_at, entry_number};
+ghost use Rattle.dc_ops.specs.Known.{IsKnownOn};
 ghost use Rattle.dc_ops.specs.Renames.{lies_beneath, SettlesMove, SettlesSwap};
 ghost use Rattle.dc_ops.specs.Settled.{FoundTakesNoMemory, SettlesUnlimitedIf};
 
@@ -16,7 +17,7 @@ use crate::conditions::{name_or_each, present, refuse};
 use crate::finder::entry;
 use crate::paths::{path_of, place_path};
 use crate::takes::{is_empty, lost_key};
-use crate::{Moved, Plan};
+use crate::{Known, Moved, Plan};
 use dc_names::{Name, Refusal};
 use dc_plain::{
     Flags, Key, Spot, Target, Where, directories_have_one_holder, is_directory,
@@ -27,11 +28,13 @@ use dc_store::Store;
 /// The plan of a rename, or none where both names lead to one inode.
 pub(crate) fn plan_rename<'a, S: Store>(
     store: &S,
+    known: Option<Known<'_>>,
     base: u64,
     old: &'a [u8],
     new: &'a [u8],
     flags: Flags,
 ) -> Result<Option<Plan<'a>>, Refusal>
+    requires known { IfSome known (IsKnownOn (S.tree store.now)) }
     ensures settled { SettlesUnlimitedIf (S.tree store.now)
         (Rename base old.now new.now flags) result }
     ensures without_memory { IsTrue flags.exchange → FoundTakesNoMemory result }
@@ -40,8 +43,8 @@ pub(crate) fn plan_rename<'a, S: Store>(
     refuse(flags.no_replace && flags.exchange, Refusal::Invalid)?;
     let old_path = path_of(old)?;
     let new_path = path_of(new)?;
-    let from = place_path(store, base, old_path)?;
-    let to = place_path(store, base, new_path)?;
+    let from = place_path(store, known, base, old_path)?;
+    let to = place_path(store, known, base, new_path)?;
     let old_name = name_or_each(Refusal::Busy, Refusal::Invalid, Refusal::Invalid, from.last)?;
     let new_name = name_or_each(Refusal::Busy, Refusal::Invalid, Refusal::Invalid, to.last)?;
     let moved = present(store, from.dir, old_name)?;

@@ -1,6 +1,7 @@
 //! Plans of entries that go.
 
-ghost use Rattle.std.specs.Prelude.{◌≡◌, ◌==◌, ◌≤◌, true, Some, IfOk};
+ghost use Rattle.std.specs.Prelude.{◌≡◌, ◌==◌, ◌≤◌, true, Some, IfOk, IfSome};
+ghost use Rattle.dc_ops.specs.Known.{IsKnownOn};
 ghost use Rattle.dc_names.specs.Bytes.{is_empty};
 ghost use Rattle.dc_plain.specs.IsWellFormed.{IsWellFormed};
 ghost use Rattle.dc_plain.specs.KeysShown.{keys_in};
@@ -11,8 +12,8 @@ ghost use Rattle.dc_plain.specs.Trees.{names_in, names_of, target_at};
 ghost use Rattle.dc_ops.specs.Plans.{PlanTakesNoMemory};
 ghost use Rattle.dc_ops.specs.Settled.{SettlesUnlimited};
 
-use crate::Plan;
 use crate::conditions::{name_or, name_or_each, place_text, present, refuse};
+use crate::{Known, Plan};
 use dc_names::Refusal;
 use dc_plain::{Key, Target, is_directory};
 use dc_store::Store;
@@ -20,13 +21,15 @@ use dc_store::Store;
 /// The plan of a name that goes.
 pub(crate) fn plan_unlink<'a, S: Store>(
     store: &S,
+    known: Option<Known<'_>>,
     base: u64,
     path: &'a [u8],
 ) -> Result<Plan<'a>, Refusal>
+    requires known { IfSome known (IsKnownOn (S.tree store.now)) }
     ensures settled { SettlesUnlimited (S.tree store.now) (Unlink base path.now) result }
     ensures without_memory { IfOk result PlanTakesNoMemory }
 {
-    let at = place_text(store, base, path)?;
+    let at = place_text(store, known, base, path)?;
     let name = name_or(Refusal::NotPermitted, at.last)?;
     let inode = present(store, at.dir, name)?;
     refuse(is_directory(inode), Refusal::NotPermitted)?;
@@ -42,13 +45,15 @@ pub(crate) fn plan_unlink<'a, S: Store>(
 /// The plan of an empty directory that goes.
 pub(crate) fn plan_rmdir<'a, S: Store>(
     store: &S,
+    known: Option<Known<'_>>,
     base: u64,
     path: &'a [u8],
 ) -> Result<Plan<'a>, Refusal>
+    requires known { IfSome known (IsKnownOn (S.tree store.now)) }
     ensures settled { SettlesUnlimited (S.tree store.now) (Rmdir base path.now) result }
     ensures without_memory { IfOk result PlanTakesNoMemory }
 {
-    let at = place_text(store, base, path)?;
+    let at = place_text(store, known, base, path)?;
     let name = name_or_each(Refusal::Busy, Refusal::Invalid, Refusal::NotEmpty, at.last)?;
     let inode = present(store, at.dir, name)?;
     refuse(!is_directory(inode), Refusal::NotDirectory)?;

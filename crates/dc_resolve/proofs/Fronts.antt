@@ -2,13 +2,22 @@
 use Rattle.std.proofs.Common.{◌≡◌, ℕ, suc, ◌-◌, ◌<◌, ◌≤◌, ◌==◌, ◌&&◌, ◌||◌, inl, inr, ◌∷◌, [], ◌++◌, List, drop, get_or, map, length, slice_get, take, Bool, true, false, cond, not, Option, Some, None, IfNone, refl, ap, sym, ◌∙◌, arith, rules, append_assoc, length-append}
 use Rattle.std.proofs.Math.Seq.{drop-append_seam, take-length}
 use Rattle.std.specs.List.{onto_first, list_any, list_all, filter}
-use Rattle.std.proofs.lemmas.List.{append-nil, map-append}
+use Rattle.std.proofs.lemmas.List.{append-nil, map-append, take-append-drop}
 use Rattle.std.proofs.lemmas.List.Elements.{filter-append}
 use Rattle.std.proofs.lemmas.List.Folds.{list_all-append}
 use Rattle.std.proofs.lemmas.List.Splits.{length-slice_split}
 use Rattle.dc_names.specs.Bytes.{pieces, is_empty, is_part, has_parts}
 use Rattle.dc_names.specs.Paths.{Part, ends_in_slash, part_of, parts_of, words_of}
-use Rattle.dc_resolve.specs.Fronts.{IsFront}
+use Rattle.dc_resolve.specs.Fronts.{Begins, IsFront}
+
+pub begins_itself : (text : List ℕ) → Begins text text
+begins_itself text = ([], sym (append-nil text))
+
+pub begins_shorter : (front text : List ℕ) (n : ℕ) → Begins front text → Begins (take n front) text
+begins_shorter front text n b = (drop n front ++ b.0, b.1 ∙ ap (λ (xs : List ℕ). xs ++ b.0) (sym (take-append-drop n front)) ∙ append_assoc (take n front) (drop n front) b.0)
+
+pub begins_again : (front mid text : List ℕ) → Begins front mid → Begins mid text → Begins front text
+begins_again front mid text a b = (a.0 ++ b.0, b.1 ∙ ap (λ (xs : List ℕ). xs ++ b.0) a.1 ∙ append_assoc front a.0 b.0)
 
 onto_first-append : {A : Type 0} (x : A) (ps qs : List (List A)) → 0 < length ps → onto_first x (ps ++ qs) ≡ onto_first x ps ++ qs
 onto_first-append x [] qs some = absurd (omega arith)

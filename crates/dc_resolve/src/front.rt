@@ -4,9 +4,21 @@ ghost use Rattle.std.specs.Prelude.{◌≡◌, ◌∷◌, ◌++◌, ◌-◌, ◌
 ghost use Rattle.dc_names.specs.Bytes.{has_parts};
 ghost use Rattle.dc_names.specs.Names.{part_shown};
 ghost use Rattle.dc_names.specs.Paths.{ends_in_slash, parts_of};
-ghost use Rattle.dc_resolve.specs.Fronts.{IsFront};
+ghost use Rattle.dc_resolve.specs.Fronts.{Begins, IsFront, LeadsToFront};
 
-use dc_names::{Part, first_part};
+use dc_names::{Part, PathText, first_part};
+
+/// The path of all components but the last: looked up from the same directory with every link followed
+/// and a directory wanted, it leads to where the last component is to be looked up. `None` where no
+/// component and no name stands before the last.
+#[must_use]
+pub fn front_path<'p>(path: PathText<'p>) -> Option<&'p [u8]>
+    ensures { IfSome result (λ front. LeadsToFront front.now path.entry.bytes.now) }
+{
+    let (front, _) = split_last(path.bytes())?;
+    let front = before_slashes(front);
+    if front.is_empty() { None } else { Some(front) }
+}
 
 /// The bytes before the last component, and that component, or `None` where slashes alone are left.
 pub(crate) fn split_last(bytes: &[u8]) -> Option<(&[u8], Part<'_>)>
@@ -14,6 +26,7 @@ pub(crate) fn split_last(bytes: &[u8]) -> Option<(&[u8], Part<'_>)>
     ensures last { IfSome result (λ r. parts_of bytes.now ≡ parts_of r.0.now ++ part_shown r.1 ∷ []) }
     ensures none { IfNone result (parts_of bytes.now ≡ []) }
     ensures valid { IfSome result (λ r. IsTrue (has_parts r.0.now)) }
+    ensures begins { IfSome result (λ r. Begins r.0.now bytes.now) }
 {
     let text = before_slashes(bytes);
     let front = before_last(text);
@@ -26,6 +39,7 @@ fn before_slashes(bytes: &[u8]) -> &[u8]
     ensures parts { parts_of result.now ≡ parts_of bytes.now }
     ensures valid { has_parts result.now ≡ has_parts bytes.now }
     ensures end { ends_in_slash result.now ≡ false }
+    ensures begins { Begins result.now bytes.now }
 {
     let mut rest = bytes;
     'slashes: while let [more @ .., byte] = rest {

@@ -12,8 +12,8 @@ returns g c =
       can = (
         c.paths_lead_to_the_living.ensures.texts t c.args.base c.args.path.now (where_shown c.in_ok-at.at) well c.in_ok-at.ensures,
         c.is_there.ensures.free c.in_ok-refuse.ensures.ok,
-        room c.args.max_inodes t c.args.new well.next_is (sym c.is_full.ensures.full ∙ c.in_ok-refuse-3.ensures.ok) c.requires,
-        number_made t c.args.new _ c.next.ensures.next c.requires,
+        room c.args.max_inodes t c.args.new well.next_is (sym c.is_full.ensures.full ∙ c.in_ok-refuse-3.ensures.ok) c.requires.new,
+        number_made t c.args.new _ c.next.ensures.next c.requires.new,
       );
       keys = first_of (search rules, grind (arith, common_steps));
       loses = tt;

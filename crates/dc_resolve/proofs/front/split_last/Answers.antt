@@ -1,4 +1,4 @@
-use Rattle.dc_resolve.proofs.Fronts.{none_so}
+use Rattle.dc_resolve.proofs.Fronts.{begins_again, none_so}
 use Rattle.dc_resolve.proofs.Splits.{last_alone, none_left, valid_front, valid_rest}
 use Rattle.dc_resolve.proofs.front.split_last.Goals as goal
 
@@ -13,3 +13,6 @@ returns-clause-last c = last_alone c.args.bytes.now c.before_last-front.ensures 
 
 pub returns-clause-valid : goal.returns-clause-valid
 returns-clause-valid c = valid_front c.args.bytes.now c.before_last-front.ensures c.before_slashes-text.ensures.valid c.requires
+
+pub returns-clause-begins : goal.returns-clause-begins
+returns-clause-begins c = let f = c.before_last-front.ensures in begins_again _ _ _ (f.before.piece, f.before.is) c.before_slashes-text.ensures.begins
