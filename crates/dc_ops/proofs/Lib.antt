@@ -5,3 +5,4 @@ pub mod Parents
 pub mod Renamed
 pub mod Distinct
 pub mod Alters
+pub mod Knowing

@@ -8,4 +8,4 @@ pub mod Makes
 pub mod Same
 pub mod Settled
 pub mod Found
-pub mod Known
+pub mod Knowing

@@ -1,7 +1,7 @@
 //! The tests that changes make of a store and of their paths, each with its refusal.
 
 ghost use Rattle.std.specs.Prelude.{◌≡◌, ◌≤◌, true, false, None, Some, is_some, IfOk, IfErr, IfSome, OnOk};
-ghost use Rattle.dc_ops.specs.Known.{IsKnownOn};
+ghost use Rattle.dc_ops.specs.Knowing.{IsKnownOn};
 ghost use Rattle.dc_names.specs.Lasts.{last_shown, name_or, name_or_each};
 ghost use Rattle.dc_names.specs.Lasts.Last.{Name as Named};
 ghost use Rattle.dc_names.specs.Refusals.{Gives};

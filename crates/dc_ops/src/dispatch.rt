@@ -3,7 +3,7 @@
 ghost use Rattle.std.specs.Prelude.{IfOk, IfErr, IfSome};
 ghost use Rattle.dc_plain.specs.Requests.{request_of};
 ghost use Rattle.dc_ops.specs.Asked.{IsChange};
-ghost use Rattle.dc_ops.specs.Known.{IsKnownOn};
+ghost use Rattle.dc_ops.specs.Knowing.{IsKnownOn};
 ghost use Rattle.dc_ops.specs.Plans.{Plans, CallTakesNoMemory};
 ghost use Rattle.dc_ops.specs.Settled.{DeclinesCall, FoundTakesNoMemory, SettlesCallIf};
 

@@ -1,7 +1,7 @@
 //! Plans of entries that come.
 
 ghost use Rattle.std.specs.Prelude.{◌≡◌, nat_le, false, Some, IfSome};
-ghost use Rattle.dc_ops.specs.Known.{IsKnownOn};
+ghost use Rattle.dc_ops.specs.Knowing.{IsKnownOn};
 ghost use Rattle.dc_plain.specs.Requests.Request.{Hard_link, Symlink};
 ghost use Rattle.dc_plain.specs.Resolution.{is_directory};
 ghost use Rattle.dc_plain.specs.Trees.{names_of, target_at};

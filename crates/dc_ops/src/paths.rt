@@ -1,7 +1,7 @@
 //! Where paths lead on a store.
 
 ghost use Rattle.std.specs.Prelude.{◌≡◌, IfOk, IfSome};
-ghost use Rattle.dc_ops.specs.Known.{IsKnownOn};
+ghost use Rattle.dc_ops.specs.Knowing.{IsKnownOn};
 ghost use Rattle.dc_names.specs.Paths.{path_in};
 ghost use Rattle.dc_names.specs.Refusals.{Gives};
 ghost use Rattle.dc_plain.specs.Ends.{end_on};

@@ -9,7 +9,7 @@ ghost use Rattle.dc_plain.specs.Resolution.{is_directory};
 ghost use Rattle.dc_plain.specs.Spots.{spot_at, spot_shown};
 ghost use Rattle.dc_plain.specs.TouchedKeys.{keys_gone, with_number};
 ghost use Rattle.dc_plain.specs.Trees.{is_live_directory, names_of, target_at, entry_number};
-ghost use Rattle.dc_ops.specs.Known.{IsKnownOn};
+ghost use Rattle.dc_ops.specs.Knowing.{IsKnownOn};
 ghost use Rattle.dc_ops.specs.Renames.{lies_beneath, SettlesMove, SettlesSwap};
 ghost use Rattle.dc_ops.specs.Settled.{FoundTakesNoMemory, SettlesUnlimitedIf};
 

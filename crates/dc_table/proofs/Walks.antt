@@ -10,7 +10,8 @@ use Rattle.atomic_table.proofs.Lists.{set_again, set_here}
 use Rattle.dc_plain.specs.Requests.{Request}
 use Rattle.dc_events.specs.Views.{View, Note}
 use Rattle.dc_events.specs.Views.Fault.{Busy, Changed}
-use Rattle.dc_events.specs.Rows.{base_of, count}
+use Rattle.dc_row.specs.declared.TheConstants.{ROW_WORDS}
+use Rattle.dc_events.specs.Rows.{base_of, count, row_words, words_from}
 use Rattle.dc_events.specs.Rule.{Rule}
 use Rattle.dc_events.specs.Walks.{last_of}
 use Rattle.dc_events.specs.Effects.{begins, quit, noted, note_at, read, pivoted, checked, faulted}
@@ -18,7 +19,7 @@ use Rattle.dc_events.specs.Laws.{WalkersKeepTheRule}
 use Rattle.dc_table.specs.Shares.{with_view}
 use Rattle.dc_table.specs.Kept.{KeptAt, Kept, knowns, views_of, sheet_of}
 use Rattle.dc_table.specs.Plays.{Place, known_at}
-use Rattle.dc_table.specs.Walking.{IsFresh, CanRead, CanCheck, noted_as, read_as, pivoted_as, learnt_as, checked_as}
+use Rattle.dc_table.specs.Walking.{IsFresh, CanRead, CanCheck, HasNoted, noted_as, read_as, pivoted_as, learnt_as, checked_as, compared_as}
 use Rattle.dc_table.specs.declared.table.Limits.{Limits}
 use Rattle.dc_table.proofs.Sharing.{same_shares}
 use Rattle.dc_table.proofs.Kept.{Seen, known_there, view_there, after_load}
@@ -116,6 +117,26 @@ module _ (k : Limits) (law : WalkersKeepTheRule) where
         ((λ same. absurd (other same)), λ ne. (omega arith, refl)),
       ))
 
+-- so many words from a place on, of which one is the first
+from_so : (words : List ℕ) (k n m : ℕ) → n + 1 ≡ m → words_from words k m ≡ get_or words k 0 ∷ words_from words (suc k) n
+from_so words k n m is = let next : suc n ≡ m = omega arith in ap (words_from words k) (sym next)
+
+-- a load of the holder that tells it what it may know already
+pub compares_note : (k : Limits) (slots id : ℕ) (me : Place) (i row n : ℕ) → (known_at me).view.hold.holds ≡ true → 0 < (known_at me).share.parts → HasNoted (known_at me).view i row n → Allows (Kept k) slots id me (base_of row) (λ x. x) (compared_as i (step slots (base_of row) 0 0 none) me)
+compares_note k slots id me i row n has part can s kept len at small = let h = kept.0 in let K = kept.1 in let now = known_at me in let views = views_of (knowns s.views) in let seat = view_there s.views id me.0 at in
+    let x : Note = note_at now.view i in let fits = (K.rule.fits id now.view seat).walk.noted i x can.there in let H = K.rule.held id now.view seat has in (
+      sheet_of now,
+      keeps,
+      tt,
+      after_load k s h K (base_of row) id me.1 now (subst (λ vs. Rule k.max_inodes k.rows s.words vs h) (sym (set_again views id now.view seat)) K.rule) (same_shares K.shares id now (known_there s.views id me.0 at) part now refl),
+      (
+        refl,
+        λ same.
+            let count_is : x.count ≡ count s.words x.row = same ∙ ap (count s.words) (sym can.of_row) in
+            ap (λ ws. row_words ws x.row) H.knows_words ∙ from_so s.words (base_of x.row) (length x.words) ROW_WORDS can.whole ∙ (λ j. sym count_is j ∷ sym (fits.same count_is) j),
+      ),
+    )
+
 -- the place of a word, as the code computes it
 load_place : (k : Limits) (slots id : ℕ) (me : Place) (j i : ℕ) (then : ℕ → Place → Type 0) → i ≡ j → Allows (Kept k) slots id me j (λ x. x) then → Allows (Kept k) slots id me i (λ x. x) then
 load_place k slots id me j i then is allows = subst (λ z. Allows (Kept k) slots id me z (λ x. x) then) (sym is) allows
@@ -129,3 +150,6 @@ read_place k slots id me j i is allows = load_place k slots id me j i (read_as (
 
 pub check_place : (k : Limits) (slots id : ℕ) (me : Place) (n j i : ℕ) → i ≡ j → Allows (Kept k) slots id me j (λ x. x) (checked_as n (step slots j 0 0 none) me) → Allows (Kept k) slots id me i (λ x. x) (checked_as n (step slots i 0 0 none) me)
 check_place k slots id me n j i is allows = load_place k slots id me j i (checked_as n (step slots j 0 0 none) me) is allows
+
+pub compare_place : (k : Limits) (slots id : ℕ) (me : Place) (n j i : ℕ) → i ≡ j → Allows (Kept k) slots id me j (λ x. x) (compared_as n (step slots j 0 0 none) me) → Allows (Kept k) slots id me i (λ x. x) (compared_as n (step slots i 0 0 none) me)
+compare_place k slots id me n j i is allows = load_place k slots id me j i (compared_as n (step slots j 0 0 none) me) is allows

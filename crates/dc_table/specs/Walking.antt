@@ -8,7 +8,7 @@ use Rattle.dc_plain.specs.declared.call.Call.{Call}
 use Rattle.dc_row.specs.declared.TheConstants.{ROW_WORDS}
 use Rattle.dc_events.specs.Views.{View}
 use Rattle.dc_events.specs.Views.Fault.{Busy, Changed}
-use Rattle.dc_events.specs.Rows.{IsWhole}
+use Rattle.dc_events.specs.Rows.{IsWhole, note_words, row_words}
 use Rattle.dc_events.specs.Walks.{last_of}
 use Rattle.dc_events.specs.Effects.{begins, quit, noted, note_at, read, pivoted, checked, faulted}
 use Rattle.dc_table.specs.Passes.{Pass, view}
@@ -72,3 +72,18 @@ learnt_as st m r m' = let k = known_at m in (m' ≡ (sheet_of (with_view k (pivo
 abbrev pub checked_as : ℕ → Step (Maybe Boxed) → Place → ℕ → Place → Type 0
 checked_as i st m r m' = let k = known_at m in let x = note_at k.view i in
     (x.count ≡ r → m' ≡ (sheet_of (with_view k (checked k.view i)), m.1)) × (x.count ≢ r → (x.count < r) × (m' ≡ (sheet_of (with_view k (faulted k.view (Changed x.row x.count r))), m.1)))
+
+-- a pass noted this row with this count, and read all of its words, as note i
+pub record HasNoted (v : View) (i row count : ℕ) : Type 0 where
+  pub there : get_elem? v.walk.notes i ≡ some (note_at v i)
+  pub whole : IsWhole (note_at v i)
+  pub of_row : (note_at v i).row ≡ row
+  pub counted : (note_at v i).count ≡ count
+
+-- the words that the holder knows of a row are those of note i
+abbrev pub IsAsNoted : View → ℕ → ℕ → Type 0
+IsAsNoted v i row = row_words v.hold.words row ≡ note_words (note_at v i)
+
+-- the holder loads the count of the row of a note, and knows by it whether the row is as noted
+abbrev pub compared_as : ℕ → Step (Maybe Boxed) → Place → ℕ → Place → Type 0
+compared_as i st m r m' = let v = (known_at m).view in let x = note_at v i in (m' ≡ m) × (x.count ≡ r → IsAsNoted v i x.row)

@@ -1,7 +1,7 @@
 //! What each step tells its pass.
 
 ghost use Rattle.dc_table.specs.Plays.{took, raised, put, committed_as, gave_as, answered_as};
-ghost use Rattle.dc_table.specs.Walking.{noted_as, read_as, pivoted_as, learnt_as, checked_as};
+ghost use Rattle.dc_table.specs.Walking.{noted_as, read_as, pivoted_as, learnt_as, checked_as, compared_as};
 
 use crate::sheet::Sheet;
 use crate::table::Guarded;
@@ -118,6 +118,15 @@ pub struct Check<C> {
 
 impl<C: Asked> Play<Option<Box<Guarded>>, Sheet> for Check<C> {
     ghost then = { checked_as C.about };
+}
+
+/// The holder compares the count of a row with that of a note.
+pub struct Compare<C> {
+    of: PhantomData<C>,
+}
+
+impl<C: Asked> Play<Option<Box<Guarded>>, Sheet> for Compare<C> {
+    ghost then = { compared_as C.about };
 }
 
 /// A pass is cut in two, or two are put together.

@@ -1,6 +1,6 @@
 //! The steps of the one that gets, has or gives the lock. Each is the event of its name.
 
-ghost use Rattle.std.specs.Prelude.{◌≡◌, ◌+◌, ◌<◌, false, IfSome, IfNone, IfOk, IfErr};
+ghost use Rattle.std.specs.Prelude.{◌≡◌, ◌+◌, ◌<◌, false, true, IfSome, IfNone, IfOk, IfErr};
 ghost use Rattle.dc_events.specs.Effects.{wrote, gave};
 ghost use Rattle.dc_events.specs.Rows.{base_of};
 ghost use Rattle.dc_events.specs.Standing.{tree_of};
@@ -10,9 +10,10 @@ ghost use Rattle.dc_row.specs.declared.TheConstants.{ROW_WORDS as row_words};
 ghost use Rattle.dc_table.specs.Holders.{pass_of, answered_by, committed_by, next_count, Freed, Locked, MayAnswer, Missed, Raises, StaysHeld, TriedOnce};
 ghost use Rattle.dc_table.specs.Passes.{known, view, share, Fits, IsSamePass, IsIdle, IsHolder, CanShut, CanPut, CanOpen, CanCommit};
 ghost use Rattle.dc_table.specs.Plays.{Took, Home};
+ghost use Rattle.dc_table.specs.Walking.{HasNoted, IsAsNoted};
 
 use crate::holder::Holder;
-use crate::plays::{Answer, Asked, Commit, Give, Put, Raise, Take};
+use crate::plays::{Answer, Asked, Commit, Compare, Give, Put, Raise, Take};
 use crate::shared::Shared;
 use crate::table::{Guarded, Pass};
 use crate::{CLOCK, FEWEST_PAUSES, FIRST_ROW, FREE, LOCK, MOST_DOUBLINGS, MOST_LOOKS, TAKEN};
@@ -242,6 +243,35 @@ impl<'t> Holder<'t> {
             .table
             .shared
             .fetch_add::<Raise>(self.pass, count, 1);
+    }
+
+    /// Whether a row is as the pass noted it before it got the lock: as note `i`, the first being 0, with
+    /// this count. No count comes back, and nobody else writes a row while the lock is held.
+    pub fn is_as_noted(&mut self, i: u64, row: u64, noted: u64) -> bool
+        requires noted { let p = pass_of self.old in
+            (row < (share p).rows) × HasNoted (view p) i row noted }
+        ensures held { StaysHeld self.old self.new }
+        ensures same { IsSamePass (pass_of self.old) (pass_of self.new) }
+        ensures known { known (pass_of self.new) ≡ known (pass_of self.old) }
+        ensures row { result ≡ true → IsAsNoted (view (pass_of self.old)) i row }
+    {
+        self.compare_as::<Brand>(i, row, noted) == noted
+    }
+
+    fn compare_as<C: Asked>(&mut self, i: u64, row: u64, noted: u64) -> u64
+        requires asked { C.about ≡ i }
+        requires noted { let p = pass_of self.old in
+            (row < (share p).rows) × HasNoted (view p) i row noted }
+        ensures held { StaysHeld self.old self.new }
+        ensures same { IsSamePass (pass_of self.old) (pass_of self.new) }
+        ensures known { known (pass_of self.new) ≡ known (pass_of self.old) }
+        ensures row { result ≡ noted → IsAsNoted (view (pass_of self.old)) i row }
+    {
+        let count = self.shared.word_of(row, 0);
+        self.shared
+            .table
+            .shared
+            .load::<Compare<C>>(self.pass, count)
     }
 
     /// Commits a call that alters the tree: from here on it has.

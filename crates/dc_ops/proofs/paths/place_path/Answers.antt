@@ -1,6 +1,8 @@
-use Rattle.std.proofs.Common.{sym, ap}
+use Rattle.std.proofs.Common.{IfSome, subst, sym, ap}
 use Rattle.dc_plain.specs.Refusals.{where_of}
+use Rattle.dc_ops.specs.Knowing.{IsKnownOn}
 use Rattle.dc_ops.specs.Same.{same_tells}
+use Rattle.dc_ops.proofs.Knowing.{known_place}
 use Rattle.dc_ops.proofs.paths.place_path.Goals as goal
 
 pub returns-in-At : goal.returns-in-At
@@ -8,3 +10,7 @@ returns-in-At g c = ap where_of (c.in-At.ensures.answer _ (same_tells _ _ (sym c
 
 pub returns-in-Refused : goal.returns-in-Refused
 returns-in-Refused g c = ap where_of (c.in-Refused.ensures.answer _ (same_tells _ _ (sym c.in-Refused.ensures.becomes)))
+
+pub returns : goal.returns
+returns g c =
+    let yes = c.if-is_front_of.true in known_place (g.S.Store.tree c.args.store.now) c.in-Some.known c.args.path.bytes.now (subst (λ o. IfSome o (IsKnownOn (g.S.Store.tree c.args.store.now))) c.in-Some.is c.requires.known) (c.is_front_of.ensures.base yes) (c.is_front_of.ensures.front yes) c.place_in.ensures

@@ -3,7 +3,7 @@ use Rattle.dc_plain.specs.Requests.{request_of}
 use Rattle.dc_plain.specs.Requests.Answer.{Refused}
 use Rattle.dc_ops.specs.Plans.{Declines}
 use Rattle.dc_ops.proofs.Alters.{plans_if, idles_if, refuses_so}
-use Rattle.dc_ops.proofs.dispatch.plan.Goals as goal
+use Rattle.dc_ops.proofs.dispatch.plan_knowing.Goals as goal
 
 pub returns-in-Ok-Some-clause-planned : goal.returns-in-Ok-Some-clause-planned
 returns-in-Ok-Some-clause-planned g c =
