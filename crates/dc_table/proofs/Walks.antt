@@ -1,5 +1,5 @@
 -- Each step of a pass that walks keeps the table's rule.
-use Rattle.std.proofs.Common.{◌≡◌, ℕ, zero, suc, ◌+◌, ◌%◌, ◌<◌, ◌≤◌, Bool, true, false, List, [], ◌∷◌, length, get_or, set, sym, refl, ap, ◌∙◌, subst, arith, le_refl}
+use Rattle.std.proofs.Common.{◌≡◌, ℕ, zero, suc, ◌+◌, ◌%◌, ◌<◌, ◌≤◌, Bool, true, false, List, [], ◌∷◌, length, get_or, set, sym, refl, ap, ◌∙◌, subst, subst₂, arith, le_refl}
 use Rattle.std.proofs.lemmas.List.{set-set}
 use mathlib.Core.Logic.{dite}
 use mathlib.Core.Option.{none, some, some-ne-none}
@@ -11,7 +11,8 @@ use Rattle.dc_plain.specs.Requests.{Request}
 use Rattle.dc_events.specs.Views.{View, Note}
 use Rattle.dc_events.specs.Views.Fault.{Busy, Changed}
 use Rattle.dc_row.specs.declared.TheConstants.{ROW_WORDS}
-use Rattle.dc_events.specs.Rows.{base_of, count, row_words, words_from}
+use Rattle.dc_events.specs.Rows.{Tells, base_of, count, note_words, row_words, words_from}
+use Rattle.dc_events.specs.Standing.{tree_of}
 use Rattle.dc_events.specs.Rule.{Rule}
 use Rattle.dc_events.specs.Walks.{last_of}
 use Rattle.dc_events.specs.Effects.{begins, quit, noted, note_at, read, pivoted, checked, faulted}
@@ -121,10 +122,10 @@ module _ (k : Limits) (law : WalkersKeepTheRule) where
 from_so : (words : List ℕ) (k n m : ℕ) → n + 1 ≡ m → words_from words k m ≡ get_or words k 0 ∷ words_from words (suc k) n
 from_so words k n m is = let next : suc n ≡ m = omega arith in ap (words_from words k) (sym next)
 
--- a load of the holder that tells it what it may know already
+-- a load of the holder, by which a note may be true now
 pub compares_note : (k : Limits) (slots id : ℕ) (me : Place) (i row n : ℕ) → (known_at me).view.hold.holds ≡ true → 0 < (known_at me).share.parts → HasNoted (known_at me).view i row n → Allows (Kept k) slots id me (base_of row) (λ x. x) (compared_as i (step slots (base_of row) 0 0 none) me)
 compares_note k slots id me i row n has part can s kept len at small = let h = kept.0 in let K = kept.1 in let now = known_at me in let views = views_of (knowns s.views) in let seat = view_there s.views id me.0 at in
-    let x : Note = note_at now.view i in let fits = (K.rule.fits id now.view seat).walk.noted i x can.there in let H = K.rule.held id now.view seat has in (
+    let x : Note = note_at now.view i in let fits = (K.rule.fits id now.view seat).walk.noted i x can.there in let H = K.rule.held id now.view seat has in let named = K.shares.named id now (known_there s.views id me.0 at) part in (
       sheet_of now,
       keeps,
       tt,
@@ -133,7 +134,9 @@ compares_note k slots id me i row n has part can s kept len at small = let h = k
         refl,
         λ same.
             let count_is : x.count ≡ count s.words x.row = same ∙ ap (count s.words) (sym can.of_row) in
-            ap (λ ws. row_words ws x.row) H.knows_words ∙ from_so s.words (base_of x.row) (length x.words) ROW_WORDS can.whole ∙ (λ j. sym count_is j ∷ sym (fits.same count_is) j),
+            let words_are : row_words s.words x.row ≡ note_words x = from_so s.words (base_of x.row) (length x.words) ROW_WORDS can.whole ∙ (λ j. sym count_is j ∷ sym (fits.same count_is) j) in
+            let even : count s.words x.row % 2 ≡ 0 = subst (λ c. c % 2 ≡ 0) count_is fits.even in
+            subst₂ (λ limit hist. Tells (tree_of limit hist) (note_words x)) (sym named.0) (sym H.knows_history) (subst (Tells (tree_of k.max_inodes h)) words_are ((K.rule.row x.row fits.inside).told even)),
       ),
     )
 

@@ -60,6 +60,12 @@ pub record StaysHeld (h g : Holder) : Type 0 where
   pub same_reference : g.pass.ghost_name ≡ h.pass.ghost_name
   pub untried : HasNotTried (known (pass_of h)) (known (pass_of g))
 
+-- the holder has done nothing, and its pass knows what it knew
+pub record StaysAsIs (h g : Holder) : Type 0 where
+  pub held : StaysHeld h g
+  pub same : IsSamePass (pass_of h) (pass_of g)
+  pub same_known : known (pass_of g) ≡ known (pass_of h)
+
 -- a call that alters nothing can be answered by who gives back what fits
 pub record MayAnswer (h : Holder) (x : Guarded) (call : Request) : Type 0 where
   pub home : Home (known (pass_of h)) x

@@ -8,7 +8,8 @@ use Rattle.dc_plain.specs.declared.call.Call.{Call}
 use Rattle.dc_row.specs.declared.TheConstants.{ROW_WORDS}
 use Rattle.dc_events.specs.Views.{View}
 use Rattle.dc_events.specs.Views.Fault.{Busy, Changed}
-use Rattle.dc_events.specs.Rows.{IsWhole, note_words, row_words}
+use Rattle.dc_events.specs.Rows.{IsWhole, Tells, note_words}
+use Rattle.dc_events.specs.Standing.{tree_of}
 use Rattle.dc_events.specs.Walks.{last_of}
 use Rattle.dc_events.specs.Effects.{begins, quit, noted, note_at, read, pivoted, checked, faulted}
 use Rattle.dc_table.specs.Passes.{Pass, view}
@@ -80,10 +81,10 @@ pub record HasNoted (v : View) (i row count : ℕ) : Type 0 where
   pub of_row : (note_at v i).row ≡ row
   pub counted : (note_at v i).count ≡ count
 
--- the words that the holder knows of a row are those of note i
-abbrev pub IsAsNoted : View → ℕ → ℕ → Type 0
-IsAsNoted v i row = row_words v.hold.words row ≡ note_words (note_at v i)
+-- what note i spells, if anything, is true of the tree that the holder has
+abbrev pub IsTrueNow : ℕ → View → ℕ → Type 0
+IsTrueNow limit v i = Tells (tree_of limit v.hold.history) (note_words (note_at v i))
 
--- the holder loads the count of the row of a note, and knows by it whether the row is as noted
+-- the holder loads the count of the row of a note, and knows by it whether the note is true now
 abbrev pub compared_as : ℕ → Step (Maybe Boxed) → Place → ℕ → Place → Type 0
-compared_as i st m r m' = let v = (known_at m).view in let x = note_at v i in (m' ≡ m) × (x.count ≡ r → IsAsNoted v i x.row)
+compared_as i st m r m' = let k = known_at m in (m' ≡ m) × ((note_at k.view i).count ≡ r → IsTrueNow k.share.limit k.view i)

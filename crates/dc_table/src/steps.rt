@@ -7,10 +7,10 @@ ghost use Rattle.dc_events.specs.Standing.{tree_of};
 ghost use Rattle.dc_plain.specs.Requests.{request_of};
 ghost use Rattle.dc_plain.specs.Runs.{alters};
 ghost use Rattle.dc_row.specs.declared.TheConstants.{ROW_WORDS as row_words};
-ghost use Rattle.dc_table.specs.Holders.{pass_of, answered_by, committed_by, next_count, Freed, Locked, MayAnswer, Missed, Raises, StaysHeld, TriedOnce};
+ghost use Rattle.dc_table.specs.Holders.{pass_of, answered_by, committed_by, next_count, Freed, Locked, MayAnswer, Missed, Raises, StaysAsIs, StaysHeld, TriedOnce};
 ghost use Rattle.dc_table.specs.Passes.{known, view, share, Fits, IsSamePass, IsIdle, IsHolder, CanShut, CanPut, CanOpen, CanCommit};
 ghost use Rattle.dc_table.specs.Plays.{Took, Home};
-ghost use Rattle.dc_table.specs.Walking.{HasNoted, IsAsNoted};
+ghost use Rattle.dc_table.specs.Walking.{HasNoted, IsTrueNow};
 
 use crate::holder::Holder;
 use crate::plays::{Answer, Asked, Commit, Compare, Give, Put, Raise, Take};
@@ -245,15 +245,15 @@ impl<'t> Holder<'t> {
             .fetch_add::<Raise>(self.pass, count, 1);
     }
 
-    /// Whether a row is as the pass noted it before it got the lock: as note `i`, the first being 0, with
-    /// this count. No count comes back, and nobody else writes a row while the lock is held.
+    /// Whether a row has the count still with which the pass noted it before it got the lock: as note `i`,
+    /// the first being 0. Then the row is as noted, and what it tells is true: no count comes back, and
+    /// nobody else writes a row while the lock is held.
     pub fn is_as_noted(&mut self, i: u64, row: u64, noted: u64) -> bool
         requires noted { let p = pass_of self.old in
             (row < (share p).rows) × HasNoted (view p) i row noted }
-        ensures held { StaysHeld self.old self.new }
-        ensures same { IsSamePass (pass_of self.old) (pass_of self.new) }
-        ensures known { known (pass_of self.new) ≡ known (pass_of self.old) }
-        ensures row { result ≡ true → IsAsNoted (view (pass_of self.old)) i row }
+        ensures same { StaysAsIs self.old self.new }
+        ensures now { result ≡ true →
+            (let p = pass_of self.old in IsTrueNow (share p).limit (view p) i) }
     {
         self.compare_as::<Brand>(i, row, noted) == noted
     }
@@ -262,10 +262,9 @@ impl<'t> Holder<'t> {
         requires asked { C.about ≡ i }
         requires noted { let p = pass_of self.old in
             (row < (share p).rows) × HasNoted (view p) i row noted }
-        ensures held { StaysHeld self.old self.new }
-        ensures same { IsSamePass (pass_of self.old) (pass_of self.new) }
-        ensures known { known (pass_of self.new) ≡ known (pass_of self.old) }
-        ensures row { result ≡ noted → IsAsNoted (view (pass_of self.old)) i row }
+        ensures same { StaysAsIs self.old self.new }
+        ensures now { result ≡ noted →
+            (let p = pass_of self.old in IsTrueNow (share p).limit (view p) i) }
     {
         let count = self.shared.word_of(row, 0);
         self.shared
