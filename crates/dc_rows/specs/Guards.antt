@@ -1,7 +1,8 @@
 -- What a caller knows of the guard of the rows.
+use Rattle.std.specs.Prelude.{◌≡◌}
 use Rattle.dc_table.specs.RowStates.{RowState}
 use Rattle.dc_table.specs.Changes.{words_of}
-use Rattle.dc_table.specs.Holders.{pass_of, rows_held}
+use Rattle.dc_table.specs.Holders.{pass_of, rows_held, StaysAsIs}
 use Rattle.dc_table.specs.Passes.{Pass}
 use Rattle.dc_table.specs.Plays.{rows_as}
 use Rattle.dc_table.specs.declared.table.Guarded.{Guarded}
@@ -28,3 +29,8 @@ rows_of g = rows_held g.holder (kept_by g)
 pub record Keeps (g h : Guard) : Type 0 where
   pub only : OnlyWrites (seat_of g) (seat_of h)
   pub tree : KeepsTree (kept_by g) (kept_by h)
+
+-- nothing was done, and the pass knows what it knew
+pub record IsStill (g h : Guard) : Type 0 where
+  pub holder : StaysAsIs g.holder h.holder
+  pub kept : kept_by h ≡ kept_by g

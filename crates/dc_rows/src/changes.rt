@@ -1,13 +1,14 @@
 //! Changes of the tree, from the plan to the answer.
 
-ghost use Rattle.std.specs.Prelude.{◌≡◌, ◌<◌, ◌≤◌, length, IsOk, IfOk, IfErr, OnErr};
+ghost use Rattle.std.specs.Prelude.{◌≡◌, ◌<◌, ◌≤◌, length, IsOk, IfOk, IfErr, IfSome, OnErr};
 ghost use Rattle.dc_events.specs.Rows.{most};
 ghost use Rattle.dc_ops.specs.Asked.{IsChange};
+ghost use Rattle.dc_ops.specs.Knowing.{IsKnownOn};
 ghost use Rattle.dc_ops.specs.Plans.{CallTakesNoMemory, Plans};
 ghost use Rattle.dc_plain.specs.IsWellFormed.{IsWellFormed};
 ghost use Rattle.dc_plain.specs.Requests.{request_of, answer_of};
 ghost use Rattle.dc_rows.specs.Changes.{Altered, Failed, OnlyWrites};
-ghost use Rattle.dc_rows.specs.Guards.{seat_of};
+ghost use Rattle.dc_rows.specs.Guards.{kept_by, seat_of};
 ghost use Rattle.dc_rows.specs.Outcomes.{IsBack, MakesHeld};
 ghost use Rattle.dc_rows.specs.Refills.{Retells};
 ghost use Rattle.dc_table.specs.Changes.{IsTaken, Recorded, tree_now};
@@ -19,7 +20,7 @@ use crate::fault::ChangeFault;
 use crate::guard::Guard;
 use crate::shutting::{refill_keys, shut_keys};
 use dc_names::NoMemory;
-use dc_ops::{Plan, carry, plan};
+use dc_ops::{Known, Plan, carry, plan_knowing};
 use dc_plain::{
     Call, Reply, calls_touch_the_listed_keys, opening_tree_is_well_formed,
     operations_keep_trees_well_formed, untouched_facts_stay,
@@ -87,6 +88,22 @@ impl<'t> Guard<'t> {
         ensures back { IsBack self.entry result.0 }
         ensures made { MakesHeld self.entry result.0.now (request_of call.now) result.1 }
     {
+        self.change_knowing(alloc, call, None)
+    }
+
+    /// Makes a change, as `change`, for a caller that knows where a path leads on the tree. The tree isn't
+    /// asked for the directory of a name whose path is that one and the name.
+    pub fn change_knowing(
+        self,
+        alloc: Global,
+        call: &Call<'_>,
+        known: Option<Known<'_>>,
+    ) -> (&'t mut Pass, Result<(Reply, u64), ChangeFault>)
+        requires taken { IsTaken (view (seat_of self)) }
+        requires change { IsChange call.now × IfSome known (IsKnownOn (kept_by self).store) }
+        ensures back { IsBack self.entry result.0 }
+        ensures made { MakesHeld self.entry result.0.now (request_of call.now) result.1 }
+    {
         opening_tree_is_well_formed();
         operations_keep_trees_well_formed();
         let Guard {
@@ -94,7 +111,7 @@ impl<'t> Guard<'t> {
             mut guarded,
         } = self;
         let at = guarded.clock;
-        let plan = match plan(&guarded.store, call, guarded.max_inodes) {
+        let plan = match plan_knowing(&guarded.store, call, guarded.max_inodes, known) {
             Ok(plan) => plan,
             Err(reply) => return (holder.answer(guarded, call), Ok((reply, at))),
         };

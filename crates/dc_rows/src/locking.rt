@@ -1,11 +1,12 @@
 //! How a guard is got, what it shows, and how it is given back.
 
-ghost use Rattle.std.specs.Prelude.{◌≡◌, IfOk, IfErr};
+ghost use Rattle.std.specs.Prelude.{◌≡◌, ◌<◌, true, IfOk, IfErr};
 ghost use Rattle.dc_events.specs.Effects.{gave};
 ghost use Rattle.dc_plain.specs.Requests.{request_of};
-ghost use Rattle.dc_rows.specs.Guards.{seat_of, kept_by};
+ghost use Rattle.dc_rows.specs.Guards.{seat_of, kept_by, IsStill};
 ghost use Rattle.dc_table.specs.Holders.{answered_by, Freed, Locked, Missed, TriedOnce};
 ghost use Rattle.dc_table.specs.Passes.{view, share, Fits, IsIdle, CanAnswer};
+ghost use Rattle.dc_table.specs.Walking.{HasNoted, IsTrueNow};
 
 use crate::guard::Guard;
 use dc_plain::Call;
@@ -53,6 +54,18 @@ impl<'t> Guard<'t> {
         ensures { result ≡ (kept_by self.now).clock }
     {
         self.guarded.clock
+    }
+
+    /// Whether a row has the count still with which the pass noted it before it got the lock: as note `i`,
+    /// the first being 0. Then the row is as noted, and what it tells is true of the tree.
+    pub fn is_as_noted(&mut self, i: u64, row: u64, noted: u64) -> bool
+        requires noted { let p = seat_of self.old in
+            (row < (share p).rows) × HasNoted (view p) i row noted }
+        ensures same { IsStill self.old self.new }
+        ensures now { result ≡ true →
+            (let p = seat_of self.old in IsTrueNow (share p).limit (view p) i) }
+    {
+        self.holder.is_as_noted(i, row, noted)
     }
 
     /// Gives the lock back, and hands the pass back.

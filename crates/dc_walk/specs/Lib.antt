@@ -15,3 +15,4 @@ pub mod Settling
 pub mod Fasts
 pub mod Walks
 pub mod Unpins
+pub mod Placing

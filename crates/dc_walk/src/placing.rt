@@ -1,0 +1,97 @@
+//! Where a change makes or takes a name, by rows alone, before the change has the lock.
+
+ghost use Rattle.std.specs.Prelude.{◌≡◌, true, IfSome};
+ghost use Rattle.dc_ops.specs.Knowing.{IsKnownOn};
+ghost use Rattle.dc_rows.specs.Guards.{seat_of, kept_by, IsStill};
+ghost use Rattle.dc_table.specs.Changes.{NothingNew};
+ghost use Rattle.dc_table.specs.Holders.{table_of};
+ghost use Rattle.dc_table.specs.Passes.{view, share, StaysOut};
+ghost use Rattle.dc_walk.specs.Findings.{CanWalk};
+ghost use Rattle.dc_walk.specs.Placing.{IsFoundBy};
+
+use crate::look::Look;
+use crate::source::Bucket;
+use crate::used::Room;
+use crate::walk::walk_rows;
+use dc_names::{Kind, parse};
+use dc_ops::Known;
+use dc_plain::{Call, Follow, Reply, answers_from_true_facts_are_replies};
+use dc_resolve::front_path;
+use dc_row::words_have_the_fact_they_spell;
+use dc_rows::Guard;
+use dc_table::{Pass, Reader};
+
+/// The directory that a call starts in, and its path: of a link that of the new name, of a rename that of
+/// the old one.
+fn path_of<'a>(call: &Call<'a>) -> (u64, &'a [u8]) {
+    match *call {
+        Call::Link {
+            base,
+            new: path,
+            ..
+        }
+        | Call::Rename {
+            base,
+            old: path,
+            ..
+        }
+        | Call::Look { base, path, .. }
+        | Call::Readlink { base, path }
+        | Call::Stat { base, path }
+        | Call::List { base, path }
+        | Call::Mkdir { base, path }
+        | Call::Create { base, path }
+        | Call::Symlink { base, path, .. }
+        | Call::Unlink { base, path }
+        | Call::Rmdir { base, path } => (base, path),
+    }
+}
+
+/// Where all components of a call's path but the last lead, by the rows of a table alone. It takes no
+/// lock and no memory, never waits, and records nothing. `None` where there are none, where they lead to
+/// no directory, and where the rows don't tell. What was found is known of the tree once `is_known` says
+/// so under the lock.
+#[must_use]
+pub fn find_front<'a>(
+    reader: Reader<'_>,
+    pass: &mut Pass,
+    room: &mut Room,
+    call: &Call<'a>,
+) -> Option<Known<'a>>
+    requires can { CanWalk (table_of reader) pass.old }
+    ensures same { StaysOut pass.old pass.new }
+    ensures nothing { NothingNew (view pass.old) (view pass.new) }
+    ensures found { IfSome result (IsFoundBy (view pass.new) (share pass.new).rows room.new) }
+{
+    let (base, text) = path_of(call);
+    let front = front_path(parse(text).ok()?)?;
+    let look = Look {
+        base,
+        path: parse(front).ok()?,
+        follow: Follow::Dir,
+    };
+    // Rows of an earlier walk would be taken for this one's.
+    room.clear();
+    match walk_rows(&Bucket, reader, pass, room, look) {
+        Ok((Reply::Found(dir, Kind::Dir), true)) => Some(Known { base, front, dir }),
+        _ => None,
+    }
+}
+
+/// Whether what was found still holds, for the pass that has got the lock since: whether each row that
+/// the walk used is as it was. Then the path leads there on the tree, and nobody else can change that.
+#[must_use]
+pub fn is_known(guard: &mut Guard<'_>, room: &Room, known: Known<'_>) -> bool
+    requires found { let p = seat_of guard.old in IsFoundBy (view p) (share p).rows room.now known }
+    ensures same { IsStill guard.old guard.new }
+    ensures known { result ≡ true → IsKnownOn (kept_by guard.old).store known.entry }
+{
+    answers_from_true_facts_are_replies();
+    words_have_the_fact_they_spell();
+    for c in 0..room.many() {
+        if !guard.is_as_noted(room.place_at(c), room.row_at(c), room.count_at(c)) {
+            return false;
+        }
+    }
+    true
+}
