@@ -123,7 +123,7 @@ get_map f (x ∷ xs) (suc i) d = get_map f xs i d
 pub use_there : {X : Type 0} (f : X → Use) (xs ys : List X) (i : ℕ) (d : X) → ys ≡ xs → get_or (map f xs) i (f d) ≡ f (get_or ys i d)
 use_there f xs ys i d same = get_map f xs i d ∙ ap (λ zs. f (get_or zs i d)) (sym same)
 
-there_elem : (xs : List Note) (i : ℕ) → i < length xs → get_elem? xs i ≡ some (get_or xs i no_note)
+pub there_elem : (xs : List Note) (i : ℕ) → i < length xs → get_elem? xs i ≡ some (get_or xs i no_note)
 there_elem [] i l = absurd (omega arith)
 there_elem (x ∷ xs) zero l = refl
 there_elem (x ∷ xs) (suc i) l = there_elem xs i (omega arith)

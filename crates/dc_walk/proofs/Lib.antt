@@ -13,3 +13,4 @@ pub mod Questions
 pub mod Ended
 pub mod Checks
 pub mod Turns
+pub mod Fronts

@@ -64,6 +64,14 @@ next_there k c (x ∷ xs) (u ∷ us) d (inl (e, m)) l = shifted k x xs (get_or (
 next_there k zero (x ∷ xs) (u ∷ us) d (inr (is, e, m)) l = here k x xs u is e
 next_there k (suc c) (x ∷ xs) (u ∷ us) d (inr (is, e, m)) l = shifted k x xs (get_or us c d) (next_there (suc k) c xs us d m (omega arith))
 
+-- and so does that of each, while none is checked
+pub any_there : (k : ℕ) (notes : List Note) (us : List Use) (d : Use) (j : ℕ) → Marked k 0 notes us → j < length us → IsNext k notes (get_or us j d)
+any_there k [] us d j m l = let none : length us ≡ 0 = ap length m in absurd (omega arith)
+any_there k (x ∷ xs) [] d j (e, m) l = absurd (omega arith)
+any_there k (x ∷ xs) (u ∷ us) d j (inl (e, m)) l = shifted k x xs (get_or (u ∷ us) j d) (any_there (suc k) xs (u ∷ us) d j m l)
+any_there k (x ∷ xs) (u ∷ us) d zero (inr (is, e, m)) l = here k x xs u is e
+any_there k (x ∷ xs) (u ∷ us) d (suc j) (inr (is, e, m)) l = shifted k x xs (get_or us j d) (any_there (suc k) xs us d j m (omega arith))
+
 abbrev pub ticked : Note → Note
 ticked x = record x { checked = true }
 
