@@ -1,9 +1,6 @@
 -- What is found before a change has the lock, and what of it holds under the lock.
-use Rattle.std.proofs.Common.{◌≡◌, ℕ, zero, suc, ◌-◌, ◌<◌, inl, inr, List, [], ◌∷◌, Bool, true, false, not, Option, Some, None, Result, Ok, Err, option_map, map, length, get_or, refl, ap, sym, ◌∙◌, subst, arith}
+use Rattle.std.proofs.Common.{◌≡◌, ℕ, zero, suc, ◌-◌, ◌<◌, List, [], ◌∷◌, Some, Result, Ok, Err, option_map, map, length, get_or, ap, sym, ◌∙◌, subst, arith}
 use Rattle.std.specs.List.{AllByRecursion}
-use mathlib.Core.Option.{some}
-use lib.ListN.{get_elem?}
-use Rattle.dc_names.specs.Paths.{fault_of}
 use Rattle.dc_names.specs.declared.kind.Kind.TheVariants.{Dir}
 use Rattle.dc_names.specs.declared.refusal.Refusal.{Refusal}
 use Rattle.dc_plain.specs.declared.call.Follow.TheVariants as follow
@@ -13,34 +10,30 @@ use Rattle.dc_plain.specs.Operations.{left_alone, settled}
 use Rattle.dc_plain.specs.Refusals.{◌>>=◌, walk_on}
 use Rattle.dc_plain.specs.Requests.Answer.{Found}
 use Rattle.dc_plain.specs.Requests.Request.{Look}
-use Rattle.dc_plain.specs.Resolution.{Outcome}
-use Rattle.dc_plain.specs.Resolution.Outcome.{Found as Ends, Refused as Fails}
 use Rattle.dc_plain.specs.Trees.{Tree, Holds}
 use Rattle.dc_row.specs.Decoding.{SpelledIsRead}
-use Rattle.dc_events.specs.Views.{View, Note, Book}
+use Rattle.dc_events.specs.Views.{View, Note}
 use Rattle.dc_events.specs.Rows.{IfFact, note_words}
 use Rattle.dc_events.specs.Standing.{tree_of}
 use Rattle.dc_events.specs.Walks.{no_note}
-use Rattle.dc_events.specs.Effects.{begins, note_at}
-use Rattle.dc_table.specs.Changes.{NothingNew}
-use Rattle.dc_table.specs.Passes.{Pass, view}
+use Rattle.dc_events.specs.Effects.{note_at}
 use Rattle.dc_table.specs.Walking.{HasNoted, IsTrueNow}
 use Rattle.dc_ops.specs.Knowing.{IsKnownOn}
 use Rattle.dc_ops.specs.declared.known.Known.{Known}
-use Rattle.dc_walk.specs.Finds.{use_shown, AllInside}
-use Rattle.dc_walk.specs.Findings.{view_in}
-use Rattle.dc_walk.specs.Looks.{look_shown}
+use Rattle.dc_rows.specs.Guards.{IsStill}
+use Rattle.dc_rows.specs.declared.guard.Guard.{Guard}
+use Rattle.dc_walk.specs.Becomings.{untried_again}
+use Rattle.dc_walk.specs.Finds.{told_in, use_shown}
 use Rattle.dc_walk.specs.Placing.{IsFoundBy}
 use Rattle.dc_walk.specs.Rooms.{Kept}
 use Rattle.dc_walk.specs.Uses.{Use, IsUse, Marked, facts_of}
-use Rattle.dc_walk.specs.Walks.{Went}
-use Rattle.dc_walk.specs.declared.look.Look as rust_look
-use Rattle.dc_walk.proofs.Checks.{begins_book, there_elem}
+use Rattle.dc_walk.proofs.Checks.{there_elem}
 use Rattle.dc_walk.proofs.Marks.{IsNext, any_there}
+use Rattle.dc_walk.proofs.Seats.{same_passes}
 use Rattle.dc_walk.proofs.Told.{answer_is}
 
 module _ (v : View) (us : List Use) (d : Use) (j : ℕ) (marked : Marked 0 0 v.walk.notes us) (less : j < length us) where
-  use_of : Use
+  abbrev use_of : Use
   use_of = get_or us j d
 
   next_is : IsNext 0 v.walk.notes use_of
@@ -75,24 +68,23 @@ all_true t (u ∷ us) d each = (each 0 (omega arith), all_true t us d (λ j less
 
 -- a look-up that was answered so led there
 led_there : (t : Tree) (dir : ℕ) (walked : Result Target Refusal) → (settled t (left_alone t (walked >>= λ place. Ok (Found place.0 place.1)))).0 ≡ Found dir Dir → walked ≡ Ok (dir, Dir)
-led_there t dir (Ok place) e = cc
+led_there t dir (Ok place) e = let number : dir ≡ place.0 = cc in let kind : Dir ≡ place.1 = cc in λ i. Ok (sym number i, sym kind i)
 led_there t dir (Err refusal) e = absurd cc
 
 -- by true facts the path leads there on the tree
 pub known_so : RepliesByFacts → (t : Tree) (known : Known) {v : View} {rows : ℕ} {room : Kept} → IsFoundBy v rows room known → AllByRecursion (Holds t) (facts_of (map use_shown room.items)) → IsKnownOn t known
 known_so replies t known {room = room} found all =
     let facts : List Fact = facts_of (map use_shown room.items) in
-    let answer = answer_is _ known.base known.front.now follow.Dir found.valid ∙ ap (option_map outcome_answer) found.leads in
+    let answer = answer_is (told_in room.items) known.base known.front.now follow.Dir found.valid ∙ ap (option_map outcome_answer) found.leads in
     led_there t known.dir (walk_on t known.base known.front.now follow.Dir) (ap (λ x. x.0) (replies 0 t facts (Look known.base known.front.now follow.Dir) (Found known.dir Dir) all answer))
 
-ends_there : (end : Outcome) (dir : ℕ) → Found dir Dir ≡ outcome_answer end → end ≡ Ends (dir, Dir)
-ends_there (Ends place) dir e = cc
-ends_there (Fails refusal) dir e = absurd cc
-
-module _ (locks : Bool) (look : rust_look.Look) (p q : Pass) (begun : Bool) (us : List Use) where
-  -- a walk that isn't settled records nothing
-  pub nothing_so : {answer : _} → Went locks look (view p) (view_in begun q look) us answer → NothingNew (view p) (view q)
-  nothing_so w =
-      let book : (view_in begun q look).book ≡ (view q).book = begins_book (not begun) (view q) (look_shown look) in
-      let seen = ap (λ (b : Book). b.seen) book in let new = w.walk.nothing in let later = new.later in
-      record { own = sym (ap (λ (b : Book). b.own) book) ∙ new.own; joined = sym (ap (λ (b : Book). b.joined) book) ∙ new.joined; later = omega arith }
+-- a guard that has done nothing, twice
+pub still_again : {f g h : Guard} → IsStill f g → IsStill g h → IsStill f h
+still_again a b = record {
+  holder = record {
+    held = record { same_reference = b.holder.held.same_reference ∙ a.holder.held.same_reference; untried = untried_again a.holder.held.untried b.holder.held.untried };
+    same = same_passes a.holder.same b.holder.same;
+    same_known = b.holder.same_known ∙ a.holder.same_known;
+  };
+  kept = b.kept ∙ a.kept;
+}
