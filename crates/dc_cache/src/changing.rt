@@ -11,12 +11,14 @@ ghost use Rattle.dc_table.specs.Changes.{NothingNew};
 
 use crate::cache::{Dcache, Pass};
 use dc_plain::{Call, Stamped};
-use dc_rows::{ChangeFault, change, shrink};
+use dc_rows::{ChangeFault, shrink};
+use dc_walk::change_by_rows;
 use std::alloc::Global;
 use std::sync::Wait;
 
 impl Dcache {
-    /// Makes a change. It waits for the lock. `Spent` where it would alter the tree for more than the
+    /// Makes a change. It looks the directory of the change's name up by rows, and then waits for the
+    /// lock, which it has for the name alone where the rows told. `Spent` where it would alter the tree for more than the
     /// 2^62nd time, `NoMemory` where memory was refused: then nothing has changed. A change that is
     /// refused, an `Unlink`, a `Rmdir` and an exchange take no memory.
     pub fn change<R: Wait>(
@@ -34,7 +36,14 @@ impl Dcache {
             (request_of call.now)) }
         ensures within { (view pass.new).book.seen ≤ most }
     {
-        let (reply, at) = change(&self.shared, rt, alloc, &mut pass.seat, call)?;
+        let (reply, at) = change_by_rows(
+            &self.shared,
+            rt,
+            alloc,
+            &mut pass.seat,
+            &mut pass.room,
+            call,
+        )?;
         Ok(Stamped { reply, at })
     }
 

@@ -34,7 +34,7 @@ use dc_names::{BUCKET_ROWS, MOST_LINKS, PATH_MAX};
 use dc_row::{ROW_TEXT, ROW_WORDS};
 pub use locked::walk_locked;
 pub use look::Look;
-pub use placing::{find_front, is_known};
+pub use placing::change_by_rows;
 pub use unlocked::walk_fast;
 pub use used::Room;
 pub use why::Why;

@@ -1,11 +1,14 @@
 //! Where a change makes or takes a name, by rows alone, before the change has the lock.
 
 ghost use Rattle.std.specs.Prelude.{◌≡◌, true, IfSome};
+ghost use Rattle.dc_ops.specs.Asked.{IsChange};
 ghost use Rattle.dc_ops.specs.Knowing.{IsKnownOn};
+ghost use Rattle.dc_plain.specs.Requests.{request_of};
 ghost use Rattle.dc_rows.specs.Guards.{seat_of, kept_by, IsStill};
-ghost use Rattle.dc_table.specs.Changes.{NothingNew};
+ghost use Rattle.dc_rows.specs.Outcomes.{IsBack, MakesAlone, MakesHeld};
+ghost use Rattle.dc_table.specs.Changes.{IsTaken, NothingNew};
 ghost use Rattle.dc_table.specs.Holders.{table_of};
-ghost use Rattle.dc_table.specs.Passes.{view, share, StaysOut};
+ghost use Rattle.dc_table.specs.Passes.{view, share, IsIdle, IsSamePass, StaysOut};
 ghost use Rattle.dc_walk.specs.Findings.{CanWalk};
 ghost use Rattle.dc_walk.specs.Placing.{IsFoundBy};
 
@@ -18,8 +21,10 @@ use dc_ops::Known;
 use dc_plain::{Call, Follow, Reply, answers_from_true_facts_are_replies};
 use dc_resolve::front_path;
 use dc_row::words_have_the_fact_they_spell;
-use dc_rows::Guard;
-use dc_table::{Pass, Reader};
+use dc_rows::{ChangeFault, Guard};
+use dc_table::{Pass, Reader, Shared};
+use std::alloc::Global;
+use std::sync::Wait;
 
 /// The directory that a call starts in, and its path: of a link that of the new name, of a rename that of
 /// the old one.
@@ -51,8 +56,7 @@ fn path_of<'a>(call: &Call<'a>) -> (u64, &'a [u8]) {
 /// lock and no memory, never waits, and records nothing. `None` where there are none, where they lead to
 /// no directory, and where the rows don't tell. What was found is known of the tree once `is_known` says
 /// so under the lock.
-#[must_use]
-pub fn find_front<'a>(
+fn find_front<'a>(
     reader: Reader<'_>,
     pass: &mut Pass,
     room: &mut Room,
@@ -80,8 +84,7 @@ pub fn find_front<'a>(
 
 /// Whether what was found still holds, for the pass that has got the lock since: whether each row that
 /// the walk used is as it was. Then the path leads there on the tree, and nobody else can change that.
-#[must_use]
-pub fn is_known(guard: &mut Guard<'_>, room: &Room, known: Known<'_>) -> bool
+fn is_known(guard: &mut Guard<'_>, room: &Room, known: Known<'_>) -> bool
     requires found { let p = seat_of guard.old in IsFoundBy (view p) (share p).rows room.now known }
     ensures same { IsStill guard.old guard.new }
     ensures known { result ≡ true → IsKnownOn (kept_by guard.old).store known.entry }
@@ -94,4 +97,53 @@ pub fn is_known(guard: &mut Guard<'_>, room: &Room, known: Known<'_>) -> bool
         }
     }
     true
+}
+
+/// Makes a change under the lock, by what was found before.
+fn change_held<'t>(
+    mut guard: Guard<'t>,
+    alloc: Global,
+    room: &Room,
+    call: &Call<'_>,
+    found: Option<Known<'_>>,
+) -> (&'t mut Pass, Result<(Reply, u64), ChangeFault>)
+    requires taken { IsTaken (view (seat_of guard)) × IsChange call.now }
+    requires found { IfSome found
+        (let p = seat_of guard in IsFoundBy (view p) (share p).rows room.now) }
+    ensures back { IsBack guard.entry result.0 }
+    ensures made { MakesHeld guard.entry result.0.now (request_of call.now) result.1 }
+{
+    let Some(front) = found else {
+        return guard.change(alloc, call);
+    };
+    if is_known(&mut guard, room, front) {
+        guard.change_knowing(alloc, call, found)
+    } else {
+        guard.change(alloc, call)
+    }
+}
+
+/// Makes a change, as `dc_rows::change`. It looks the directory of the change's name up by rows before it
+/// waits for the lock, so that the lock is held for no longer than the name itself takes.
+pub fn change_by_rows<R: Wait>(
+    shared: &Shared,
+    rt: &R,
+    alloc: Global,
+    pass: &mut Pass,
+    room: &mut Room,
+    call: &Call<'_>,
+) -> Result<(Reply, u64), ChangeFault>
+    requires can { CanWalk shared.now pass.old × IsChange call.now }
+    ensures same { IsSamePass pass.old pass.new × IsIdle pass.new }
+    ensures made { MakesAlone pass.old pass.new (request_of call.now) result }
+{
+    let found = find_front(shared.reader(), pass, room, call);
+    let guard = Guard::lock(shared, rt, pass);
+    let (back, made) = change_held(guard, alloc, room, call, found);
+    // For the proof: the pass is back as it is bound.
+    let _pass = back;
+    // After the lock is given back: a sleeper that was woken before would find it held, and sleep on with
+    // nobody left to wake it.
+    shared.wake();
+    made
 }
