@@ -57,9 +57,10 @@ pub(crate) fn place_path<'p, S: Store>(
         (place_on (S.tree store.now) base (path_in path.entry.bytes.now)) }
 {
     if let Some(known) = known
-        && known.is_front_of(base, path)
+        && known.base == base
+        && let Some(at) = place_in(path, known.front, known.dir)
     {
-        return Ok(place_in(known.dir, path));
+        return Ok(at);
     }
     let mut finder = StoreFinder { store };
     let placed = place(&mut finder, base, path);

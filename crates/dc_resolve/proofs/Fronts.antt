@@ -7,7 +7,7 @@ use Rattle.std.proofs.lemmas.List.Elements.{filter-append}
 use Rattle.std.proofs.lemmas.List.Folds.{list_all-append}
 use Rattle.std.proofs.lemmas.List.Splits.{length-slice_split}
 use Rattle.dc_names.specs.Bytes.{pieces, is_empty, is_part, has_parts}
-use Rattle.dc_names.specs.Paths.{Part, ends_in_slash, part_of, parts_of, words_of}
+use Rattle.dc_names.specs.Paths.{Part, begins_with_slash, ends_in_slash, part_of, parts_of, words_of}
 use Rattle.dc_resolve.specs.Fronts.{Begins, IsFront}
 
 pub begins_itself : (text : List ℕ) → Begins text text
@@ -18,6 +18,11 @@ begins_shorter front text n b = (drop n front ++ b.0, b.1 ∙ ap (λ (xs : List 
 
 pub begins_again : (front mid text : List ℕ) → Begins front mid → Begins mid text → Begins front text
 begins_again front mid text a b = (a.0 ++ b.0, b.1 ∙ ap (λ (xs : List ℕ). xs ++ b.0) a.1 ∙ append_assoc front a.0 b.0)
+
+-- some bytes tell whether a text that begins with them begins with a slash
+pub begins_so : (front text : List ℕ) → 1 ≤ length front → Begins front text → begins_with_slash front ≡ begins_with_slash text
+begins_so [] text some b = absurd (omega arith)
+begins_so (x ∷ xs) text some b = sym (ap begins_with_slash b.1)
 
 onto_first-append : {A : Type 0} (x : A) (ps qs : List (List A)) → 0 < length ps → onto_first x (ps ++ qs) ≡ onto_first x ps ++ qs
 onto_first-append x [] qs some = absurd (omega arith)

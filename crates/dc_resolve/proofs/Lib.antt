@@ -8,3 +8,4 @@ pub mod Needed
 pub mod Splits
 pub mod Spending
 pub mod Walking
+pub mod Slashes

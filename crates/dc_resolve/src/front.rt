@@ -4,20 +4,14 @@ ghost use Rattle.std.specs.Prelude.{◌≡◌, ◌∷◌, ◌++◌, ◌-◌, ◌
 ghost use Rattle.dc_names.specs.Bytes.{has_parts};
 ghost use Rattle.dc_names.specs.Names.{part_shown};
 ghost use Rattle.dc_names.specs.Paths.{ends_in_slash, parts_of};
-ghost use Rattle.dc_resolve.specs.Fronts.{Begins, IsFront, LeadsToFront};
+ghost use Rattle.dc_resolve.specs.Fronts.{Begins, IsFront};
 
-use dc_names::{Part, PathText, first_part};
+use dc_names::{Part, first_part};
 
-/// The path of all components but the last: looked up from the same directory with every link followed
-/// and a directory wanted, it leads to where the last component is to be looked up. `None` where no
-/// component and no name stands before the last.
+/// The bytes of a text before its last component: what a caller looks up beforehand for `place_in`.
 #[must_use]
-pub fn front_path<'p>(path: PathText<'p>) -> Option<&'p [u8]>
-    ensures { IfSome result (λ front. LeadsToFront front.now path.entry.bytes.now) }
-{
-    let (front, _) = split_last(path.bytes())?;
-    let front = before_slashes(front);
-    if front.is_empty() { None } else { Some(front) }
+pub fn before_last_part(text: &[u8]) -> &[u8] {
+    before_last(before_slashes(text))
 }
 
 /// The bytes before the last component, and that component, or `None` where slashes alone are left.

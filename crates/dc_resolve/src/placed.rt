@@ -1,11 +1,10 @@
 //! Where the last part of a path is to be looked up.
 
-ghost use Rattle.std.specs.Prelude.{◌≡◌, ◌+◌, ◌*◌, false, length};
-ghost use Rattle.dc_names.specs.Lasts.Last.{Root};
+ghost use Rattle.std.specs.Prelude.{◌≡◌, ◌+◌, ◌*◌, length, IfSome};
 ghost use Rattle.dc_names.specs.declared.limits.TheConstants.{MOST_LINKS};
 ghost use Rattle.dc_plain.specs.Spots.{where_shown};
 ghost use Rattle.dc_resolve.specs.Ends.{Answers, place_by, placed_shown, stopped_after};
-ghost use Rattle.dc_resolve.specs.Fronts.{IsPlaceIn};
+ghost use Rattle.dc_resolve.specs.Fronts.{IsPlaceIn, LeadsToFront};
 ghost use Rattle.dc_resolve.specs.Needs.{MayAsk};
 
 use crate::front::split_last;
@@ -43,7 +42,11 @@ pub fn place<'p, F: Finder>(finder: &mut F, base: u64, path: PathText<'p>) -> Pl
     ensures becomes { F.becomes finder.old finder.new }
 {
     let Some((front, last)) = split_last(path.bytes()) else {
-        return Placed::At(at_root());
+        return Placed::At(Where {
+            dir: ROOT.0,
+            last: Last::Root,
+            slash: false,
+        });
     };
     match resolve_from(finder, base, path, front, false, Follow::Dir) {
         Ok(End::Found((dir, _))) => Placed::At(Where {
@@ -56,29 +59,21 @@ pub fn place<'p, F: Finder>(finder: &mut F, base: u64, path: PathText<'p>) -> Pl
     }
 }
 
-/// Where the last component of a path is to be looked up, for a caller that knows the directory to
-/// which all other components lead. Where there is none, that is the root.
+/// Where the last component of a path is to be looked up, for a caller that knows where the bytes before
+/// it lead: to this directory, from where the path starts, with every link followed and a directory
+/// wanted. `None` where other bytes stand before it, or none.
 #[must_use]
-pub fn place_in<'p>(dir: u64, path: PathText<'p>) -> Where<'p>
-    ensures { IsPlaceIn dir path.entry.bytes.now (where_shown result) }
+pub fn place_in<'p>(path: PathText<'p>, front: &[u8], dir: u64) -> Option<Where<'p>>
+    ensures front { IfSome result (λ at. LeadsToFront front.now path.entry.bytes.now) }
+    ensures place { IfSome result (λ at. IsPlaceIn dir path.entry.bytes.now (where_shown at)) }
 {
-    let Some((_, last)) = split_last(path.bytes()) else {
-        return at_root();
-    };
-    Where {
+    let (before, last) = split_last(path.bytes())?;
+    if before.is_empty() || before != front {
+        return None;
+    }
+    Some(Where {
         dir,
         last: Last::from(last),
         slash: path.has_end_slash(),
-    }
-}
-
-/// The place of a path that has no component.
-fn at_root<'p>() -> Where<'p>
-    ensures { where_shown result ≡ record { dir = 1; last = Root; slash = false } }
-{
-    Where {
-        dir: ROOT.0,
-        last: Last::Root,
-        slash: false,
-    }
+    })
 }

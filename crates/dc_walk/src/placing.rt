@@ -19,7 +19,7 @@ use crate::walk::walk_rows;
 use dc_names::{Kind, parse};
 use dc_ops::Known;
 use dc_plain::{Call, Follow, Reply, answers_from_true_facts_are_replies};
-use dc_resolve::front_path;
+use dc_resolve::before_last_part;
 use dc_row::words_have_the_fact_they_spell;
 use dc_rows::{ChangeFault, Guard};
 use dc_table::{Pass, Reader, Shared};
@@ -68,7 +68,7 @@ fn find_front<'a>(
     ensures found { IfSome result (IsFoundBy (view pass.new) (share pass.new).rows room.new) }
 {
     let (base, text) = path_of(call);
-    let front = front_path(parse(text).ok()?)?;
+    let front = before_last_part(text);
     let look = Look {
         base,
         path: parse(front).ok()?,

@@ -1,4 +1,4 @@
-use Rattle.std.proofs.Common.{IfSome, subst, sym, ap}
+use Rattle.std.proofs.Common.{◌≡◌, IfSome, subst, sym, ap, rules}
 use Rattle.dc_plain.specs.Refusals.{where_of}
 use Rattle.dc_ops.specs.Knowing.{IsKnownOn}
 use Rattle.dc_ops.specs.Same.{same_tells}
@@ -13,4 +13,6 @@ returns-in-Refused g c = ap where_of (c.in-Refused.ensures.answer _ (same_tells 
 
 pub returns : goal.returns
 returns g c =
-    let yes = c.if-is_front_of.true in known_place (g.S.Store.tree c.args.store.now) c.in-Some.known c.args.path.bytes.now (subst (λ o. IfSome o (IsKnownOn (g.S.Store.tree c.args.store.now))) c.in-Some.is c.requires.known) (c.is_front_of.ensures.base yes) (c.is_front_of.ensures.front yes) c.place_in.ensures
+    let known = c.in-Some.known in
+    let same : c.args.base ≡ known.base = search rules in
+    known_place (g.S.Store.tree c.args.store.now) known c.args.path.bytes.now (subst (λ o. IfSome o (IsKnownOn (g.S.Store.tree c.args.store.now))) c.in-Some.is c.requires.known) same c.in-Some-place_in.ensures.front c.in-Some-place_in.ensures.place
