@@ -69,6 +69,10 @@ fn find_front<'a>(
 {
     let (base, text) = path_of(call);
     let front = before_last_part(text);
+    // The directory that the call starts in, or the root: there is nothing to look up.
+    if front.len() < 2 {
+        return None;
+    }
     let look = Look {
         base,
         path: parse(front).ok()?,
