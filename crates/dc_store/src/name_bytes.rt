@@ -1,19 +1,24 @@
 //! The bytes of names, as the keys of a map.
 
-ghost use Rattle.std.specs.Prelude.{◌≡◌, ℕ, List, [], ◌∷◌, nat_eq};
+ghost use Rattle.std.specs.Prelude.{◌≡◌, ℕ, List, [], ◌∷◌, nat_eq, IfOk};
 ghost use Rattle.std.specs.Cmp.Lexicographic.{pointwise, bytes_decides, nat_list_eq_equiv};
 ghost use Rattle.std.specs.Cmp.Rules.{comparing};
 ghost use Rattle.std.proofs.Common.{ap, rules};
 
-use dc_names::Name;
+use dc_names::{Name, NoMemory};
 use indexmap::Equivalent;
+use smallvec::SmallVec;
+use std::alloc::Global;
 use std::hash::{Hash, Hasher};
 use std::marker::Model;
+
+/// The most bytes of a name that lie in its key. More would make each key larger.
+const MOST_WITHIN: usize = 16;
 
 /// The bytes of a name, hashed at once. A `Vec` of them would be hashed byte by byte.
 #[derive(Drop)]
 pub struct NameBytes {
-    bytes: Vec<u8>,
+    bytes: SmallVec<u8, MOST_WITHIN>,
 }
 
 impl Model for NameBytes {
@@ -23,11 +28,13 @@ impl Model for NameBytes {
 }
 
 impl NameBytes {
-    /// The name of these bytes.
-    pub fn new(bytes: Vec<u8>) -> NameBytes
-        ensures { result ≡ bytes.items }
+    /// A copy of the bytes of a name.
+    pub fn new(alloc: Global, name: Name<'_>) -> Result<NameBytes, NoMemory>
+        ensures { IfOk result (λ bytes. bytes ≡ name.entry.bytes.now) }
     {
-        NameBytes { bytes }
+        Ok(NameBytes {
+            bytes: SmallVec::from_slice(alloc, name.bytes())?,
+        })
     }
 
     pub fn as_slice(&self) -> &[u8]

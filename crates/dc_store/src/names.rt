@@ -52,8 +52,8 @@ impl Names {
         ensures before { IfOk result (λ before. before ≡ lookup name_cmp name.entry.bytes.now self.old) }
         ensures err { OnErr result (self.new ≡ self.old) }
     {
-        let bytes = name.bytes().to_vec(alloc)?;
-        Ok(self.by_name.insert(NameBytes::new(bytes), number)?)
+        let key = NameBytes::new(alloc, name)?;
+        Ok(self.by_name.insert(key, number)?)
     }
 
     /// Lets a name that is there lead elsewhere. It takes no memory.
