@@ -7,7 +7,6 @@ use Rattle.std.proofs.lemmas.Map.Lookups.{exact_bytes}
 use Rattle.std.specs.Cmp.Lexicographic.{pointwise, bytes_decides, nat_list_cmp_total, nat_list_eq_equiv, on_texts_equal, texts_ties}
 use Rattle.std.specs.FinMap.Entries.{put, is_sorted, is_sorted-put, is_sorted-where_key, find-put, length-put, same_entries}
 use Rattle.std.specs.FinMap.Entries.{find as lookup_entry}
-use Rattle.std.specs.Global.{Vec}
 use Rattle.std.specs.List.{IsDistinct}
 use Rattle.std.specs.Map.{lookup, keys_of, KeepsOthers}
 use Rattle.std.specs.Ordering.{eq_by_cmp}
@@ -16,28 +15,28 @@ use Rattle.dc_store.proofs.Spots.{lookup-take}
 use Rattle.dc_store.proofs.Decides.{from_test}
 
 -- what the map finds under some bytes
-abbrev pub found_by : List ℕ → List (Vec ℕ × ℕ) → Option ℕ
-found_by name es = lookup (λ (k : Vec ℕ). pointwise nat_eq name k.items) es
+abbrev pub found_by : List ℕ → List (List ℕ × ℕ) → Option ℕ
+found_by name es = lookup (λ (k : List ℕ). pointwise nat_eq name k) es
 
 pub same_bytes : (a b : List ℕ) → pointwise nat_eq a b ≡ true → a ≡ b
 same_bytes a b e = (bytes_decides a b).0 e
 
-pub sorted_in : (es : List (Vec ℕ × ℕ)) → T (is_sorted name_cmp (in_order es))
+pub sorted_in : (es : List (List ℕ × ℕ)) → T (is_sorted name_cmp (in_order es))
 sorted_in [] = tt
-sorted_in (e ∷ es) = is_sorted-put name_cmp nat_list_cmp_total e.0.items e.1 (in_order es) (sorted_in es)
+sorted_in (e ∷ es) = is_sorted-put name_cmp nat_list_cmp_total e.0 e.1 (in_order es) (sorted_in es)
 
-pub names_sorted : (es : List (Vec ℕ × ℕ)) → IsTrue (is_sorted name_cmp (in_order es))
+pub names_sorted : (es : List (List ℕ × ℕ)) → IsTrue (is_sorted name_cmp (in_order es))
 names_sorted es = from_test _ (sorted_in es)
 
-pub view_sorted : (es : List (Vec ℕ × ℕ)) {names : List (List ℕ × ℕ)} → in_order es ≡ names → IsTrue (is_sorted name_cmp names)
+pub view_sorted : (es : List (List ℕ × ℕ)) {names : List (List ℕ × ℕ)} → in_order es ≡ names → IsTrue (is_sorted name_cmp names)
 view_sorted es is = subst (λ names. IsTrue (is_sorted name_cmp names)) is (names_sorted es)
 
-pub found_in : (es : List (Vec ℕ × ℕ)) (q : List ℕ) → lookup_entry name_cmp q (in_order es) ≡ found_by q es
+pub found_in : (es : List (List ℕ × ℕ)) (q : List ℕ) → lookup_entry name_cmp q (in_order es) ≡ found_by q es
 found_in [] q = refl
 found_in (e ∷ es) q =
-    find-put name_cmp nat_list_cmp_total q e.0.items e.1 (in_order es)
-    ∙ ap (λ b. cond b (Some e.1) (lookup_entry name_cmp q (in_order es))) (sym (texts_ties q e.0.items))
-    ∙ ap (cond (pointwise nat_eq q e.0.items) (Some e.1)) (found_in es q)
+    find-put name_cmp nat_list_cmp_total q e.0 e.1 (in_order es)
+    ∙ ap (λ b. cond b (Some e.1) (lookup_entry name_cmp q (in_order es))) (sym (texts_ties q e.0))
+    ∙ ap (cond (pointwise nat_eq q e.0) (Some e.1)) (found_in es q)
 
 pub same_names : (es fs : List (List ℕ × ℕ)) → T (is_sorted name_cmp es) → T (is_sorted name_cmp fs) → ((q : List ℕ) → lookup_entry name_cmp q es ≡ lookup_entry name_cmp q fs) → es ≡ fs
 same_names = same_entries name_cmp nat_list_cmp_total exact_bytes
@@ -65,16 +64,16 @@ sorted_with : (name : List ℕ) (w : Option ℕ) (names : List (List ℕ × ℕ)
 sorted_with name None names s = is_sorted-where_key name_cmp _ names s
 sorted_with name (Some n) names s = is_sorted-put name_cmp nat_list_cmp_total name n names s
 
-module _ (es fs : List (Vec ℕ × ℕ)) (name : List ℕ) where
+module _ (es fs : List (List ℕ × ℕ)) (name : List ℕ) where
   -- other names find what they found
-  elsewhere : KeepsOthers (λ (x y : Vec ℕ). pointwise nat_eq x.items y.items) (λ (k : Vec ℕ). pointwise nat_eq name k.items) es fs → (q : List ℕ) → pointwise nat_eq name q ≡ false → found_by q fs ≡ found_by q es
+  elsewhere : KeepsOthers (λ (x y : List ℕ). pointwise nat_eq x y) (λ (k : List ℕ). pointwise nat_eq name k) es fs → (q : List ℕ) → pointwise nat_eq name q ≡ false → found_by q fs ≡ found_by q es
   unfolding KeepsOthers
   elsewhere keeps q apart =
-      keeps (λ (k : Vec ℕ). pointwise nat_eq q k.items) (λ x y e. nat_list_eq_equiv.congr q x.items y.items e)
-      (λ k e. ap (pointwise nat_eq q) (sym (same_bytes name k.items e)) ∙ nat_list_eq_equiv.symm q name ∙ apart)
+      keeps (λ (k : List ℕ). pointwise nat_eq q k) (λ x y e. nat_list_eq_equiv.congr q x y e)
+      (λ k e. ap (pointwise nat_eq q) (sym (same_bytes name k e)) ∙ nat_list_eq_equiv.symm q name ∙ apart)
 
   -- one name leads elsewhere, or nowhere
-  module _ (w : Option ℕ) (here : found_by name fs ≡ w) (keeps : KeepsOthers (λ (x y : Vec ℕ). pointwise nat_eq x.items y.items) (λ (k : Vec ℕ). pointwise nat_eq name k.items) es fs) where
+  module _ (w : Option ℕ) (here : found_by name fs ≡ w) (keeps : KeepsOthers (λ (x y : List ℕ). pointwise nat_eq x y) (λ (k : List ℕ). pointwise nat_eq name k) es fs) where
     by_name : (q : List ℕ) → found_by q fs ≡ cond (pointwise nat_eq name q) w (found_by q es)
     by_name q =
         elim (pointwise nat_eq name q) as (λ b. pointwise nat_eq name q ≡ b → found_by q fs ≡ cond b w (found_by q es)) [
@@ -87,17 +86,17 @@ module _ (es fs : List (Vec ℕ × ℕ)) (name : List ℕ) where
         same_names (in_order fs) (with_name name w (in_order es)) (sorted_in fs) (sorted_with name w (in_order es) (sorted_in es))
         (λ q. found_in fs q ∙ by_name q ∙ ap (cond (pointwise nat_eq name q) w) (sym (found_in es q)) ∙ sym (found_with name w (in_order es) q))
 
-  pub name_put : (n : ℕ) → found_by name fs ≡ Some n → KeepsOthers (λ (x y : Vec ℕ). pointwise nat_eq x.items y.items) (λ (k : Vec ℕ). pointwise nat_eq name k.items) es fs → in_order fs ≡ put name_cmp name n (in_order es)
+  pub name_put : (n : ℕ) → found_by name fs ≡ Some n → KeepsOthers (λ (x y : List ℕ). pointwise nat_eq x y) (λ (k : List ℕ). pointwise nat_eq name k) es fs → in_order fs ≡ put name_cmp name n (in_order es)
   name_put n here keeps = changed (Some n) here keeps
 
-  pub name_taken : found_by name fs ≡ None → KeepsOthers (λ (x y : Vec ℕ). pointwise nat_eq x.items y.items) (λ (k : Vec ℕ). pointwise nat_eq name k.items) es fs → in_order fs ≡ without_name name (in_order es)
+  pub name_taken : found_by name fs ≡ None → KeepsOthers (λ (x y : List ℕ). pointwise nat_eq x y) (λ (k : List ℕ). pointwise nat_eq name k) es fs → in_order fs ≡ without_name name (in_order es)
   name_taken here keeps = changed None here keeps
 
-pub length_in : (es : List (Vec ℕ × ℕ)) → IsDistinct (λ (x y : Vec ℕ). pointwise nat_eq x.items y.items) (keys_of es) → length (in_order es) ≡ length es
+pub length_in : (es : List (List ℕ × ℕ)) → IsDistinct (λ (x y : List ℕ). pointwise nat_eq x y) (keys_of es) → length (in_order es) ≡ length es
 length_in [] distinct = refl
 length_in (e ∷ es) distinct =
-    let none = lookup-none (λ (k : Vec ℕ). pointwise nat_eq e.0.items k.items) es (none_past_head (on_texts_equal (λ (k : Vec ℕ). k.items)) e.0 e es distinct (nat_list_eq_equiv.refl e.0.items)) in
+    let none = lookup-none (λ (k : List ℕ). pointwise nat_eq e.0 k) es (none_past_head (on_texts_equal (λ (k : List ℕ). k)) e.0 e es distinct (nat_list_eq_equiv.refl e.0)) in
     let rest = length_in es (IsDistinct-tail _ e.0 (keys_of es) distinct) in
-    let longer = length-put name_cmp nat_list_cmp_total e.0.items e.1 (in_order es) (sorted_in es)
-    ∙ ap (λ (o : Option ℕ). cond (is_some o) (length (in_order es)) (length (in_order es) + 1)) (found_in es e.0.items ∙ none) in
+    let longer = length-put name_cmp nat_list_cmp_total e.0 e.1 (in_order es) (sorted_in es)
+    ∙ ap (λ (o : Option ℕ). cond (is_some o) (length (in_order es)) (length (in_order es) + 1)) (found_in es e.0 ∙ none) in
     omega (arith, longer, rest)

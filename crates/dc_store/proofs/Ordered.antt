@@ -69,26 +69,14 @@ found_bare q (e ∷ es) = elim (eq_by_cmp name_cmp q e.0) as (λ b. cond b (Some
   | false ↦ found_bare q es
 ]
 
-abbrev pub bytes_in : List (Vec ℕ × ℕ) → List (List ℕ)
-bytes_in es = map (λ (k : Vec ℕ). k.items) (keys_of es)
-
-any_found : (q : List ℕ) (es : List (Vec ℕ × ℕ)) → list_any (pointwise nat_eq q) (bytes_in es) ≡ is_some (found_by q es)
+any_found : (q : List ℕ) (es : List (List ℕ × ℕ)) → list_any (pointwise nat_eq q) (keys_of es) ≡ is_some (found_by q es)
 any_found q [] = refl
-any_found q (e ∷ es) = elim (pointwise nat_eq q e.0.items) as (λ b. (b || list_any (pointwise nat_eq q) (bytes_in es)) ≡ is_some (cond b (Some e.1) (found_by q es))) [
+any_found q (e ∷ es) = elim (pointwise nat_eq q e.0) as (λ b. (b || list_any (pointwise nat_eq q) (keys_of es)) ≡ is_some (cond b (Some e.1) (found_by q es))) [
   | true ↦ refl
   | false ↦ any_found q es
 ]
 
 -- ---- names that differ and don't fall rise
-apart_bytes : (x : Vec ℕ) (keys : List (Vec ℕ)) → AllByRecursion (λ (y : Vec ℕ). pointwise nat_eq x.items y.items ≡ false) keys → AllByRecursion (λ y. pointwise nat_eq x.items y ≡ false) (map (λ (k : Vec ℕ). k.items) keys)
-apart_bytes x [] all = tt
-apart_bytes x (y ∷ ys) all = (all.0, apart_bytes x ys all.1)
-
-distinct_bytes : (keys : List (Vec ℕ)) → IsDistinct (λ (x y : Vec ℕ). pointwise nat_eq x.items y.items) keys → IsDistinct (pointwise nat_eq) (map (λ (k : Vec ℕ). k.items) keys)
-unfolding IsDistinct
-distinct_bytes [] distinct = tt
-distinct_bytes (x ∷ xs) distinct = (apart_bytes x xs distinct.0, distinct_bytes xs distinct.1)
-
 rises : (a b : List ℕ) (o : Ordering) → name_cmp a b ≡ o → is_lt (name_cmp b a) ≡ false → pointwise nat_eq a b ≡ false → o ≡ Less
 rises a b Less is falls same = refl
 rises a b Equal is falls same = absurd (subst T (sym (texts_ties a b ∙ ap is_eq is) ∙ same) tt)
@@ -114,16 +102,16 @@ names_bare : (es : List (List ℕ × ℕ)) → map (λ (e : List ℕ × ℕ). e.
 names_bare [] = refl
 names_bare (e ∷ es) = ap (λ l. e.0 ∷ l) (names_bare es)
 
-pub names_ordered : (es : List (Vec ℕ × ℕ)) → IsDistinct (λ (x y : Vec ℕ). pointwise nat_eq x.items y.items) (keys_of es) → (names : List (List ℕ)) → IsPermutation (bytes_in es) names → IsSorted name_cmp names → names ≡ map (λ (e : List ℕ × ℕ). e.0) (in_order es)
+pub names_ordered : (es : List (List ℕ × ℕ)) → IsDistinct (pointwise nat_eq) (keys_of es) → (names : List (List ℕ)) → IsPermutation (keys_of es) names → IsSorted name_cmp names → names ≡ map (λ (e : List ℕ × ℕ). e.0) (in_order es)
 names_ordered es distinct names moved sorted =
-    let strictly = risen names (IsDistinct-IsPermutation (pointwise nat_eq) nat_list_eq_equiv.symm (bytes_in es) names moved (distinct_bytes (keys_of es) distinct)) sorted in
+    let strictly = risen names (IsDistinct-IsPermutation (pointwise nat_eq) nat_list_eq_equiv.symm (keys_of es) names moved distinct) sorted in
     let same = same_names (map alone names) (map bare (in_order es)) (sorted_alone names strictly) (sorted_bare (in_order es) (sorted_in es))
-    (λ q. found_alone q names ∙ ap said (sym (list_any-IsPermutation (pointwise nat_eq q) (bytes_in es) names moved) ∙ any_found q es ∙ ap is_some (sym (found_in es q))) ∙ sym (found_bare q (in_order es))) in
+    (λ q. found_alone q names ∙ ap said (sym (list_any-IsPermutation (pointwise nat_eq q) (keys_of es) names moved) ∙ any_found q es ∙ ap is_some (sym (found_in es q))) ∙ sym (found_bare q (in_order es))) in
     sym (names_alone names) ∙ ap (map (λ (e : List ℕ × ℕ). e.0)) same ∙ names_bare (in_order es)
 
 -- keys that were copied and put in order are the names in order
-pub keys_ordered : (es : List (Vec ℕ × ℕ)) (copied moved : List (Vec ℕ))
-    → IsDistinct (λ (x y : Vec ℕ). pointwise nat_eq x.items y.items) (keys_of es) → map (λ (k : Vec ℕ). k.items) copied ≡ bytes_in es → IsPermutation copied moved
+pub keys_ordered : (es : List (List ℕ × ℕ)) (copied moved : List (Vec ℕ))
+    → IsDistinct (pointwise nat_eq) (keys_of es) → map (λ (k : Vec ℕ). k.items) copied ≡ keys_of es → IsPermutation copied moved
     → IsSorted (λ (x y : Vec ℕ). name_cmp x.items y.items) moved → map (λ (k : Vec ℕ). k.items) moved ≡ map (λ (e : List ℕ × ℕ). e.0) (in_order es)
 keys_ordered es copied moved distinct same permuted sorted =
     let all = subst (λ names. IsPermutation names (map (λ (k : Vec ℕ). k.items) moved)) same (IsPermutation-map (λ (k : Vec ℕ). k.items) copied moved permuted) in

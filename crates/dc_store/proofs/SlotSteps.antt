@@ -1,5 +1,5 @@
 -- Inodes in the slots of a slab, as an inode is added, written or dropped.
-use Rattle.std.proofs.Common.{◌≡◌, ◌≢◌, ℕ, ◌+◌, List, length, nat_eq, false, cond, Option, Some, None, is_some, IsSome, IsTrue, option_and_then, refl, ap, sym, ◌∙◌, subst, arith, if◌then◌else◌}
+use Rattle.std.proofs.Common.{◌≡◌, ◌≢◌, ℕ, ◌+◌, List, length, nat_eq, false, cond, Option, Some, None, is_some, IsTrue, option_and_then, refl, ap, sym, ◌∙◌, subst, arith, if◌then◌else◌}
 use Rattle.std.proofs.lemmas.List.Sums.{sum_by-set}
 use Rattle.std.specs.Cmp.{nat_cmp_total}
 use Rattle.std.specs.FinMap.Entries.{put, length-put, length_without}
@@ -31,13 +31,6 @@ module _ (slab : Slab Inode) (keys : List (ℕ × ℕ)) (kept : IsKept slab keys
       by_key : (o : Option ℕ) → key_of keys n ≡ o → o ≡ None
       by_key None e = refl
       by_key (Some key) e = absurd (some_not_none (slot slab key) (ap (option_and_then (slot slab)) (sym e) ∙ sym (at_number slab keys n) ∙ none) (kept.filled n key e))
-
-  pub has_key : IsSome (inode_at (inodes_in slab keys) n) → IsSome (key_of keys n)
-  has_key some = by_key (key_of keys n) (subst IsSome (at_number slab keys n) some)
-    where
-      by_key : (o : Option ℕ) → IsSome (option_and_then (slot slab) o) → IsSome o
-      by_key None h = h
-      by_key (Some key) h = refl
 
   module _ (key : ℕ) where
     module _ (at : key_of keys n ≡ Some key) where

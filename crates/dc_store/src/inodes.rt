@@ -1,12 +1,12 @@
 //! Inodes in a slab, found by their numbers.
 
-ghost use Rattle.std.specs.Prelude.{◌≡◌, ℕ, ◌<◌, ◌^◌, List, [], length, Some, None, IsSome, IsTrue, IfOk, OnOk, OnErr, IfSome};
+ghost use Rattle.std.specs.Prelude.{◌≡◌, ℕ, ◌<◌, ◌^◌, List, [], length, None, IsSome, IsTrue, IfOk, OnOk, OnErr, IfSome};
 ghost use Rattle.std.specs.FinMap.Entries.{put, is_sorted};
 ghost use Rattle.std.specs.Ordering.{nat_cmp};
 ghost use Rattle.std.specs.Borrow.{sem};
 ghost use Rattle.std.specs.Option.{option_copied, option_copied_mut};
 ghost use Rattle.dc_store.specs.Inodes.{inode_at, changed, with_name, less_name, one_up, one_down, held_by, count_kept, without_inode, inodes_after, led_to};
-ghost use Rattle.dc_store.specs.Lending.{LendsInode, LendsInodeIf};
+ghost use Rattle.dc_store.specs.Lending.{LendsInodeIf};
 
 use crate::inode::Inode;
 use dc_names::{Name, NoMemory};
@@ -67,21 +67,8 @@ impl Inodes {
         ensures value { option_copied_mut result ≡ inode_at self.old number }
         ensures in_order { IsTrue (is_sorted nat_cmp self.old) }
     {
-        if self.get(number).is_some() {
-            Some(self.at_mut(number))
-        } else {
-            None
-        }
-    }
-
-    fn at_mut(&mut self, number: u64) -> &mut Inode
-        requires { IsSome (inode_at self.old number) }
-        ensures* writes_back { sem 𝓛 (LendsInode self.entry number result) }
-        ensures value { inode_at self.old number ≡ Some result.now }
-        ensures in_order { IsTrue (is_sorted nat_cmp self.old) }
-    {
-        let key = self.keys[&number];
-        &mut self.slab[key]
+        let key = *self.keys.get(&number)?;
+        Some(&mut self.slab[key])
     }
 
     /// Adds an inode under a number where none is.

@@ -7,6 +7,7 @@ mod inode;
 mod inodes;
 mod laws;
 mod map_store;
+mod name_bytes;
 mod names;
 mod node;
 mod slab_store;

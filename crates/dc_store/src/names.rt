@@ -6,16 +6,17 @@ ghost use Rattle.std.specs.FinMap.Entries.{find as lookup};
 ghost use Rattle.dc_plain.specs.BytesShown.{names_shown};
 ghost use Rattle.dc_store.specs.Names.{in_order, name_cmp, without_name};
 
+use crate::name_bytes::{NameBytes, SoughtBytes};
 use dc_names::{Name, NoMemory};
+use indexmap::IndexMap;
 use std::alloc::Global;
-use std::collections::HashMap;
 use std::marker::Model;
 
 /// The names in a directory, each with the number that it leads to, found by a hash. They are seen as a
 /// list in the order of their bytes, whatever order the map keeps them in.
 #[derive(Drop)]
 pub struct Names {
-    by_name: HashMap<Vec<u8>, u64>,
+    by_name: IndexMap<NameBytes, u64>,
 }
 
 impl Model for Names {
@@ -29,7 +30,7 @@ impl Names {
         ensures { result ≡ [] }
     {
         Names {
-            by_name: HashMap::new(alloc),
+            by_name: IndexMap::new(alloc),
         }
     }
 
@@ -37,7 +38,7 @@ impl Names {
     pub fn get(&self, name: Name<'_>) -> Option<u64>
         ensures { result ≡ lookup name_cmp name.entry.bytes.now self.now }
     {
-        self.by_name.get(name.bytes()).copied()
+        self.by_name.get(SoughtBytes::new(name)).copied()
     }
 
     /// Puts a name in, and answers where it led before.
@@ -51,8 +52,8 @@ impl Names {
         ensures before { IfOk result (λ before. before ≡ lookup name_cmp name.entry.bytes.now self.old) }
         ensures err { OnErr result (self.new ≡ self.old) }
     {
-        let name = name.bytes().to_vec(alloc)?;
-        Ok(self.by_name.insert(name, number)?)
+        let key = NameBytes::new(alloc, name)?;
+        Ok(self.by_name.insert(key, number)?)
     }
 
     /// Lets a name that is there lead elsewhere. It takes no memory.
@@ -61,7 +62,7 @@ impl Names {
         ensures { self.new ≡ put name_cmp name.entry.bytes.now number self.old }
     {
         // The caller knows that the name is there.
-        let Some(target) = self.by_name.get_mut(name.bytes()) else {
+        let Some(target) = self.by_name.get_mut(SoughtBytes::new(name)) else {
             unreachable!();
         };
         *target = number;
@@ -72,7 +73,7 @@ impl Names {
         ensures rest { self.new ≡ without_name name.entry.bytes.now self.old }
         ensures before { result ≡ lookup name_cmp name.entry.bytes.now self.old }
     {
-        self.by_name.remove(name.bytes())
+        self.by_name.swap_remove(SoughtBytes::new(name))
     }
 
     /// How many names there are.
@@ -91,7 +92,7 @@ impl Names {
     {
         let mut names = Vec::new(alloc);
         for name in self.by_name.keys() {
-            names.push(name.to_vec(alloc)?)?;
+            names.push(name.as_slice().to_vec(alloc)?)?;
         }
         names.sort_unstable();
         Ok(names)

@@ -6,5 +6,5 @@ use Rattle.dc_store.proofs.names.Names.get.Goals as goal
 
 pub returns : goal.returns
 returns c =
-    c.copied.ensures ∙ c.get.ensures.value ∙ sym (found_in c.self.inside.by_name.entries c.bytes.result.now)
-    ∙ (λ i. find name_cmp (c.bytes.ensures.bytes i) (c.self.view_is i))
+    c.copied.ensures ∙ c.get.ensures.value ∙ sym (found_in c.self.inside.by_name.entries c.new.result.bytes.now)
+    ∙ (λ i. find name_cmp (c.new.ensures i) (c.self.view_is i))

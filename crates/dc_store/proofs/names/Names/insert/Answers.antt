@@ -1,4 +1,4 @@
-use Rattle.std.proofs.Common.{◌≡◌, sym, ◌∙◌, rules}
+use Rattle.std.proofs.Common.{◌≡◌, sym, ◌∙◌}
 use Rattle.std.specs.FinMap.Entries.{find, put}
 use Rattle.dc_store.specs.Names.{name_cmp}
 use Rattle.dc_store.proofs.Named.{found_in, name_put}
@@ -6,11 +6,11 @@ use Rattle.dc_store.proofs.names.Names.insert.Goals as goal
 
 pub returns-clause-ok : goal.returns-clause-ok
 returns-clause-ok c =
-    let is : c.in_ok-name.name.items ≡ c.args.name.bytes.now = search rules in
-    name_put c.self.inside.by_name.entries c.insert.new.self.entries c.in_ok-name.name.items c.args.number c.in_ok-insert.ensures.updates.1 c.in_ok-insert.ensures.updates.3
+    let is : c.in_ok-key.key ≡ c.args.name.bytes.now = c.in_ok-key.ensures in
+    name_put c.self.inside.by_name.entries c.insert.new.self.entries c.in_ok-key.key c.args.number c.in_ok-insert.ensures.updates.1 c.in_ok-insert.ensures.updates.3
     ∙ (λ i. put name_cmp (is i) c.args.number (c.self.view_is i))
 
 pub returns-clause-before : goal.returns-clause-before
 returns-clause-before c =
-    let is : c.in_ok-name.name.items ≡ c.args.name.bytes.now = search rules in
-    c.in_ok-insert.ensures.old ∙ sym (found_in c.self.inside.by_name.entries c.in_ok-name.name.items) ∙ (λ i. find name_cmp (is i) (c.self.view_is i))
+    let is : c.in_ok-key.key ≡ c.args.name.bytes.now = c.in_ok-key.ensures in
+    c.in_ok-insert.ensures.old ∙ sym (found_in c.self.inside.by_name.entries c.in_ok-key.key) ∙ (λ i. find name_cmp (is i) (c.self.view_is i))

@@ -2,4 +2,4 @@ use Rattle.std.proofs.Common.{◌≡◌, map}
 use Rattle.dc_store.proofs.names.Names.list.Given as goal
 
 abbrev pub invariant-loop-name : goal.invariant-loop-name
-invariant-loop-name l = map (λ name. name.items) l.names.items ≡ map (λ key. key.now.items) l.yielded
+invariant-loop-name l = map (λ name. name.items) l.names.items ≡ map (λ key. key.now) l.yielded

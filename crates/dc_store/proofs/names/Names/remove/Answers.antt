@@ -6,8 +6,8 @@ use Rattle.dc_store.proofs.names.Names.remove.Goals as goal
 
 pub returns-clause-rest : goal.returns-clause-rest
 returns-clause-rest c =
-    name_taken c.self.inside.by_name.entries c.remove.new.self.entries c.bytes.result.now c.remove.ensures.updates.1 c.remove.ensures.updates.3
-    ∙ (λ i. without_name (c.bytes.ensures.bytes i) (c.self.view_is i))
+    name_taken c.self.inside.by_name.entries c.swap_remove.new.self.entries c.new.result.bytes.now c.swap_remove.ensures.updates.1 c.swap_remove.ensures.updates.3
+    ∙ (λ i. without_name (c.new.ensures i) (c.self.view_is i))
 
 pub returns-clause-before : goal.returns-clause-before
-returns-clause-before c = c.remove.ensures.value ∙ sym (found_in c.self.inside.by_name.entries c.bytes.result.now) ∙ (λ i. find name_cmp (c.bytes.ensures.bytes i) (c.self.view_is i))
+returns-clause-before c = c.swap_remove.ensures.value ∙ sym (found_in c.self.inside.by_name.entries c.new.result.bytes.now) ∙ (λ i. find name_cmp (c.new.ensures i) (c.self.view_is i))
