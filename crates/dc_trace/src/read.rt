@@ -2,6 +2,7 @@
 
 use crate::{Timed, TraceFault};
 use dc_lang::{Command, Line, LineFault, SESSION_COUNT, base_after, read_line, read_reply};
+use dc_names::NoMemory;
 use dc_plain::{ROOT, Reply};
 use std::alloc::Global;
 use std::str;
@@ -100,25 +101,53 @@ fn follow(lane: &mut Vec<Timed>) -> Result<(), TraceFault> {
     Ok(())
 }
 
-/// The calls of each session by their times, from the lines of a text, of which the last may lack its
-/// newline. The lines stand in any order.
-pub fn read_trace(alloc: Global, text: &[u8]) -> Result<Vec<Vec<Timed>>, TraceFault> {
-    let mut lanes = Vec::new(alloc);
-    for _ in 0..SESSION_COUNT {
-        lanes.push(Vec::new(alloc))?;
+/// Adds the call of a line to its session's.
+fn read_call(
+    alloc: Global,
+    number: u64,
+    line: &[u8],
+    lanes: &mut [Vec<Timed>],
+) -> Result<(), TraceFault> {
+    let text = line.strip_suffix(b"\n").unwrap_or(line);
+    let timed = timed_in(alloc, number, text).map_err(|fault| TraceFault::of(fault, number))?;
+    if let Some(lane) = lanes.get_mut(timed.command.session as usize) {
+        lane.push(timed)?;
     }
+    Ok(())
+}
+
+/// Adds the calls of a text's lines, in the order of the lines.
+fn read_calls(alloc: Global, text: &[u8], lanes: &mut [Vec<Timed>]) -> Result<(), TraceFault> {
     let lines = text.split_inclusive(|byte| *byte == b'\n');
     for (at, line) in lines.enumerate() {
-        let number = (at as u64).saturating_add(1);
-        let line = line.strip_suffix(b"\n").unwrap_or(line);
-        let timed = timed_in(alloc, number, line).map_err(|fault| TraceFault::of(fault, number))?;
-        if let Some(lane) = lanes.get_mut(timed.command.session as usize) {
-            lane.push(timed)?;
-        }
+        read_call(alloc, (at as u64).saturating_add(1), line, lanes)?;
     }
+    Ok(())
+}
+
+/// Brings the calls of each session into the order of their times.
+fn settle(lanes: &mut [Vec<Timed>]) -> Result<(), TraceFault> {
     for lane in lanes.iter_mut() {
         lane.sort_by_key(|timed| timed.start)?;
         follow(lane)?;
     }
+    Ok(())
+}
+
+/// No calls, of each session.
+fn no_calls(alloc: Global) -> Result<Vec<Vec<Timed>>, NoMemory> {
+    let mut lanes = Vec::new(alloc);
+    for _ in 0..SESSION_COUNT {
+        lanes.push(Vec::new(alloc))?;
+    }
+    Ok(lanes)
+}
+
+/// The calls of each session by their times, from the lines of a text, of which the last may lack its
+/// newline. The lines stand in any order.
+pub fn read_trace(alloc: Global, text: &[u8]) -> Result<Vec<Vec<Timed>>, TraceFault> {
+    let mut lanes = no_calls(alloc)?;
+    read_calls(alloc, text, &mut lanes)?;
+    settle(&mut lanes)?;
     Ok(lanes)
 }

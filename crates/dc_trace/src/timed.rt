@@ -8,7 +8,7 @@ use std::error::Error;
 use std::fmt;
 
 /// A call that began and ended at these times of one clock.
-#[derive(Debug, Drop)]
+#[derive(Drop)]
 pub struct Timed {
     /// Its line, counted from 1.
     pub line: u64,
@@ -25,7 +25,7 @@ pub struct Timed {
 }
 
 /// Why a text is no trace.
-#[derive(Clone, Copy, Debug, PartialEq, Eq)]
+#[derive(Clone, Copy, Debug)]
 pub enum TraceFault {
     /// This line is none of the grammar, ends before it begins, or begins before its session's call
     /// before it has ended.

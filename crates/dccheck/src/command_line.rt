@@ -25,47 +25,96 @@ pub struct Options<'a> {
     pub task: Task<'a>,
 }
 
-/// A file that is judged, where there is no trace.
-fn file<'a>(alloc: Global, id: &'a str, help: &'a str) -> Result<Arg<'a>, Error> {
+/// What an option or a file is given.
+#[derive(Clone, Copy)]
+enum Given {
+    /// Nothing: it is a flag.
+    Nothing,
+    /// A number, and its default.
+    Number(&'static str),
+    /// The path of a trace.
+    Trace,
+    /// The path of a file of a record, which stands without a name before it.
+    Record,
+}
+
+/// An option or a file: its name, what it is given, and what it is for.
+#[derive(Clone, Copy)]
+struct Choice(&'static str, Given, &'static str);
+
+const CHOICES: [Choice; 6] = [
+    Choice(
+        "inodes",
+        Given::Number("65536"),
+        "How many inodes may live: from 1 to 1048576",
+    ),
+    Choice(
+        "trace",
+        Given::Trace,
+        "Judges calls with their times in place of a record: a file, or -",
+    ),
+    Choice(
+        "states",
+        Given::Number("100000"),
+        "How many states are visited to find an order of the trace",
+    ),
+    Choice("json", Given::Nothing, "One line of JSON"),
+    Choice(
+        "COMMANDS",
+        Given::Record,
+        "What the server read: a file, or - for standard input",
+    ),
+    Choice(
+        "REPLIES",
+        Given::Record,
+        "What it answered: a file, or - for standard input",
+    ),
+];
+
+/// A file of a record, where there is no trace.
+fn file<'a>(alloc: Global, id: &'a str) -> Result<Arg<'a>, Error> {
     Ok(
         Arg::new(alloc, id)
             .required_unless_present("trace")?
-            .conflicts_with("trace")?
-            .help(help),
+            .conflicts_with("trace")?,
     )
 }
 
 /// An option with a value.
-fn option<'a>(alloc: Global, id: &'a str, value: &'a str, help: &'a str) -> Arg<'a> {
-    Arg::new(alloc, id).long(id).value_name(value).help(help)
+fn valued<'a>(alloc: Global, id: &'a str, value: &'a str) -> Arg<'a> {
+    Arg::new(alloc, id).long(id).value_name(value)
+}
+
+/// An option without what it is for.
+fn bare<'a>(alloc: Global, id: &'a str, given: Given) -> Result<Arg<'a>, Error> {
+    match given {
+        Given::Nothing => Ok(Arg::new(alloc, id).long(id).action(ArgAction::SetTrue)),
+        Given::Number(default) => Ok(valued(alloc, id, "N").default_value(default)),
+        Given::Trace => Ok(valued(alloc, id, "FILE")),
+        Given::Record => file(alloc, id),
+    }
+}
+
+/// A command with an option more.
+fn with<'a>(alloc: Global, command: Command<'a>, choice: &Choice) -> Result<Command<'a>, Error> {
+    let Choice(id, given, help) = *choice;
+    let arg = bare(alloc, id, given)?;
+    Ok(command.arg(arg.help(help))?)
+}
+
+/// The command with all options.
+fn command<'a>(alloc: Global) -> Result<Command<'a>, Error> {
+    let mut command = Command::new(alloc, "dccheck")
+        .about("Says whether stamped replies are what one plain tree answers")
+        .no_binary_name(true);
+    for choice in &CHOICES {
+        command = with(alloc, command, choice)?;
+    }
+    Ok(command)
 }
 
 fn matches_in<'a>(alloc: Global, words: &'a [String]) -> Result<ArgMatches<'a>, Error> {
-    let inodes = "How many inodes may live: from 1 to 1048576";
-    let states = "How many states are visited to find an order of the trace";
-    let trace = "Judges calls with their times in place of a record: a file, or -";
-    let json = Arg::new(alloc, "json")
-        .long("json")
-        .help("One line of JSON")
-        .action(ArgAction::SetTrue);
-    let command = Command::new(alloc, "dccheck")
-        .about("Says whether stamped replies are what one plain tree answers")
-        .no_binary_name(true)
-        .arg(option(alloc, "inodes", "N", inodes).default_value("65536"))?
-        .arg(option(alloc, "trace", "FILE", trace))?
-        .arg(option(alloc, "states", "N", states).default_value("100000"))?
-        .arg(json)?
-        .arg(file(
-            alloc,
-            "COMMANDS",
-            "What the server read: a file, or - for standard input",
-        )?)?
-        .arg(file(
-            alloc,
-            "REPLIES",
-            "What it answered: a file, or - for standard input",
-        )?)?;
-    command.try_get_matches_from(words)
+    command(alloc)?.try_get_matches_from(words)
 }
 
 /// The text of an argument, empty where clap found none.

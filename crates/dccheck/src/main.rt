@@ -78,6 +78,23 @@ fn tell_report(rt: &HostRuntime, options: &Options, report: &Report) -> Result<u
     Ok(if report.is_legal() { 0 } else { 1 })
 }
 
+/// Judges a record whose files are read. Answers the status.
+fn check_bytes(
+    rt: &HostRuntime,
+    options: &Options,
+    progress: &Progress,
+    input: &[u8],
+    output: &[u8],
+) -> Result<u8, Fault>
+    requires least { 1 ≤ options.now.inodes }
+    requires most { options.now.inodes ≤ MOST_INODES }
+{
+    let record = Record::read(rt.alloc(), input, output)?;
+    progress.tell(rt, "the replies are paired with the commands");
+    let report = record.judge(rt.alloc(), options.inodes)?;
+    tell_report(rt, options, &report)
+}
+
 /// Judges a record. Answers the status.
 fn check_record(
     rt: &HostRuntime,
@@ -92,10 +109,7 @@ fn check_record(
     let input = read(rt, commands, File::Commands)?;
     let output = read(rt, replies, File::Replies)?;
     progress.tell(rt, "the files are read");
-    let record = Record::read(rt.alloc(), &input, &output)?;
-    progress.tell(rt, "the replies are paired with the commands");
-    let report = record.judge(rt.alloc(), options.inodes)?;
-    tell_report(rt, options, &report)
+    check_bytes(rt, options, &progress, &input, &output)
 }
 
 /// Writes what is said of a trace, and what was judged. Answers the status.

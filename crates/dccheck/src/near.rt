@@ -38,8 +38,12 @@ fn share_name(one: &Command, other: &Command) -> bool {
     false
 }
 
-/// The places of the changes that were made, by their points, and that have a name in common with a
-/// command.
+/// Whether a change was made that has a name in common with a command.
+fn is_kin(command: &Command, other: &Served, stamp: &Stamp) -> bool {
+    is_done(&stamp.reply) && share_name(command, other.command)
+}
+
+/// The points and places of such changes, but for the one at this place.
 fn kin_of(
     alloc: Global,
     served: &[Served],
@@ -49,12 +53,20 @@ fn kin_of(
 ) -> Result<Vec<(u64, usize)>, NoMemory> {
     let mut kin = Vec::new(alloc);
     for (at, (one, stamp)) in served.iter().zip(stamps).enumerate() {
-        if at != place && is_done(&stamp.reply) && share_name(command, one.command) {
+        if at != place && is_kin(command, one, stamp) {
             kin.push((stamp.at, at))?;
         }
     }
-    kin.sort_by_key(|pair| pair.0)?;
     Ok(kin)
+}
+
+/// The places of the changes nearest to a point: the last two below it, and the first that isn't.
+fn around(alloc: Global, kin: &[(u64, usize)], point: u64) -> Result<Vec<usize>, NoMemory> {
+    let below = kin.iter().filter(|pair| pair.0 < point).count();
+    let first = below.saturating_sub(BELOW);
+    let many = below.saturating_sub(first).saturating_add(1);
+    let near = kin.iter().skip(first).take(many);
+    Ok(near.map(|pair| pair.1).collect(alloc)?)
 }
 
 /// The places of the changes nearest to a line: of the lines that say that a change was made and whose
@@ -68,15 +80,7 @@ pub fn nearest(
     let (Some(one), Some(stamp)) = (served.get(place), stamps.get(place)) else {
         return Ok(Vec::new(alloc));
     };
-    let kin = kin_of(alloc, served, stamps, place, one.command)?;
-    let below = kin.iter().filter(|pair| pair.0 < stamp.at).count();
-    let first = below.saturating_sub(BELOW);
-    let many = below.saturating_sub(first).saturating_add(1);
-    Ok(
-        kin.iter()
-            .skip(first)
-            .take(many)
-            .map(|pair| pair.1)
-            .collect(alloc)?,
-    )
+    let mut kin = kin_of(alloc, served, stamps, place, one.command)?;
+    kin.sort_by_key(|pair| pair.0)?;
+    around(alloc, &kin, stamp.at)
 }

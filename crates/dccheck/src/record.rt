@@ -11,6 +11,7 @@ use dc_check::{PhasedVerdict, RecordFault, Stamp, check_phases, record_of, reply
 use dc_lang::{
     Line, LineFault, Served, read_lines, read_reply, serving_order, write_command, write_reply,
 };
+use dc_names::NoMemory;
 use dc_plain::Stamped;
 use std::alloc::{AllocError, Global};
 
@@ -61,16 +62,33 @@ fn phases_of(alloc: Global, served: &[Served]) -> Result<Vec<u64>, AllocError> {
     served.iter().map(|one| one.phase).collect(alloc)
 }
 
+/// The stamps of a record whose commands were read, and the numbers of their phases.
+fn stamps_of(
+    alloc: Global,
+    input: &[u8],
+    output: &[u8],
+    lines: &[Line],
+) -> Result<(Vec<Stamp>, Vec<u64>), Fault> {
+    let served = serving_order(alloc, lines)?;
+    let stamps = record_of(alloc, input, output).map_err(|fault| record_fault(
+        alloc, lines, &served, output, fault,
+    ))?;
+    Ok((stamps, phases_of(alloc, &served)?))
+}
+
+/// The command at a place, or no bytes.
+fn command_at(alloc: Global, served: &[Served], place: usize) -> Result<Vec<u8>, NoMemory> {
+    match served.get(place) {
+        Some(one) => write_command(alloc, one.command),
+        None => Ok(Vec::new(alloc)),
+    }
+}
+
 impl<'a> Record<'a> {
     /// Reads the commands and the replies.
     pub fn read(alloc: Global, input: &[u8], output: &'a [u8]) -> Result<Record<'a>, Fault> {
         let lines = read_lines(alloc, input)?;
-        let served = serving_order(alloc, &lines)?;
-        let stamps = record_of(alloc, input, output).map_err(|fault| record_fault(
-            alloc, &lines, &served, output, fault,
-        ))?;
-        let phases = phases_of(alloc, &served)?;
-        drop(served);
+        let (stamps, phases) = stamps_of(alloc, input, output, &lines)?;
         Ok(Record {
             lines,
             stamps,
@@ -87,10 +105,7 @@ impl<'a> Record<'a> {
     /// The reply at a place, with its command.
     fn answered(&self, alloc: Global, served: &[Served], place: usize) -> Result<Answered, Fault> {
         let reply = self.output.split(|byte| *byte == b'\n').nth(place);
-        let command = match served.get(place) {
-            Some(one) => write_command(alloc, one.command)?,
-            None => Vec::new(alloc),
-        };
+        let command = command_at(alloc, served, place)?;
         Ok(Answered {
             line: (place as u64).saturating_add(1),
             reply: Vec::from_slice(alloc, reply.unwrap_or(b""))?,
@@ -118,6 +133,15 @@ impl<'a> Record<'a> {
         }
     }
 
+    /// The replies nearest to that at a place, with their commands.
+    fn near(&self, alloc: Global, served: &[Served], place: usize) -> Result<Vec<Answered>, Fault> {
+        let mut near = Vec::new(alloc);
+        for other in &nearest(alloc, served, &self.stamps, place)? {
+            near.push(self.answered(alloc, served, *other)?)?;
+        }
+        Ok(near)
+    }
+
     /// What is wrong in a line of the replies.
     fn wrong(&self, alloc: Global, inodes: u64, line: u64) -> Result<Wrong, Fault>
         requires least { 1 ≤ inodes }
@@ -125,10 +149,7 @@ impl<'a> Record<'a> {
     {
         let served = serving_order(alloc, &self.lines)?;
         let place = (line as usize).saturating_sub(1);
-        let mut near = Vec::new(alloc);
-        for other in &nearest(alloc, &served, &self.stamps, place)? {
-            near.push(self.answered(alloc, &served, *other)?)?;
-        }
+        let near = self.near(alloc, &served, place)?;
         Ok(Wrong {
             line: self.answered(alloc, &served, place)?,
             due: self.due(alloc, inodes, place)?,

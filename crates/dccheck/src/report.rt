@@ -52,22 +52,52 @@ fn push_near(alloc: Global, out: &mut Vec<u8>, one: &Answered) -> Result<(), All
     push_answered(out, one)
 }
 
+/// Adds a line that is bad, the reply that is due, and the changes nearest to it.
+fn push_wrong(alloc: Global, out: &mut Vec<u8>, wrong: &Wrong) -> Result<(), AllocError> {
+    push_answered(out, &wrong.line)?;
+    if let Some(due) = &wrong.due {
+        push_all(out, &[b"due: ", due])?;
+    }
+    for one in &wrong.near {
+        push_near(alloc, out, one)?;
+    }
+    Ok(())
+}
+
 /// The text of the verdict that a line is bad.
 fn wrong_text(alloc: Global, word: &str, wrong: &Wrong) -> Result<Vec<u8>, AllocError> {
     let mut out = format!(in alloc; "{word} {}: ", wrong.line.line)?.into_bytes();
-    push_answered(&mut out, &wrong.line)?;
-    if let Some(due) = &wrong.due {
-        push_all(&mut out, &[b"due: ", due])?;
-    }
-    for one in &wrong.near {
-        push_near(alloc, &mut out, one)?;
-    }
+    push_wrong(alloc, &mut out, wrong)?;
     Ok(out)
 }
 
 /// A line as a text, without its newline. Bytes that are no text are replaced.
 fn text_of(alloc: Global, line: &[u8]) -> Result<String, AllocError> {
     String::from_utf8_lossy(alloc, line.strip_suffix(b"\n").unwrap_or(line))
+}
+
+/// Adds texts by their names.
+fn put_texts(
+    alloc: Global,
+    members: &mut Map<String, Value>,
+    texts: &[(&str, String)],
+) -> Result<(), AllocError> {
+    for (name, text) in texts {
+        put(members, alloc, name, Value::try_from_str(alloc, text)?)?;
+    }
+    Ok(())
+}
+
+/// Adds numbers by their names.
+fn put_numbers(
+    alloc: Global,
+    members: &mut Map<String, Value>,
+    numbers: &[(&str, u64)],
+) -> Result<(), AllocError> {
+    for (name, number) in numbers {
+        put(members, alloc, name, Value::from(*number))?;
+    }
+    Ok(())
 }
 
 /// A line of JSON: texts and numbers by their names.
@@ -77,12 +107,8 @@ pub fn json_line(
     numbers: &[(&str, u64)],
 ) -> Result<Vec<u8>, AllocError> {
     let mut members = Map::new(alloc);
-    for (name, text) in texts {
-        put(&mut members, alloc, name, Value::try_from_str(alloc, text)?)?;
-    }
-    for (name, number) in numbers {
-        put(&mut members, alloc, name, Value::from(*number))?;
-    }
+    put_texts(alloc, &mut members, texts)?;
+    put_numbers(alloc, &mut members, numbers)?;
     let mut line = Value::Object(members).to_string(alloc)?.into_bytes();
     line.push(b'\n')?;
     Ok(line)
