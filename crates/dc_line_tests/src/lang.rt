@@ -25,7 +25,7 @@ fn is(command: &Command, session: u64, verb: Verb, words: &[&[u8]]) -> bool {
 }
 
 /// Lines, and what they are read as.
-const READ: [(&[u8], u64, Verb, &[&[u8]]); 18] = [
+static READ: [(&[u8], u64, Verb, &[&[u8]]); 18] = [
     (b"0 look /", 0, Verb::Look, &[b"/"]),
     (b"9 llook \\e", 9, Verb::Llook, &[b""]),
     (b"10 cd ..", 10, Verb::Cd, &[b".."]),
@@ -60,7 +60,7 @@ fn reads_lines(rt: HostRuntime) -> Result<(), Fail> {
 }
 
 /// What is no line.
-const NO_LINES: [&[u8]; 32] = [
+static NO_LINES: [&[u8]; 32] = [
     b"",
     b" ",
     b"0",
@@ -129,7 +129,7 @@ fn spells_each_byte(rt: HostRuntime) -> Result<(), Fail> {
 }
 
 /// Lines that are their own spelling.
-const LINES: [&[u8]; 10] = [
+static LINES: [&[u8]; 10] = [
     b"sync",
     b"0 mkdir /a",
     b"0 cd /a",
@@ -152,7 +152,7 @@ fn writes_the_lines_that_it_reads(rt: HostRuntime) -> Result<(), Fail> {
 }
 
 /// Lines of replies, also of some that no tree gives.
-const REPLIES: [&[u8]; 14] = [
+static REPLIES: [&[u8]; 14] = [
     b"0 is 2 dir @1\n",
     b"9 is 4 file @3\n",
     b"15 is 5 link @3\n",
@@ -196,7 +196,7 @@ fn reads_a_name_that_looks_like_a_point(rt: HostRuntime) -> Result<(), Fail> {
 }
 
 /// What is no line of a reply.
-const NO_REPLIES: [&[u8]; 22] = [
+static NO_REPLIES: [&[u8]; 22] = [
     b"",
     b"\n",
     b"0 ok @0",
@@ -232,7 +232,7 @@ fn refuses_what_is_no_reply(rt: HostRuntime) {
 /// How many lines a text has, or its first bad line.
 type Lines = Result<usize, InputFault>;
 
-const INPUTS: [(&str, Lines); 6] = [
+static INPUTS: [(&str, Lines); 6] = [
     ("", Ok(0)),
     ("sync", Ok(1)),
     ("sync\n0 look /\n", Ok(2)),
@@ -249,7 +249,7 @@ fn reads_the_lines_of_inputs(rt: HostRuntime) {
     }
 }
 
-const OUTPUTS: [(&str, Lines); 6] = [
+static OUTPUTS: [(&str, Lines); 6] = [
     ("", Ok(0)),
     ("0 ok @0\n", Ok(1)),
     ("0 ok @0\n1 no 2 @1\n", Ok(2)),

@@ -28,7 +28,7 @@ fn spelled<'a>(part: &Part<'a>) -> &'a [u8] {
 }
 
 /// The components of the path that is split.
-const PARTS: [&[u8]; 5] = [b"a", b".", b"bc", b"..", b"..."];
+static PARTS: [&[u8]; 5] = [b"a", b".", b"bc", b"..", b"..."];
 
 #[test]
 fn splits_a_path(rt: HostRuntime) -> Result<(), Fail> {
@@ -41,7 +41,7 @@ fn splits_a_path(rt: HostRuntime) -> Result<(), Fail> {
 }
 
 /// Texts, and why they are no paths, if so.
-const TEXTS: [(&[u8], Option<TextFault>); 7] = [
+static TEXTS: [(&[u8], Option<TextFault>); 7] = [
     (b"", Some(TextFault::Empty)),
     (b"a\0b", Some(TextFault::Zero)),
     (&[b'a'; 256], Some(TextFault::Long)),
@@ -61,7 +61,7 @@ fn tells_the_first_fault(rt: HostRuntime) {
 }
 
 /// Paths, and whether they are absolute and end in a slash.
-const SLASHES: [(&[u8], bool, bool); 5] = [
+static SLASHES: [(&[u8], bool, bool); 5] = [
     (b"/", true, false),
     (b"//", true, false),
     (b"a/", false, true),
@@ -90,7 +90,7 @@ fn knows_a_name(rt: HostRuntime) {
     assert!(rt; others.iter().all(|bytes| Name::new(bytes).is_none()));
 }
 
-const REFUSALS: [(Refusal, u64, &str); 12] = [
+static REFUSALS: [(Refusal, u64, &str); 12] = [
     (Refusal::NotPermitted, 1, "EPERM"),
     (Refusal::NotFound, 2, "ENOENT"),
     (Refusal::Busy, 16, "EBUSY"),
@@ -106,7 +106,7 @@ const REFUSALS: [(Refusal, u64, &str); 12] = [
 ];
 
 /// Numbers of none.
-const NO_REFUSALS: [u64; 4] = [0, 3, 23, u64::MAX];
+static NO_REFUSALS: [u64; 4] = [0, 3, 23, u64::MAX];
 
 /// Whether a refusal has this number and this name, both ways.
 fn is_named(refusal: Refusal, number: u64, symbol: &str) -> bool {
@@ -167,7 +167,7 @@ fn hashed<'a>(dir: u64, path: &PathText<'a>) -> Option<Hashed<'a>> {
     Some((spelled(&part), rest, found % 1024))
 }
 
-const HASHED: [(u64, &[u8], Option<Hashed<'static>>); 3] = [
+static HASHED: [(u64, &[u8], Option<Hashed<'static>>); 3] = [
     (1, b"//a/..", Some((b"a", b"/..", 959))),
     (2, b"/..", Some((b"..", b"", 767))),
     (2, b"//", None),

@@ -57,7 +57,7 @@ fn first_on_both(alloc: Global, rows: &[Row]) -> Result<usize, NoMemory> {
     Ok(if slab < map { slab } else { map })
 }
 
-const CHANGES_AND_LOOK_UPS: [Row; 18] = [
+static CHANGES_AND_LOOK_UPS: [Row; 18] = [
     (Ask::Mkdir(b"/"), Want::Refused(17)),
     (Ask::Mkdir(b"/a"), Want::Done(2)),
     (Ask::Mkdir(b"/b/c"), Want::Refused(2)),
@@ -78,7 +78,7 @@ const CHANGES_AND_LOOK_UPS: [Row; 18] = [
     (Ask::Look(b"/c/.."), Want::Found(1, Kind::Dir)),
 ];
 
-const TEXTS_AND_NAMES: [Row; 5] = [
+static TEXTS_AND_NAMES: [Row; 5] = [
     (Ask::Symlink(b"./d", b"/s"), Want::Done(2)),
     (Ask::Mkdir(b"/d"), Want::Done(3)),
     (Ask::Create(b"/a"), Want::Done(4)),
@@ -105,7 +105,7 @@ fn shown(key: &Key) -> (u64, u8) {
 }
 
 /// Changes, and the keys that each of them touches.
-const KEYS: [(Ask<'static>, &[(u64, u8)]); 10] = [
+static KEYS: [(Ask<'static>, &[(u64, u8)]); 10] = [
     (Ask::Mkdir(b"/a"), &[(1, b'a'), (2, b'.')]),
     (Ask::Mkdir(b"/b"), &[(1, b'b'), (3, b'.')]),
     (Ask::Create(b"/a/f"), &[(2, b'f')]),

@@ -37,7 +37,7 @@ const LONGEST: &[u8] = b"/\
     nnnnnnnnnnnnnnnnnnnnnnnnnnnnnnnnnnnnnnnnnnnnnnnnnnnnnnnnnnnnnnn";
 
 /// Each call once, in one tree, and the longest name and text.
-const EACH_CALL: [Row; 23] = [
+static EACH_CALL: [Row; 23] = [
     (Ask::Look(b"/f"), Want::Refused(2), false),
     (Ask::Mkdir(b"/d/"), Want::Done(2), true),
     (Ask::Create(b"/d/f"), Want::Done(3), true),
@@ -63,7 +63,7 @@ const EACH_CALL: [Row; 23] = [
     (Ask::ListIn(2), Want::Refused(2), false),
 ];
 
-const NO_SPACE: [Row; 1] = [(Ask::Create(b"/f"), Want::Refused(28), false)];
+static NO_SPACE: [Row; 1] = [(Ask::Create(b"/f"), Want::Refused(28), false)];
 
 #[test]
 fn answers_each_call(rt: HostRuntime) -> Result<(), Fail> {
@@ -89,7 +89,7 @@ fn is_told(dir: u64, name: Name<'_>) -> bool {
         && key.label.bytes() == name.bytes()
 }
 
-const SORTS: [(Ask<'static>, Sort); 3] = [
+static SORTS: [(Ask<'static>, Sort); 3] = [
     (Ask::Look(b"/"), Sort::Sought),
     (Ask::List(b"/"), Sort::Told),
     (Ask::Rmdir(b"/"), Sort::Change),

@@ -120,7 +120,7 @@ impl<'a> Finder for Fixed<'a> {
     ghost spends_less = { λ f a b may. may };
 }
 
-const ROWS: [Row<'static>; 22] = [
+static ROWS: [Row<'static>; 22] = [
     (1, b"d", (2, Kind::Dir)),
     (2, b"f", (3, Kind::File)),
     (2, b"e", (4, Kind::Dir)),
@@ -145,9 +145,9 @@ const ROWS: [Row<'static>; 22] = [
     (4, b"up", (31, Kind::Link)),
 ];
 
-const PARENTS: [(u64, u64); 3] = [(1, 1), (2, 1), (4, 2)];
+static PARENTS: [(u64, u64); 3] = [(1, 1), (2, 1), (4, 2)];
 
-const TEXTS: [(u64, &[u8]); 17] = [
+static TEXTS: [(u64, &[u8]); 17] = [
     (10, b"d/e/"),
     (11, b"/d/e"),
     (12, b"e/../f"),

@@ -245,7 +245,7 @@ const FILE: Option<Kind> = Some(Kind::File);
 
 const LINK: Option<Kind> = Some(Kind::Link);
 
-const DIRECTORIES: [Step<'static>; 14] = [
+static DIRECTORIES: [Step<'static>; 14] = [
     Step::Seen(1, DIR, Some(1), 0),
     Step::Size(2, 1),
     Step::Add(1, b"a", To::Dir, Some(2)),
@@ -268,7 +268,7 @@ fn makes_directories(rt: HostRuntime) -> Result<(), Fail> {
     Ok(())
 }
 
-const FURTHER_NAMES: [Step<'static>; 24] = [
+static FURTHER_NAMES: [Step<'static>; 24] = [
     Step::Add(1, b"d", To::Dir, Some(2)),
     Step::Add(1, b"l", To::Link(b"d/x"), Some(3)),
     Step::Add(2, b"f", To::File, Some(4)),
@@ -302,7 +302,7 @@ fn keeps_links_and_further_names(rt: HostRuntime) -> Result<(), Fail> {
     Ok(())
 }
 
-const FILES: [Step<'static>; 19] = [
+static FILES: [Step<'static>; 19] = [
     Step::Add(1, b"a", To::File, Some(2)),
     Step::Add(1, b"b", To::File, Some(3)),
     Step::Add(1, b"c", To::Same(3), Some(3)),
@@ -331,7 +331,7 @@ fn moves_files(rt: HostRuntime) -> Result<(), Fail> {
     Ok(())
 }
 
-const MOVED_DIRECTORY: [Step<'static>; 16] = [
+static MOVED_DIRECTORY: [Step<'static>; 16] = [
     Step::Add(1, b"a", To::Dir, Some(2)),
     Step::Add(2, b"b", To::Dir, Some(3)),
     Step::Add(3, b"f", To::File, Some(4)),
@@ -363,7 +363,7 @@ const LONGEST_NEW: &[u8] = &[b'b'; 255];
 
 const LONGEST_TEXT: &[u8] = &[b'/'; 4095];
 
-const LONGEST: [Step<'static>; 10] = [
+static LONGEST: [Step<'static>; 10] = [
     Step::Add(1, LONGEST_OLD, To::Link(LONGEST_TEXT), Some(2)),
     Step::Add(1, LONGEST_NEW, To::Dir, Some(3)),
     Step::Add(3, LONGEST_NEW, To::Same(2), Some(2)),

@@ -5,7 +5,7 @@ use dc_names::Kind;
 use std::test::Fail;
 
 /// Inodes of every two kinds, in two directories and in one.
-const EXCHANGES: [Row; 27] = [
+static EXCHANGES: [Row; 27] = [
     (Ask::Mkdir(b"/a"), Want::Done(2)),
     (Ask::Mkdir(b"/a/b"), Want::Done(3)),
     (Ask::Mkdir(b"/c"), Want::Done(4)),
@@ -47,7 +47,7 @@ fn exchanges_of_all_kinds(rt: HostRuntime) -> Result<(), Fail> {
 }
 
 /// Names of one inode, what lies beneath, and names that are missing.
-const NOTHING_ALTERED: [Row; 23] = [
+static NOTHING_ALTERED: [Row; 23] = [
     (Ask::Mkdir(b"/a"), Want::Done(2)),
     (Ask::Mkdir(b"/a/b"), Want::Done(3)),
     (Ask::Mkdir(b"/a/b/c"), Want::Done(4)),
@@ -85,7 +85,7 @@ fn exchanges_that_alter_nothing(rt: HostRuntime) -> Result<(), Fail> {
 }
 
 /// Names that have to be free, and the order of what is refused.
-const NOT_REPLACED: [Row; 14] = [
+static NOT_REPLACED: [Row; 14] = [
     (Ask::Mkdir(b"/a"), Want::Done(2)),
     (Ask::Create(b"/f"), Want::Done(3)),
     (Ask::Link(b"/f", b"/g"), Want::Done(3)),
@@ -110,7 +110,7 @@ fn names_that_are_not_replaced(rt: HostRuntime) -> Result<(), Fail> {
 }
 
 /// Both flags come before the texts; dot, dot-dot and the root are refused by each flag alike.
-const LAST_PARTS: [Row; 14] = [
+static LAST_PARTS: [Row; 14] = [
     (Ask::Mkdir(b"/a"), Want::Done(2)),
     (Ask::Both(b"", b"/a"), Want::Refused(22)),
     (Ask::Both(b"/q", b""), Want::Refused(22)),

@@ -8,7 +8,7 @@ use std::alloc::Global;
 use std::test::Fail;
 
 /// Paths of few names, so that calls meet what others left. Some end in a slash, some lead through links.
-const PATHS: [&[u8]; 16] = [
+static PATHS: [&[u8]; 16] = [
     b"/a", b"/b", b"/c", b"/a/b", b"/a/c", b"/b/a", b"/b/c", b"/c/a", b"/c/b", b"/a/b/c", b"/b/a/",
     b"/l", b"/l/a", b"/a/../c", b"l", b"/c/./b",
 ];

@@ -44,7 +44,7 @@ fn small_tree(alloc: Global) -> Result<PlainTree, NoMemory> {
 }
 
 /// Facts, and whether they hold in that tree.
-const HELD: [(Told, bool); 6] = [
+static HELD: [(Told, bool); 6] = [
     (Told::Name(1, b"a", Some((2, Kind::Dir))), true),
     (Told::Name(1, b"x", None), true),
     (Told::Up(2, 1), true),
@@ -65,7 +65,7 @@ fn holds_what_is_so(rt: HostRuntime) -> Result<(), Fail> {
 }
 
 /// Facts, and whether the link's removal touches them.
-const TOUCHED: [(Told, bool); 3] = [
+static TOUCHED: [(Told, bool); 3] = [
     (Told::Name(1, b"l", None), true),
     (Told::Text(3, b"a"), true),
     (Told::Name(1, b"a", None), false),
@@ -84,14 +84,14 @@ fn touches_what_alters(rt: HostRuntime) -> Result<(), Fail> {
 }
 
 /// What is told, and the answers that follow, if one does.
-const FACTS: [Told; 4] = [
+static FACTS: [Told; 4] = [
     Told::Name(1, b"l", Some((3, Kind::Link))),
     Told::Text(3, b"a"),
     Told::Name(1, b"a", Some((2, Kind::Dir))),
     Told::Name(1, b"a", None),
 ];
 
-const ANSWERS: [(Ask<'static>, Option<Want<'static>>); 4] = [
+static ANSWERS: [(Ask<'static>, Option<Want<'static>>); 4] = [
     (Ask::Look(b"/l"), Some(Want::Found(2, Kind::Dir))),
     (Ask::Look(b"/l/x"), None),
     (Ask::Look(b""), Some(Want::Refused(2))),

@@ -5,13 +5,32 @@ use dc_names::{Last, Refusal, parse};
 use dc_resolve::{Placed, place};
 use std::test::Fail;
 
+/// A last part that is no name.
+#[derive(Clone, Copy)]
+enum NoName {
+    Root,
+    Dot,
+    DotDot,
+}
+
+impl NoName {
+    /// The part itself.
+    fn last(self) -> Last<'static> {
+        match self {
+            NoName::Root => Last::Root,
+            NoName::Dot => Last::Dot,
+            NoName::DotDot => Last::DotDot,
+        }
+    }
+}
+
 /// Where a last part is to be looked up.
 #[derive(Clone, Copy)]
 enum At {
     /// A directory, a name in it, and whether a slash follows.
     Name(u64, &'static [u8], bool),
     /// A directory, and a part that is no name.
-    Last(u64, Last<'static>),
+    Last(u64, NoName),
     Refused(Refusal),
     Stopped,
 }
@@ -25,7 +44,7 @@ impl At {
                 is_name && at.dir == dir && at.slash == slash
             }
             (At::Last(dir, last), Placed::At(at)) => {
-                at.dir == dir && at.last == last && !at.slash
+                at.dir == dir && at.last == last.last() && !at.slash
             }
             (At::Refused(refusal), Placed::Refused(found)) => refusal == found,
             (At::Stopped, Placed::Stopped) => true,
@@ -35,15 +54,15 @@ impl At {
 }
 
 /// A starting number, a path, and where its last part is to be looked up.
-const PLACES: [(u64, &[u8], At); 18] = [
+static PLACES: [(u64, &[u8], At); 18] = [
     (1, b"/d/f", At::Name(2, b"f", false)),
     (1, b"/d/new//", At::Name(2, b"new", true)),
-    (1, b"///", At::Last(1, Last::Root)),
-    (1, b"/d/..", At::Last(2, Last::DotDot)),
+    (1, b"///", At::Last(1, NoName::Root)),
+    (1, b"/d/..", At::Last(2, NoName::DotDot)),
     (2, b"a///b/.//", At::Refused(Refusal::NotFound)),
     (1, b"d//e///", At::Name(2, b"e", true)),
     (2, b"f", At::Name(2, b"f", false)),
-    (4, b".", At::Last(4, Last::Dot)),
+    (4, b".", At::Last(4, NoName::Dot)),
     (4, b"../g", At::Name(2, b"g", false)),
     (1, b"/l", At::Name(1, b"l", false)),
     (1, b"/r/g", At::Name(4, b"g", false)),
@@ -75,7 +94,7 @@ fn places(rt: HostRuntime) -> Result<(), Fail> {
 }
 
 /// A path, and what is asked for it.
-const ASKED: [(u64, &[u8], &[Asked]); 9] = [
+static ASKED: [(u64, &[u8], &[Asked]); 9] = [
     (1, b"/d/f", &[(1, b'd')]),
     (99, b"/d/q//", &[(1, b'd')]),
     (1, b"/l", &[]),

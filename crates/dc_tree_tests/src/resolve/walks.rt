@@ -12,7 +12,7 @@ fn walked(base: u64, path: &[u8], follow: Follow) -> Result<Walked, TextFault> {
 }
 
 /// A starting number, a path, whether a last link is followed, and where that leads.
-const WALKS: [(u64, &[u8], Follow, Walked); 36] = [
+static WALKS: [(u64, &[u8], Follow, Walked); 36] = [
     (1, b"/d/f", Follow::Yes, Walked::Found(3, Kind::File)),
     (1, b"//d//f", Follow::Yes, Walked::Found(3, Kind::File)),
     (2, b"f", Follow::Yes, Walked::Found(3, Kind::File)),
@@ -121,7 +121,7 @@ fn walks(rt: HostRuntime) -> Result<(), Fail> {
 }
 
 /// A walk, and what it asks.
-const ASKED: [(u64, &[u8], Follow, &[Asked]); 13] = [
+static ASKED: [(u64, &[u8], Follow, &[Asked]); 13] = [
     (
         4,
         b"../q/.",

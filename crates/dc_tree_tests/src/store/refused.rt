@@ -62,7 +62,7 @@ fn parts_at(alloc: Global, steps: &[Step<'_>]) -> Result<Option<usize>, NoMemory
     Ok(None)
 }
 
-const CHANGES: [Step<'static>; 20] = [
+static CHANGES: [Step<'static>; 20] = [
     Step::Add(1, b"d", To::Dir, Some(2)),
     Step::Add(2, b"f", To::File, Some(3)),
     Step::Add(1, b"l", To::Link(b"d/f"), Some(4)),
