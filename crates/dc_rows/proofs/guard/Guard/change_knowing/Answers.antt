@@ -37,3 +37,6 @@ returns-in-Ok-altered-clause-made c = let g = c.args.self in let call = request_
           (a.ensures.home.tree ∙ altered_tree (seat_of g) a.new.holder.pass.now call (answer_of c.in-Ok-altered.reply) c.in-Ok-altered.ensures.ok) c.give-pass.ensures.freed.left
           (subst (λ (x : Guarded). Turns (Retold store) keys (rows_held g.holder x) after) c.deref_mut.ensures.value a.ensures.rows);
     }
+
+pub returns-in-Err-altered-clause-made : goal.returns-in-Err-altered-clause-made
+returns-in-Err-altered-clause-made c = search rules
