@@ -44,6 +44,18 @@ fn make(
     }
 }
 
+/// Stamps by their points, without the calls that were refused.
+fn by_point(alloc: Global, stamps: &[Stamp]) -> Result<Vec<&Stamp>, NoMemory> {
+    let mut sorted: Vec<&Stamp> = Vec::new(alloc);
+    for stamp in stamps {
+        if !matches!(stamp.reply, Reply::Refused(_)) {
+            sorted.push(stamp)?;
+        }
+    }
+    sorted.sort_by_key(|stamp| stamp.at)?;
+    Ok(sorted)
+}
+
 impl<'a> Replay<'a> {
     /// Makes the change that was met.
     fn settle(&mut self, alloc: Global, inodes: u64) -> Result<(), NoMemory> {
@@ -78,14 +90,7 @@ impl<'a> Replay<'a> {
             clock: 0,
             change: None,
         };
-        let mut sorted: Vec<&Stamp> = Vec::new(alloc);
-        for stamp in stamps {
-            if !matches!(stamp.reply, Reply::Refused(_)) {
-                sorted.push(stamp)?;
-            }
-        }
-        sorted.sort_by_key(|stamp| stamp.at)?;
-        for stamp in sorted {
+        for stamp in by_point(alloc, stamps)? {
             replay.take(alloc, stamp, inodes)?;
         }
         replay.settle(alloc, inodes)?;

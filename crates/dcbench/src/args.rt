@@ -145,23 +145,37 @@ fn valued<'a>(alloc: Global, id: &'a str, value: &'a str, default: &'a str) -> A
         .default_value(default)
 }
 
+/// An option with a number from 1 to this.
+fn number<'a>(alloc: Global, id: &'a str, most: i64, default: &'a str) -> Arg<'a> {
+    valued(alloc, id, "N", default).value_parser(value_parser!(u64).range(1..=most))
+}
+
+/// An option with a number of seconds.
+fn seconds<'a>(alloc: Global, id: &'a str, default: &'a str) -> Arg<'a> {
+    valued(alloc, id, "S", default).value_parser(value_parser!(f64))
+}
+
+/// An option with a kind of work.
+fn work<'a>(alloc: Global, id: &'a str, default: &'a str) -> Arg<'a> {
+    valued(alloc, id, "WORK", default).value_parser(WORKS.as_slice())
+}
+
+/// A race, which stands without a name before it.
+fn race<'a>(alloc: Global, id: &'a str) -> Arg<'a> {
+    Arg::new(alloc, id)
+        .required(true)
+        .value_parser(RACES.as_slice())
+}
+
 /// An option without what it is for.
 fn bare<'a>(alloc: Global, id: &'a str, given: Given) -> Arg<'a> {
     match given {
         Given::Nothing => Arg::new(alloc, id).long(id).action(ArgAction::SetTrue),
         Given::File => Arg::new(alloc, id).long(id).value_name("FILE"),
-        Given::Number(most, default) => {
-            valued(alloc, id, "N", default).value_parser(value_parser!(u64).range(1..=most))
-        }
-        Given::Seconds(default) => {
-            valued(alloc, id, "S", default).value_parser(value_parser!(f64))
-        }
-        Given::Work(default) => {
-            valued(alloc, id, "WORK", default).value_parser(WORKS.as_slice())
-        }
-        Given::Race => Arg::new(alloc, id)
-            .required(true)
-            .value_parser(RACES.as_slice()),
+        Given::Number(most, default) => number(alloc, id, most, default),
+        Given::Seconds(default) => seconds(alloc, id, default),
+        Given::Work(default) => work(alloc, id, default),
+        Given::Race => race(alloc, id),
     }
 }
 

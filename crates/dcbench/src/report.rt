@@ -1,6 +1,7 @@
 //! The rows of the tables, as text and as JSON.
 
 use crate::answers::Answers;
+use crate::causes::Causes;
 use crate::tally::Tally;
 use crate::work::{Shape, Sort, Work};
 use serde_json::{Map, Value, put};
@@ -13,22 +14,74 @@ pub trait Row: fmt::Display {
     fn json(&self, alloc: Global) -> Result<String, AllocError>;
 }
 
-/// An object of JSON: texts and numbers by their names.
-fn object(
+/// An object of JSON that is being filled.
+#[derive(Drop)]
+struct Members {
     alloc: Global,
-    texts: &[(&str, &str)],
-    numbers: &[(&str, u64)],
-) -> Result<String, AllocError> {
-    let mut members = Map::new(alloc);
-    for member in texts {
-        let (name, text) = *member;
-        put(&mut members, alloc, name, Value::try_from_str(alloc, text)?)?;
+    map: Map<String, Value>,
+}
+
+impl Members {
+    /// An object with the name of a command.
+    fn of(alloc: Global, command: &str) -> Result<Members, AllocError> {
+        let mut members = Members {
+            alloc,
+            map: Map::new(alloc),
+        };
+        members.text("command", command)?;
+        Ok(members)
     }
-    for member in numbers {
-        let (name, number) = *member;
-        put(&mut members, alloc, name, Value::from(number))?;
+
+    /// Adds a text.
+    fn text(&mut self, name: &str, text: &str) -> Result<(), AllocError> {
+        let value = Value::try_from_str(self.alloc, text)?;
+        put(&mut self.map, self.alloc, name, value)?;
+        Ok(())
     }
-    Value::Object(members).to_string(alloc)
+
+    /// Adds numbers by their names.
+    fn numbers(&mut self, numbers: &[(&str, u64)]) -> Result<(), AllocError> {
+        for member in numbers {
+            let (name, number) = *member;
+            put(&mut self.map, self.alloc, name, Value::from(number))?;
+        }
+        Ok(())
+    }
+
+    /// Adds the times of a call.
+    fn times(&mut self, tally: &Tally) -> Result<(), AllocError> {
+        self.numbers(&[
+            ("median_ps", tally.quantile(50)),
+            ("p99_ps", tally.quantile(99)),
+            ("least_ps", tally.quantile(0)),
+        ])
+    }
+
+    /// Adds how look-ups were answered.
+    fn ways(&mut self, tally: &Tally) -> Result<(), AllocError> {
+        self.numbers(&[
+            ("without_lock", tally.by_fast()),
+            ("by_filled_rows", tally.by_rows),
+            ("under_lock", tally.by_lock),
+        ])
+    }
+
+    /// Adds why look-ups were not answered without the lock.
+    fn causes(&mut self, causes: &Causes) -> Result<(), AllocError> {
+        self.numbers(&[
+            ("miss", causes.miss),
+            ("link", causes.link),
+            ("long", causes.long),
+            ("busy", causes.busy),
+            ("changed", causes.changed),
+        ])
+    }
+
+    /// The object as a line.
+    fn line(self) -> Result<String, AllocError> {
+        let Members { alloc, map } = self;
+        Value::Object(map).to_string(alloc)
+    }
 }
 
 /// A number of picoseconds, shown in nanoseconds with one digit behind the point.
@@ -67,6 +120,36 @@ impl LookRow {
             in_use: self.filled,
             evictions: self.evicted,
         }
+    }
+
+    /// Adds what was run.
+    fn add_sizes(&self, members: &mut Members) -> Result<(), AllocError> {
+        members.text("work", self.shape.work.name())?;
+        members.numbers(&[
+            ("depth", self.shape.depth),
+            ("hot", self.shape.hot),
+            ("buckets", self.shape.buckets),
+            ("threads", self.threads),
+        ])
+    }
+
+    /// Adds what was counted and timed.
+    fn add_counts(&self, members: &mut Members) -> Result<(), AllocError> {
+        let tally = &self.tally;
+        members.times(tally)?;
+        members.numbers(&[
+            ("calls_a_second", tally.rate),
+            ("looks", tally.looks),
+            ("changes", tally.changes),
+            ("found", tally.found),
+        ])?;
+        members.ways(tally)?;
+        members.causes(&tally.causes)?;
+        members.numbers(&[
+            ("rows_evicted", self.evicted),
+            ("rows_in_use", self.filled),
+            ("changes_refused", tally.wrong),
+        ])
     }
 }
 
@@ -110,35 +193,10 @@ impl fmt::Display for LookRow {
 
 impl Row for LookRow {
     fn json(&self, alloc: Global) -> Result<String, AllocError> {
-        let tally = &self.tally;
-        object(
-            alloc,
-            &[("command", "look"), ("work", self.shape.work.name())],
-            &[
-                ("depth", self.shape.depth),
-                ("hot", self.shape.hot),
-                ("buckets", self.shape.buckets),
-                ("threads", self.threads),
-                ("median_ps", tally.quantile(50)),
-                ("p99_ps", tally.quantile(99)),
-                ("least_ps", tally.quantile(0)),
-                ("calls_a_second", tally.rate),
-                ("looks", tally.looks),
-                ("changes", tally.changes),
-                ("found", tally.found),
-                ("without_lock", tally.by_fast()),
-                ("by_filled_rows", tally.by_rows),
-                ("under_lock", tally.by_lock),
-                ("miss", tally.causes.miss),
-                ("link", tally.causes.link),
-                ("long", tally.causes.long),
-                ("busy", tally.causes.busy),
-                ("changed", tally.causes.changed),
-                ("rows_evicted", self.evicted),
-                ("rows_in_use", self.filled),
-                ("changes_refused", tally.wrong),
-            ],
-        )
+        let mut members = Members::of(alloc, "look")?;
+        self.add_sizes(&mut members)?;
+        self.add_counts(&mut members)?;
+        members.line()
     }
 }
 
@@ -169,19 +227,15 @@ impl fmt::Display for ChangeRow {
 impl Row for ChangeRow {
     fn json(&self, alloc: Global) -> Result<String, AllocError> {
         let tally = &self.tally;
-        object(
-            alloc,
-            &[("command", "change")],
-            &[
-                ("threads", self.threads),
-                ("median_ps", tally.quantile(50)),
-                ("p99_ps", tally.quantile(99)),
-                ("least_ps", tally.quantile(0)),
-                ("changes_a_second", tally.rate),
-                ("changes", tally.changes),
-                ("changes_refused", tally.wrong),
-            ],
-        )
+        let mut members = Members::of(alloc, "change")?;
+        members.numbers(&[("threads", self.threads)])?;
+        members.times(tally)?;
+        members.numbers(&[
+            ("changes_a_second", tally.rate),
+            ("changes", tally.changes),
+            ("changes_refused", tally.wrong),
+        ])?;
+        members.line()
     }
 }
 
@@ -192,6 +246,24 @@ pub struct RaceRow {
     pub depth: u64,
     pub milliseconds: u64,
     pub tally: Tally,
+}
+
+impl RaceRow {
+    /// Adds what was counted.
+    fn add_counts(&self, members: &mut Members) -> Result<(), AllocError> {
+        let tally = &self.tally;
+        members.numbers(&[
+            ("depth", self.depth),
+            ("looks", tally.looks),
+            ("wrong", tally.wrong),
+        ])?;
+        members.ways(tally)?;
+        members.causes(&tally.causes)?;
+        members.numbers(&[
+            ("changes", tally.changes),
+            ("milliseconds", self.milliseconds),
+        ])
+    }
 }
 
 /// What stands above the rows of races.
@@ -215,25 +287,9 @@ impl fmt::Display for RaceRow {
 
 impl Row for RaceRow {
     fn json(&self, alloc: Global) -> Result<String, AllocError> {
-        let tally = &self.tally;
-        object(
-            alloc,
-            &[("command", "race"), ("race", self.sort.name())],
-            &[
-                ("depth", self.depth),
-                ("looks", tally.looks),
-                ("wrong", tally.wrong),
-                ("without_lock", tally.by_fast()),
-                ("by_filled_rows", tally.by_rows),
-                ("under_lock", tally.by_lock),
-                ("miss", tally.causes.miss),
-                ("link", tally.causes.link),
-                ("long", tally.causes.long),
-                ("busy", tally.causes.busy),
-                ("changed", tally.causes.changed),
-                ("changes", tally.changes),
-                ("milliseconds", self.milliseconds),
-            ],
-        )
+        let mut members = Members::of(alloc, "race")?;
+        members.text("race", self.sort.name())?;
+        self.add_counts(&mut members)?;
+        members.line()
     }
 }
