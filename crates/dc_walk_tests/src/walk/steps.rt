@@ -156,8 +156,8 @@ fn is_so<R: Wait>(rt: &R, alloc: Global, shared: &Shared, pass: &mut Pass, step:
     }
 }
 
-/// Takes the steps one after the other. It tells which one, counted from 0, came to something else, or
-/// `None` where each came to what it should.
+/// Takes the steps one after the other. It tells which one, counted from 0, came to something else,
+/// or `None` where each came to what it should.
 pub(super) fn play<R: Wait>(
     rt: &R,
     alloc: Global,
