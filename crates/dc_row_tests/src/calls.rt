@@ -23,3 +23,15 @@ pub(crate) fn create(path: &[u8]) -> Call<'_>
 {
     Call::Create { base: 1, path }
 }
+
+pub(crate) fn unlink(path: &[u8]) -> Call<'_>
+    ensures { IsChange result }
+{
+    Call::Unlink { base: 1, path }
+}
+
+pub(crate) fn rmdir(path: &[u8]) -> Call<'_>
+    ensures { IsChange result }
+{
+    Call::Rmdir { base: 1, path }
+}

@@ -183,7 +183,7 @@ const NO_FLAGS: Flags = Flags {
 
 /// Actor 1 makes `/a` and `/a/d`, and rows 0 and 1 say so. Actor 0 begins to look for `/a/d/f` and
 /// reads both.
-const HALF_WALKED: [Step; 7] = [
+static HALF_WALKED: [Step; 7] = [
     Step::Change(1, MAKE_A),
     Step::Change(
         1,
@@ -206,7 +206,7 @@ const HALF_WALKED: [Step; 7] = [
     Step::Note(0, 1),
 ];
 
-const NEVER_WAS: [Step; 16] = [
+static NEVER_WAS: [Step; 16] = [
     Step::Count(0, 2),
     Step::Count(1, 2),
     Step::ChangeRow(
@@ -249,7 +249,7 @@ fn a_path_that_never_was_is_not_answered(rt: HostRuntime) -> Result<(), Fail> {
 }
 
 /// A body that checks each parent as it goes would pass the row before this one, and fail here.
-const GRANDPARENT: [Step; 9] = [
+static GRANDPARENT: [Step; 9] = [
     Step::ChangeRow(
         1,
         Call::Rename {
@@ -284,7 +284,7 @@ fn a_grandparent_is_checked_after_the_pivot(rt: HostRuntime) -> Result<(), Fail>
     Ok(())
 }
 
-const READ_ONCE: [Step; 6] = [
+static READ_ONCE: [Step; 6] = [
     Step::Change(1, MAKE_A),
     Step::Fill(1, 0, A_IS_2),
     Step::Count(0, 2),
@@ -293,7 +293,7 @@ const READ_ONCE: [Step; 6] = [
     Step::Do(0, Act::Pivot),
 ];
 
-const REFILLED: [Step; 5] = [
+static REFILLED: [Step; 5] = [
     Step::Fill(1, 0, NOTHING),
     Step::Count(0, 4),
     Step::Fill(1, 0, A_IS_2),
@@ -309,7 +309,7 @@ fn a_row_that_was_refilled_is_another(rt: HostRuntime) -> Result<(), Fail> {
 }
 
 /// The first events of a core of one actor, and the change that they make.
-const FIRST: [Event<'static>; 7] = [
+static FIRST: [Event<'static>; 7] = [
     Event {
         actor: 0,
         act: Act::Begin(Call::Mkdir {
@@ -343,7 +343,7 @@ const FIRST: [Event<'static>; 7] = [
     },
 ];
 
-const TOUCHED: [Step; 12] = [
+static TOUCHED: [Step; 12] = [
     Step::Not(0, Act::Commit, Refused::Touched(0)),
     Step::Do(0, Act::Shut(0)),
     Step::Do(0, Act::Commit),
@@ -366,20 +366,25 @@ fn a_change_shuts_what_it_touches(rt: HostRuntime) -> Result<(), Fail> {
     Ok(())
 }
 
+/// What the first events come to from a place on.
+fn first_from(core: &mut Core, alloc: Global, place: usize) -> Result<(), (u64, Refused)> {
+    core.run(alloc, FIRST.get(place..).unwrap_or(&FIRST))
+}
+
 #[test]
 fn a_list_stops_at_the_first_refusal(rt: HostRuntime) -> Result<(), Fail> {
     let mut core = Core::new(rt.alloc(), 1, 1, 16)?;
-    assert!(rt; core.run(rt.alloc(), &FIRST).is_ok());
-    assert!(rt; core.run(rt.alloc(), &FIRST) == Err((0, Refused::Holder)));
-    assert!(rt; core.run(rt.alloc(), &FIRST[2..]).is_ok());
-    assert!(rt; core.run(rt.alloc(), &FIRST[3..]) == Err((0, Refused::Even)));
+    assert!(rt; first_from(&mut core, rt.alloc(), 0) == Ok(()));
+    assert!(rt; first_from(&mut core, rt.alloc(), 0) == Err((0, Refused::Holder)));
+    assert!(rt; first_from(&mut core, rt.alloc(), 2) == Ok(()));
+    assert!(rt; first_from(&mut core, rt.alloc(), 3) == Err((0, Refused::Even)));
     assert!(rt; core.rows() == 4 && core.count(0) == 4);
     assert!(rt; core.count(4) == 0 && core.count(u64::MAX) == 0);
     Ok(())
 }
 
 /// Buckets, actors and inodes, and how many rows such a core has, if it can be made.
-const SIZES: [(u64, u64, u64, Result<u64, MakeFault>); 7] = [
+static SIZES: [(u64, u64, u64, Result<u64, MakeFault>); 7] = [
     (1, 0, 1, Ok(4)),
     (1024, 3, 1048576, Ok(4096)),
     (0, 1, 16, Err(MakeFault::BadSize)),

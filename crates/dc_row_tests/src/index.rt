@@ -226,7 +226,7 @@ fn chosen_in(alloc: Global, bucket: u64) -> Result<[Option<u64>; 10], Fail> {
     Ok(chosen)
 }
 
-const BUCKETS: [u64; 3] = [959, 767, 519];
+static BUCKETS: [u64; 3] = [959, 767, 519];
 
 #[test]
 fn chooses_the_least_recently_used_unpinned_row(rt: HostRuntime) -> Result<(), Fail> {

@@ -53,7 +53,7 @@ fn cut(words: &[u64]) -> &[u64] {
     }
 }
 
-const EXAMPLES: [[u64; 5]; 5] = [
+static EXAMPLES: [[u64; 5]; 5] = [
     [0, 16777985, 1, 2, 7500661],
     [0, 257, 1, 0, 120],
     [0, 16777729, 2, 1, 11822],
@@ -110,7 +110,7 @@ fn sought(words: &[u64], dir: u64, name: &[u8]) -> Option<Option<(u64, Kind)>> {
 }
 
 /// An example, the number and the name of a key, and what its words say of that, if they are of it.
-const SOUGHT: [(usize, u64, &[u8], Option<Option<(u64, Kind)>>); 11] = [
+static SOUGHT: [(usize, u64, &[u8], Option<Option<(u64, Kind)>>); 11] = [
     (0, 1, b"usr", Some(Some((2, Kind::Dir)))),
     (0, 2, b"usr", None),
     (0, 1, b"us", None),
@@ -136,7 +136,7 @@ fn finds_entries_by_their_words(rt: HostRuntime) {
 }
 
 /// An example, a link, and whether its words are of the link's text.
-const TEXTS: [(usize, u64, bool); 4] = [(3, 4, true), (3, 3, false), (0, 1, false), (4, 0, false)];
+static TEXTS: [(usize, u64, bool); 4] = [(3, 4, true), (3, 3, false), (0, 1, false), (4, 0, false)];
 
 /// Whether the words of an example are of a link's text.
 fn is_text_of(at: usize, number: u64) -> Option<bool> {
@@ -169,7 +169,7 @@ fn text_sought(words: &[u64]) -> Option<RowText> {
 const FULL: u64 = 0x6161616161616161;
 
 /// The head of a row of link 4 and the words of its text, and that text, if they spell one.
-const SPELLINGS: [([u64; 5], Option<&[u8]>); 12] = [
+static SPELLINGS: [([u64; 5], Option<&[u8]>); 12] = [
     ([2 + 256 * 3, 6565678, 0, 0, 0], Some(b"./d")),
     ([2 + 256, 47, 0, 0, 0], Some(b"/")),
     ([2 + 256 * 9, FULL, 97, 0, 0], Some(&[b'a'; 9])),
@@ -234,7 +234,7 @@ fn reads_the_fields(rt: HostRuntime) {
 }
 
 /// Names in directories, and where they lead, that have no spelling.
-const NO_NAMES: [(u64, &[u8], Option<(u64, Kind)>); 4] = [
+static NO_NAMES: [(u64, &[u8], Option<(u64, Kind)>); 4] = [
     (0, b"x", None),
     (1, b"x", Some((0, Kind::File))),
     (1, b"..", None),
@@ -242,7 +242,7 @@ const NO_NAMES: [(u64, &[u8], Option<(u64, Kind)>); 4] = [
 ];
 
 /// Links and their texts that have none.
-const NO_LINKS: [(u64, &[u8]); 3] = [(0, b"a"), (4, b""), (4, b"a\0")];
+static NO_LINKS: [(u64, &[u8]); 3] = [(0, b"a"), (4, b""), (4, b"a\0")];
 
 /// Whether a row has no spelling.
 fn is_refused(row: Option<Row>) -> bool {

@@ -1,9 +1,10 @@
 //! Changes in one thread and in four, and rows that are pinned, unpinned and emptied.
 
 ghost use Rattle.std.specs.Thread.{IsSync};
+ghost use Rattle.dc_ops.specs.Asked.{IsChange};
 ghost use Rattle.dc_table.specs.Passes.{Fits, IsIdle};
 
-use crate::calls::{create, mkdir};
+use crate::calls::{create, mkdir, rmdir, unlink};
 use dc_plain::{Call, Key, Label, Reply};
 use dc_rows::{Guard, change, pin, shrink, unpin_all};
 use dc_store::Store;
@@ -13,25 +14,37 @@ use std::sync::Wait;
 use std::test::Fail;
 use std::thread::{Threads, join};
 
+/// Whether a change is answered so, at this point.
+fn is_made<R: Wait>(
+    rt: &R,
+    alloc: Global,
+    shared: &Shared,
+    pass: &mut Pass,
+    call: &Call<'_>,
+    reply: &Reply,
+    at: u64,
+) -> bool
+    requires pass { Fits shared.now pass.old × IsIdle pass.old }
+    requires change { IsChange call.now }
+    ensures { Fits shared.now pass.new × IsIdle pass.new }
+{
+    match change(shared, rt, alloc, pass, call) {
+        Ok((made, point)) => made == *reply && point == at,
+        Err(_) => false,
+    }
+}
+
 #[test]
 fn changes_are_answered_at_their_points(rt: HostRuntime) -> Result<(), Fail> {
-    let (shared, mut p) = Shared::new(rt.alloc(), 1, 16).expect(&rt, "memory");
-    let unlink = Call::Unlink {
-        base: 1,
-        path: b"/a",
-    };
-    let rmdir = Call::Rmdir {
-        base: 1,
-        path: b"/a",
-    };
-    let made = change(&shared, &rt, rt.alloc(), &mut p, &mkdir(b"/a"));
-    assert!(rt; matches!(made, Ok((Reply::Done(2), 0))));
-    let again = change(&shared, &rt, rt.alloc(), &mut p, &mkdir(b"/a"));
-    assert!(rt; matches!(again, Ok((Reply::Refused(17), 1))));
-    let unlinked = change(&shared, &rt, rt.alloc(), &mut p, &unlink);
-    assert!(rt; matches!(unlinked, Ok((Reply::Refused(1), 1))));
-    let removed = change(&shared, &rt, rt.alloc(), &mut p, &rmdir);
-    assert!(rt; matches!(removed, Ok((Reply::Unit, 1))));
+    let alloc = rt.alloc();
+    let (shared, mut p) = Shared::new(alloc, 1, 16).expect(&rt, "memory");
+    let done = Reply::Done(2);
+    assert!(rt; is_made(&rt, alloc, &shared, &mut p, &mkdir(b"/a"), &done, 0));
+    let there = Reply::Refused(17);
+    assert!(rt; is_made(&rt, alloc, &shared, &mut p, &mkdir(b"/a"), &there, 1));
+    let no_file = Reply::Refused(1);
+    assert!(rt; is_made(&rt, alloc, &shared, &mut p, &unlink(b"/a"), &no_file, 1));
+    assert!(rt; is_made(&rt, alloc, &shared, &mut p, &rmdir(b"/a"), &Reply::Unit, 1));
     let q = shared.split(&mut p);
     shared.join(&mut p, q);
     let value = shared.close(p).expect(&rt, "the lock is free");

@@ -8,9 +8,9 @@ use dc_table::{MakeFault, Shared};
 use std::test::Fail;
 
 /// Buckets and inodes of which no table is made.
-const BAD_SIZES: [(u64, u64); 5] = [(0, 16), (3, 16), (2048, 16), (1, 0), (1, 1_048_577)];
+static BAD_SIZES: [(u64, u64); 5] = [(0, 16), (3, 16), (2048, 16), (1, 0), (1, 1_048_577)];
 
-const GOOD_SIZES: [(u64, u64); 2] = [(1, 1), (1024, 1_048_576)];
+static GOOD_SIZES: [(u64, u64); 2] = [(1, 1), (1024, 1_048_576)];
 
 #[test]
 fn a_table_has_its_sizes(rt: HostRuntime) {
@@ -24,7 +24,7 @@ fn a_table_has_its_sizes(rt: HostRuntime) {
 }
 
 /// The same of tables as large as one wishes.
-const BAD_BUCKETS: [(u64, u64); 5] = [
+static BAD_BUCKETS: [(u64, u64); 5] = [
     (0, 16),
     (3072, 16),
     (1 << 21, 16),
@@ -32,7 +32,7 @@ const BAD_BUCKETS: [(u64, u64); 5] = [
     (2048, 1_048_577),
 ];
 
-const BUCKETS: [u64; 3] = [1, 2048, 65_536];
+static BUCKETS: [u64; 3] = [1, 2048, 65_536];
 
 #[test]
 fn a_table_is_as_large_as_the_work(rt: HostRuntime) {

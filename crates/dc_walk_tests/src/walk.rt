@@ -10,16 +10,17 @@ mod four;
 mod pinned;
 mod probe;
 mod spoiled;
+mod steps;
 
-use crate::calls::{mkdir, rename};
 use dc_names::{Kind, NAME_MAX, Name, parse};
 use dc_plain::{Call, Follow, Key, Label, Reply};
-use dc_rows::{change as make, pin, shrink, unpin_all};
+use dc_rows::change as make;
 use dc_table::{Pass, Shared};
 use dc_walk::{Fast, Look, Room, Why, walk_counted, walk_fast};
 use std::alloc::Global;
 use std::sync::Wait;
 use std::test::Fail;
+use steps::{Act, Step, Want, play_anew};
 
 /// The question of a path from the root, or `None` where the text is no path.
 fn from_root(text: &[u8]) -> Option<Look<'_>> {
@@ -81,33 +82,45 @@ fn is_root_at(found: &Option<Fast>, at: u64) -> bool {
     is_answered(found, &Reply::Found(1, Kind::Dir), at)
 }
 
+static UNANSWERED: [Step; 5] = [
+    Step::Lost(b"/z", Why::Miss(0)),
+    Step::Lost(b"/a/z", Why::Miss(0)),
+    Step::Lost(b"//./z/", Why::Miss(0)),
+    Step::Lost(b"z", Why::Miss(0)),
+    Step::Lost(b"..//../z", Why::Miss(0)),
+];
+
 #[test]
 fn empty_rows_answer_no_question(rt: HostRuntime) -> Result<(), Fail> {
-    let (shared, mut p) = Shared::new(rt.alloc(), 1, 16).expect(&rt, "memory");
-    for text in [b"/z".as_slice(), b"/a/z", b"//./z/", b"z", b"..//../z"] {
-        let found = look(&shared, &mut p, text);
-        assert!(rt; matches!(found, Some(Fast::Again(Why::Miss(0)))));
-    }
+    assert_eq!(rt; play_anew(&rt, rt.alloc(), 1, &UNANSWERED), None);
     Ok(())
 }
+
+const ROOT: Want = Want::Found(1, Kind::Dir);
+
+static UNASKED: [Step; 5] = [
+    Step::Look(b"/", ROOT, 0),
+    Step::Look(b".", ROOT, 0),
+    Step::Look(b"..", ROOT, 0),
+    Step::Look(b"/../.", ROOT, 0),
+    Step::Look(b"///", ROOT, 0),
+];
 
 #[test]
 fn the_root_asks_no_question(rt: HostRuntime) -> Result<(), Fail> {
-    let (shared, mut p) = Shared::new(rt.alloc(), 1024, 16).expect(&rt, "memory");
-    for text in [b"/".as_slice(), b".", b"..", b"/../.", b"///"] {
-        assert!(rt; is_root_at(&look(&shared, &mut p, text), 0));
-    }
+    assert_eq!(rt; play_anew(&rt, rt.alloc(), 1024, &UNASKED), None);
     Ok(())
 }
 
+static ONE_CHANGE: [Step; 3] = [
+    Step::Change(Act::Mkdir(b"/a"), Want::Done(2), 0),
+    Step::Look(b"/", ROOT, 1),
+    Step::Lost(b"/a", Why::Miss(0)),
+];
+
 #[test]
 fn the_point_is_the_clock(rt: HostRuntime) -> Result<(), Fail> {
-    let (shared, mut p) = Shared::new(rt.alloc(), 1, 16).expect(&rt, "memory");
-    let made = make(&shared, &rt, rt.alloc(), &mut p, &mkdir(b"/a"));
-    assert!(rt; matches!(made, Ok((Reply::Done(2), 0))));
-    assert!(rt; is_root_at(&look(&shared, &mut p, b"/"), 1));
-    let found = look(&shared, &mut p, b"/a");
-    assert!(rt; matches!(found, Some(Fast::Again(Why::Miss(0)))));
+    assert_eq!(rt; play_anew(&rt, rt.alloc(), 1, &ONE_CHANGE), None);
     Ok(())
 }
 
@@ -130,30 +143,24 @@ fn in_root(name: &[u8]) -> Option<Key<'_>> {
     })
 }
 
+static FILLED: [Step; 12] = [
+    Step::Change(Act::Mkdir(b"/a"), Want::Done(2), 0),
+    Step::Pin(b"a", 0),
+    Step::Pin(b"b", 1),
+    Step::Unpin(&[0, 1]),
+    Step::Look(b"/a", Want::Found(2, Kind::Dir), 1),
+    Step::Look(b"/b", Want::Refused(2), 1),
+    Step::Change(Act::Rename(b"/a", b"/b"), Want::Unit, 1),
+    Step::Look(b"/a", Want::Refused(2), 2),
+    Step::Look(b"/b", Want::Found(2, Kind::Dir), 2),
+    Step::Shrink(4, 2),
+    Step::Lost(b"/a", Why::Miss(0)),
+    Step::Learn(2),
+];
+
 /// Rows that were filled answer, what is there and what is not, and a change turns them.
 #[test]
 fn filled_rows_answer(rt: HostRuntime) -> Result<(), Fail> {
-    let (shared, mut p) = Shared::new(rt.alloc(), 1, 16).expect(&rt, "memory");
-    let made = make(&shared, &rt, rt.alloc(), &mut p, &mkdir(b"/a"));
-    assert!(rt; matches!(made, Ok((Reply::Done(2), 0))));
-    let a = in_root(b"a").expect(&rt, "a name");
-    let b = in_root(b"b").expect(&rt, "a name");
-    assert!(rt; matches!(pin(&shared, &rt, rt.alloc(), &mut p, &a), Ok(Some(0))));
-    assert!(rt; matches!(pin(&shared, &rt, rt.alloc(), &mut p, &b), Ok(Some(1))));
-    unpin_all(&shared, &rt, &mut p, &[0, 1]);
-    let found = look(&shared, &mut p, b"/a");
-    assert!(rt; is_answered(&found, &Reply::Found(2, Kind::Dir), 1));
-    let found = look(&shared, &mut p, b"/b");
-    assert!(rt; is_answered(&found, &Reply::Refused(2), 1));
-    let moved = make(&shared, &rt, rt.alloc(), &mut p, &rename(b"/a", b"/b"));
-    assert!(rt; matches!(moved, Ok((Reply::Unit, 1))));
-    let found = look(&shared, &mut p, b"/a");
-    assert!(rt; is_answered(&found, &Reply::Refused(2), 2));
-    let found = look(&shared, &mut p, b"/b");
-    assert!(rt; is_answered(&found, &Reply::Found(2, Kind::Dir), 2));
-    assert!(rt; shrink(&shared, &rt, &mut p, 4) == 2);
-    let found = look(&shared, &mut p, b"/a");
-    assert!(rt; matches!(found, Some(Fast::Again(Why::Miss(0)))));
-    assert!(rt; shared.learn(&mut p) == 2);
+    assert_eq!(rt; play_anew(&rt, rt.alloc(), 1, &FILLED), None);
     Ok(())
 }

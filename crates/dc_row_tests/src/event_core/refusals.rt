@@ -22,7 +22,7 @@ const MAKE_B: Call<'static> = Call::Mkdir {
 };
 
 /// A core of four rows and two actors. Nobody is actor 2.
-const NO_ACTOR: [Case; 14] = [
+static NO_ACTOR: [Case; 14] = [
     (2, Act::Begin(LOOK_A), Some(Refused::Actor)),
     (2, Act::Take, Some(Refused::Actor)),
     (2, Act::Shut(4), Some(Refused::Actor)),
@@ -40,7 +40,7 @@ const NO_ACTOR: [Case; 14] = [
 ];
 
 /// Nobody has the lock or a call. A pivot needs neither.
-const NO_LOCK_NO_CALL: [Case; 13] = [
+static NO_LOCK_NO_CALL: [Case; 13] = [
     (0, Act::Shut(4), Some(Refused::NotHolder)), // and there is no such row
     (0, Act::Write(4, 0, 0), Some(Refused::NotHolder)), // nor such a row or word
     (0, Act::Open(4), Some(Refused::NotHolder)), // nor such a row
@@ -57,7 +57,7 @@ const NO_LOCK_NO_CALL: [Case; 13] = [
 ];
 
 /// Actor 0 gets a call and the lock, actor 1 a call.
-const LOCKED: [Case; 10] = [
+static LOCKED: [Case; 10] = [
     (0, Act::Begin(MAKE_A), None),
     (0, Act::Begin(LOOK_A), Some(Refused::Unfinished)),
     (0, Act::Take, None),
@@ -71,7 +71,7 @@ const LOCKED: [Case; 10] = [
 ];
 
 /// Actor 0 has the lock. Row 0 comes to say that there is no `/a`.
-const ROWS: [Case; 21] = [
+static ROWS: [Case; 21] = [
     (0, Act::Shut(4), Some(Refused::NoRow)),
     (0, Act::Write(4, 0, 0), Some(Refused::NoRow)), // nor such a word
     (0, Act::Write(0, 0, 1), Some(Refused::NoWord)), // and the row is even
@@ -96,7 +96,7 @@ const ROWS: [Case; 21] = [
 ];
 
 /// Row 1 comes to say the same, and actor 0 makes `/a`.
-const TOUCHED: [Case; 17] = [
+static TOUCHED: [Case; 17] = [
     (0, Act::Shut(1), None),
     (0, Act::Write(1, 1, 257), None),
     (0, Act::Write(1, 2, 1), None),
@@ -117,7 +117,7 @@ const TOUCHED: [Case; 17] = [
 ];
 
 /// Row 1 becomes empty, and actor 0 gives the lock back. It is refused its call, to make `/a` again.
-const UNALTERED: [Case; 15] = [
+static UNALTERED: [Case; 15] = [
     (0, Act::Give(true), Some(Refused::OddRow(1))),
     (0, Act::Write(1, 1, 0), None),
     (0, Act::Write(1, 2, 0), None),
@@ -136,10 +136,10 @@ const UNALTERED: [Case; 15] = [
 ];
 
 /// An actor reads the words of a row after its count.
-const READ_WHOLE: [Case; ROW_WORDS - 1] = [(1, Act::Read, None); ROW_WORDS - 1];
+static READ_WHOLE: [Case; ROW_WORDS - 1] = [(1, Act::Read, None); ROW_WORDS - 1];
 
 /// Actor 1 begins to look for `/a/b` by row 0.
-const WALK: [Case; 5] = [
+static WALK: [Case; 5] = [
     (1, Act::Quit, None),
     (1, Act::Begin(LOOK_AB), None),
     (1, Act::Read, Some(Refused::NoNote)), // there is none
@@ -148,7 +148,7 @@ const WALK: [Case; 5] = [
 ];
 
 /// Row 0 is read, and row 1, but not whole.
-const READ: [Case; 12] = [
+static READ: [Case; 12] = [
     (1, Act::Read, Some(Refused::NoNote)), // it is whole
     (1, Act::Check(0), Some(Refused::Early)),
     (1, Act::Note(1), None),
@@ -164,7 +164,7 @@ const READ: [Case; 12] = [
 ];
 
 /// Row 0 was filled anew. Row 2 is noted.
-const REFILLED: [Case; 9] = [
+static REFILLED: [Case; 9] = [
     (1, Act::Check(0), Some(Refused::NoNote)), // and its row has another count
     (1, Act::Check(1), Some(Refused::NoNote)),
     (1, Act::Again, None),
@@ -177,7 +177,7 @@ const REFILLED: [Case; 9] = [
 ];
 
 /// It was read, and gets other counts.
-const CHANGED: [Case; 8] = [
+static CHANGED: [Case; 8] = [
     (1, Act::Pivot, None),
     (0, Act::Take, None),
     (0, Act::Shut(2), None),
@@ -202,20 +202,25 @@ fn first_other(core: &mut Core, alloc: Global, cases: &[Case]) -> usize {
     cases.len()
 }
 
-/// Before row 0 is filled anew, and afterwards.
-const BEFORE: [&[Case]; 9] = [
-    &NO_ACTOR,
-    &NO_LOCK_NO_CALL,
-    &LOCKED,
-    &ROWS,
-    &TOUCHED,
-    &UNALTERED,
-    &WALK,
-    &READ_WHOLE,
-    &READ,
-];
+/// The lists before row 0 is filled anew.
+fn before() -> [&'static [Case]; 9] {
+    [
+        &NO_ACTOR,
+        &NO_LOCK_NO_CALL,
+        &LOCKED,
+        &ROWS,
+        &TOUCHED,
+        &UNALTERED,
+        &WALK,
+        &READ_WHOLE,
+        &READ,
+    ]
+}
 
-const AFTERWARDS: [&[Case]; 3] = [&REFILLED, &READ_WHOLE, &CHANGED];
+/// The lists afterwards.
+fn afterwards() -> [&'static [Case]; 3] {
+    [&REFILLED, &READ_WHOLE, &CHANGED]
+}
 
 /// The first list, counted from 0, and its first case that went otherwise, or `None` if none did.
 fn first_wrong(core: &mut Core, alloc: Global, lists: &[&[Case]]) -> Option<(usize, usize)> {
@@ -231,9 +236,9 @@ fn first_wrong(core: &mut Core, alloc: Global, lists: &[&[Case]]) -> Option<(usi
 #[test]
 fn each_act_is_refused_for_each_reason(rt: HostRuntime) -> Result<(), Fail> {
     let mut core = Core::new(rt.alloc(), 1, 2, 16)?;
-    assert_eq!(rt; first_wrong(&mut core, rt.alloc(), &BEFORE), None);
+    assert_eq!(rt; first_wrong(&mut core, rt.alloc(), &before()), None);
     assert!(rt; fill(&mut core, rt.alloc(), 0, 0, &A_IS_2).is_ok());
-    assert_eq!(rt; first_wrong(&mut core, rt.alloc(), &AFTERWARDS), None);
+    assert_eq!(rt; first_wrong(&mut core, rt.alloc(), &afterwards()), None);
     assert!(rt; core.finished().len() == 2 && core.clock() == 1);
     Ok(())
 }

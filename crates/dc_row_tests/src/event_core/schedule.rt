@@ -9,10 +9,10 @@ use std::alloc::Global;
 use std::test::Fail;
 
 /// Paths of few names, so that calls meet what others left.
-const PATHS: [&[u8]; 6] = [b"/a", b"/b", b"/a/a", b"/a/b", b"/b/a", b"/b/b"];
+static PATHS: [&[u8]; 6] = [b"/a", b"/b", b"/a/a", b"/a/b", b"/b/a", b"/b/b"];
 
 /// The directory and the name of each.
-const SPOTS: [(&[u8], &[u8]); 6] = [
+static SPOTS: [(&[u8], &[u8]); 6] = [
     (b"/", b"a"),
     (b"/", b"b"),
     (b"/a", b"a"),
@@ -284,27 +284,37 @@ fn look_ups(records: &[Finished]) -> (u64, u64) {
     (found, refused)
 }
 
-#[test]
-fn schedules_are_one_tree(rt: HostRuntime) -> Result<(), Fail> {
-    let alloc = rt.alloc();
+/// All turns. A row's words are one event each: with fewer turns hardly a row is written.
+fn play(alloc: Global) -> Result<Three, Fail> {
     let mut three = Three::new(alloc)?;
     let mut number = 7;
-    // A row's words are one event each: with fewer turns hardly a row is written.
     for _ in 0..100_000 {
         number = drawn(number);
         three.turn(alloc, number)?;
     }
-    let clock = three.core.clock();
+    Ok(three)
+}
+
+/// The first point whose records are not the slow machine's replies, or `None` if there is none.
+fn first_wrong(alloc: Global, core: &Core) -> Result<Option<u64>, NoMemory> {
+    let clock = core.clock();
     let mut tree = PlainTree::new(alloc, 16)?;
     for at in 0..clock.saturating_add(1) {
-        let records = three.core.finished();
-        assert!(rt;
-            are_replies(alloc, &mut tree, records, at, at < clock)?,
-            "at {at}"
-        );
+        if !are_replies(alloc, &mut tree, core.finished(), at, at < clock)? {
+            return Ok(Some(at));
+        }
     }
+    Ok(None)
+}
+
+#[test]
+fn schedules_are_one_tree(rt: HostRuntime) -> Result<(), Fail> {
+    let alloc = rt.alloc();
+    let three = play(alloc)?;
+    let wrong = first_wrong(alloc, &three.core)?;
+    assert!(rt; wrong.is_none(), "at {wrong:?}");
     let (found, refused) = look_ups(three.core.finished());
-    assert!(rt; three.done >= 5000 && three.evictions >= 20 && clock >= 20);
+    assert!(rt; three.done >= 5000 && three.evictions >= 20 && three.core.clock() >= 20);
     assert!(rt; found >= 20 && refused >= 4);
     Ok(())
 }

@@ -36,22 +36,25 @@ fn one_key_more_than_can_be_used_is_long(rt: HostRuntime) -> Result<(), Fail> {
     Ok(())
 }
 
+const CHANGED: Why = Why::Changed {
+    row: 3,
+    noted: 2,
+    found: 4,
+};
+
+static TOLD: [(Why, &str); 6] = [
+    (Why::Miss(2), "no row has the name after 2 questions"),
+    (Why::Busy(7), "row 7 is being changed"),
+    (CHANGED, "row 3 went from count 2 to 4"),
+    (Why::Long, "the path is too long for the rows"),
+    (Why::Link, "no row has the text of the link"),
+    (Why::Memory, "no memory for a row"),
+];
+
 #[test]
 fn causes_are_told(rt: HostRuntime) -> Result<(), Fail> {
-    let changed = Why::Changed {
-        row: 3,
-        noted: 2,
-        found: 4,
-    };
-    for (why, text) in [
-        (Why::Miss(2), "no row has the name after 2 questions"),
-        (Why::Busy(7), "row 7 is being changed"),
-        (changed, "row 3 went from count 2 to 4"),
-        (Why::Long, "the path is too long for the rows"),
-        (Why::Link, "no row has the text of the link"),
-        (Why::Memory, "no memory for a row"),
-    ] {
-        assert_eq!(rt; format!(in rt.alloc(); "{why}")?.as_str(), text);
+    for (why, text) in TOLD.iter() {
+        assert_eq!(rt; format!(in rt.alloc(); "{why}")?.as_str(), *text);
     }
     Ok(())
 }

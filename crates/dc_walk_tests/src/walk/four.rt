@@ -20,16 +20,16 @@ use std::test::Fail;
 /// The first words of a row: its count, its header, a directory, a target, and a name of one byte.
 type Front = [u64; 5];
 
-const A_IS_2: Front = [2, 16_777_473, 1, 2, 97];
+static A_IS_2: Front = [2, 16_777_473, 1, 2, 97];
 
-const D_IS_3: Front = [2, 16_777_473, 2, 3, 100];
+static D_IS_3: Front = [2, 16_777_473, 2, 3, 100];
 
-const Z_IS_ABSENT: Front = [2, 257, 2, 0, 122];
+static Z_IS_ABSENT: Front = [2, 257, 2, 0, 122];
 
-const A_IS_ABSENT: Front = [4, 257, 1, 0, 97];
+static A_IS_ABSENT: Front = [4, 257, 1, 0, 97];
 
 /// A row that was never written.
-const NOTHING: Front = [0; 5];
+static NOTHING: Front = [0; 5];
 
 /// The words of a row, if it is even.
 fn read_row(shared: &Shared, pass: &mut Pass, row: u64) -> Option<Words>

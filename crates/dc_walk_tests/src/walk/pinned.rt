@@ -1,85 +1,81 @@
 //! Walks that fill and pin rows, and walks under the lock.
 
-use super::{change, count, from_root, in_root, is_answered, is_root_at, look};
-use crate::calls::{create, mkdir};
+use super::steps::{Act, Step, Want, play, play_anew};
+use super::{from_root, in_root, is_answered, is_root_at};
 use dc_names::Kind;
 use dc_plain::{Call, Follow, Reply, Stamped};
-use dc_rows::{pin, shrink, unpin_all};
+use dc_rows::{pin, shrink};
 use dc_table::Shared;
-use dc_walk::{Fast, Room, Why, walk_counted, walk_locked};
+use dc_walk::{Room, Why, walk_counted, walk_locked};
 use std::test::Fail;
+
+static FIVE_ROWS: [Step; 7] = [
+    Step::Change(Act::Mkdir(b"/a"), Want::Done(2), 0),
+    Step::Change(Act::Mkdir(b"/a/b"), Want::Done(3), 1),
+    Step::Change(Act::Mkdir(b"/a/b/c"), Want::Done(4), 2),
+    Step::Change(Act::Mkdir(b"/a/b/c/d"), Want::Done(5), 3),
+    Step::CountLost(b"/a/b/c/d/e", Why::Miss(4)),
+    Step::Look(b"/a/b/c/d", Want::Found(5, Kind::Dir), 4),
+    Step::Shrink(5, 4),
+];
 
 /// A walk that needs five rows of a bucket of four takes none that it pinned itself, and leaves no pin.
 #[test]
 fn a_pinned_row_is_not_taken(rt: HostRuntime) -> Result<(), Fail> {
-    let (shared, mut p) = Shared::new(rt.alloc(), 1, 16).expect(&rt, "memory");
-    let made = change(&rt, rt.alloc(), &shared, &mut p, &mkdir(b"/a"));
-    assert!(rt; made == Some((Reply::Done(2), 0)));
-    let made = change(&rt, rt.alloc(), &shared, &mut p, &mkdir(b"/a/b"));
-    assert!(rt; made == Some((Reply::Done(3), 1)));
-    let made = change(&rt, rt.alloc(), &shared, &mut p, &mkdir(b"/a/b/c"));
-    assert!(rt; made == Some((Reply::Done(4), 2)));
-    let made = change(&rt, rt.alloc(), &shared, &mut p, &mkdir(b"/a/b/c/d"));
-    assert!(rt; made == Some((Reply::Done(5), 3)));
-    let found = count(&rt, rt.alloc(), &shared, &mut p, b"/a/b/c/d/e");
-    assert!(rt; matches!(found, Some(Fast::Again(Why::Miss(4)))));
-    let found = look(&shared, &mut p, b"/a/b/c/d");
-    assert!(rt; is_answered(&found, &Reply::Found(5, Kind::Dir), 4));
-    assert!(rt; shrink(&shared, &rt, &mut p, 5) == 4);
+    assert_eq!(rt; play_anew(&rt, rt.alloc(), 1, &FIVE_ROWS), None);
     Ok(())
 }
+
+static PINNED: [Step; 5] = [
+    Step::Pin(b"a", 0),
+    Step::Count(b"/a", Want::Refused(2), 0),
+    Step::Shrink(4, 0),
+    Step::Unpin(&[0]),
+    Step::Shrink(4, 1),
+];
 
 /// A row that is pinned for somebody else stays pinned.
 #[test]
 fn the_pins_of_others_stay(rt: HostRuntime) -> Result<(), Fail> {
-    let (shared, mut p) = Shared::new(rt.alloc(), 1, 16).expect(&rt, "memory");
-    let a = in_root(b"a").expect(&rt, "a name");
-    assert!(rt; matches!(pin(&shared, &rt, rt.alloc(), &mut p, &a), Ok(Some(0))));
-    let found = count(&rt, rt.alloc(), &shared, &mut p, b"/a");
-    assert!(rt; is_answered(&found, &Reply::Refused(2), 0));
-    assert!(rt; shrink(&shared, &rt, &mut p, 4) == 0);
-    unpin_all(&shared, &rt, &mut p, &[0]);
-    assert!(rt; shrink(&shared, &rt, &mut p, 4) == 1);
+    assert_eq!(rt; play_anew(&rt, rt.alloc(), 1, &PINNED), None);
     Ok(())
 }
+
+static ONE_BY_ONE: [Step; 8] = [
+    Step::Change(Act::Mkdir(b"/a"), Want::Done(2), 0),
+    Step::Count(b"/a", Want::Found(2, Kind::Dir), 1),
+    Step::Lost(b"/a/z", Why::Miss(1)),
+    Step::Count(b"/a/z", Want::Refused(2), 1),
+    Step::Look(b"/a/z", Want::Refused(2), 1),
+    Step::Change(Act::Create(b"/a/z"), Want::Done(3), 1),
+    Step::Look(b"/a/z", Want::Found(3, Kind::File), 2),
+    Step::Shrink(5, 2),
+];
 
 /// What is not there is filled too, and a key that no row tells is a miss.
 #[test]
 fn rows_are_filled_one_by_one(rt: HostRuntime) -> Result<(), Fail> {
-    let (shared, mut p) = Shared::new(rt.alloc(), 1, 16).expect(&rt, "memory");
-    assert!(rt;
-        change(&rt, rt.alloc(), &shared, &mut p, &mkdir(b"/a")) == Some((Reply::Done(2), 0))
-    );
-    let found = count(&rt, rt.alloc(), &shared, &mut p, b"/a");
-    assert!(rt; is_answered(&found, &Reply::Found(2, Kind::Dir), 1));
-    let found = look(&shared, &mut p, b"/a/z");
-    assert!(rt; matches!(found, Some(Fast::Again(Why::Miss(1)))));
-    let found = count(&rt, rt.alloc(), &shared, &mut p, b"/a/z");
-    assert!(rt; is_answered(&found, &Reply::Refused(2), 1));
-    let found = look(&shared, &mut p, b"/a/z");
-    assert!(rt; is_answered(&found, &Reply::Refused(2), 1));
-    assert!(rt;
-        change(&rt, rt.alloc(), &shared, &mut p, &create(b"/a/z")) == Some((Reply::Done(3), 1))
-    );
-    let found = look(&shared, &mut p, b"/a/z");
-    assert!(rt; is_answered(&found, &Reply::Found(3, Kind::File), 2));
-    assert!(rt; shrink(&shared, &rt, &mut p, 5) == 2);
+    assert_eq!(rt; play_anew(&rt, rt.alloc(), 1, &ONE_BY_ONE), None);
     Ok(())
 }
+
+static LINKED: [Step; 2] = [
+    Step::Change(Act::Mkdir(b"/a"), Want::Done(2), 0),
+    Step::Change(Act::Symlink(b"a", b"/l"), Want::Done(3), 1),
+];
+
+static FOLLOWED: [Step; 4] = [
+    Step::Shrink(4, 0),
+    Step::Count(b"/l", Want::Found(2, Kind::Dir), 2),
+    Step::Look(b"/l", Want::Found(2, Kind::Dir), 2),
+    Step::Shrink(4, 3),
+];
 
 /// A walk under the lock follows links and fills no row; one that fills rows follows them too.
 #[test]
 fn the_tree_itself_is_asked(rt: HostRuntime) -> Result<(), Fail> {
     let (shared, mut p) = Shared::new(rt.alloc(), 1, 16).expect(&rt, "memory");
-    let symlink = Call::Symlink {
-        base: 1,
-        text: b"a",
-        path: b"/l",
-    };
-    assert!(rt;
-        change(&rt, rt.alloc(), &shared, &mut p, &mkdir(b"/a")) == Some((Reply::Done(2), 0))
-    );
-    assert!(rt; change(&rt, rt.alloc(), &shared, &mut p, &symlink) == Some((Reply::Done(3), 1)));
+    assert_eq!(rt; play(&rt, rt.alloc(), &shared, &mut p, &LINKED), None);
     let call = Call::Look {
         base: 1,
         path: b"/l",
@@ -90,12 +86,7 @@ fn the_tree_itself_is_asked(rt: HostRuntime) -> Result<(), Fail> {
         at: 2,
     };
     assert!(rt; walk_locked(&shared, &rt, &mut p, &call) == told);
-    assert!(rt; shrink(&shared, &rt, &mut p, 4) == 0);
-    let found = count(&rt, rt.alloc(), &shared, &mut p, b"/l");
-    assert!(rt; is_answered(&found, &Reply::Found(2, Kind::Dir), 2));
-    let found = look(&shared, &mut p, b"/l");
-    assert!(rt; is_answered(&found, &Reply::Found(2, Kind::Dir), 2));
-    assert!(rt; shrink(&shared, &rt, &mut p, 4) == 3);
+    assert_eq!(rt; play(&rt, rt.alloc(), &shared, &mut p, &FOLLOWED), None);
     let stat = Call::Stat {
         base: 1,
         path: b"/l/",
@@ -108,23 +99,20 @@ fn the_tree_itself_is_asked(rt: HostRuntime) -> Result<(), Fail> {
     Ok(())
 }
 
+static FILLED_AGAIN: [Step; 7] = [
+    Step::Change(Act::Mkdir(b"/a"), Want::Done(2), 0),
+    Step::Count(b"/a", Want::Found(2, Kind::Dir), 1),
+    Step::Shrink(1, 1),
+    Step::Lost(b"/a", Why::Miss(0)),
+    Step::Count(b"/a", Want::Found(2, Kind::Dir), 1),
+    Step::Look(b"/a", Want::Found(2, Kind::Dir), 1),
+    Step::Shrink(4, 1),
+];
+
 /// A row that was emptied is filled again.
 #[test]
 fn an_emptied_row_is_filled_again(rt: HostRuntime) -> Result<(), Fail> {
-    let (shared, mut p) = Shared::new(rt.alloc(), 1, 16).expect(&rt, "memory");
-    assert!(rt;
-        change(&rt, rt.alloc(), &shared, &mut p, &mkdir(b"/a")) == Some((Reply::Done(2), 0))
-    );
-    let found = count(&rt, rt.alloc(), &shared, &mut p, b"/a");
-    assert!(rt; is_answered(&found, &Reply::Found(2, Kind::Dir), 1));
-    assert!(rt; shrink(&shared, &rt, &mut p, 1) == 1);
-    let found = look(&shared, &mut p, b"/a");
-    assert!(rt; matches!(found, Some(Fast::Again(Why::Miss(0)))));
-    let found = count(&rt, rt.alloc(), &shared, &mut p, b"/a");
-    assert!(rt; is_answered(&found, &Reply::Found(2, Kind::Dir), 1));
-    let found = look(&shared, &mut p, b"/a");
-    assert!(rt; is_answered(&found, &Reply::Found(2, Kind::Dir), 1));
-    assert!(rt; shrink(&shared, &rt, &mut p, 4) == 1);
+    assert_eq!(rt; play_anew(&rt, rt.alloc(), 1, &FILLED_AGAIN), None);
     Ok(())
 }
 

@@ -33,7 +33,7 @@ const PATH: &[u8] = b"/a/b/c";
 const PLACES: usize = 6;
 
 /// The first words of the rows, with count 0. The others are zero.
-const FACTS: [[u64; 5]; 3] = [
+static FACTS: [[u64; 5]; 3] = [
     [0, 16_777_473, 1, 2, 97],
     [0, 16_777_473, 2, 3, 98],
     [0, 16_777_473, 3, 4, 99],
