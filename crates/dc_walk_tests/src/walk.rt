@@ -14,9 +14,8 @@ mod steps;
 
 use dc_names::{Kind, NAME_MAX, Name, parse};
 use dc_plain::{Call, Follow, Key, Label, Reply};
-use dc_rows::change as make;
 use dc_table::{Pass, Shared};
-use dc_walk::{Fast, Look, Room, Why, walk_counted, walk_fast};
+use dc_walk::{Fast, Look, Room, Why, change_by_rows, walk_counted, walk_fast};
 use std::alloc::Global;
 use std::sync::Wait;
 use std::test::Fail;
@@ -66,7 +65,7 @@ fn change<R: Wait>(
     requires { CanWalk shared.now pass.old × IsChange call.now }
     ensures { CanWalk shared.now pass.new }
 {
-    make(shared, rt, alloc, pass, call).ok()
+    change_by_rows(shared, rt, alloc, pass, &mut Room::new(), call).ok()
 }
 
 /// Whether a path was answered so after so many changes.

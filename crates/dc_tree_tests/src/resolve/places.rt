@@ -2,7 +2,7 @@
 
 use super::{Asked, PARENTS, ROWS, TEXTS, new_fixed};
 use dc_names::{Last, Refusal, parse};
-use dc_resolve::{Placed, place};
+use dc_resolve::{Placed, before_last_part, place, place_in};
 use std::test::Fail;
 
 /// A last part that is no name.
@@ -114,4 +114,36 @@ fn places_ask_in_order(rt: HostRuntime) -> Result<(), Fail> {
         assert!(rt; finder.asked.as_slice() == *want, "{path:?}");
     }
     Ok(())
+}
+
+/// A path, the bytes before its last component, and that component where it is a name that directory 7
+/// is known to hold, with whether a slash follows.
+static FRONTS: [(&[u8], &[u8], Option<(&[u8], bool)>); 8] = [
+    (b"/d/f", b"/d/", Some((b"f", false))),
+    (b"d//e///", b"d//", Some((b"e", true))),
+    (b"../g", b"../", Some((b"g", false))),
+    (b"/l", b"/", Some((b"l", false))),
+    (b"/d/..", b"/d/", None),
+    (b"f", b"", None),
+    (b"f//", b"", None),
+    (b"///", b"", None),
+];
+
+/// Where a path's last component stands in directory 7, and whether a slash follows, if it is a name.
+fn name_in<'p>(path: &'p [u8], front: &[u8]) -> Option<(&'p [u8], bool)> {
+    let at = place_in(parse(path).ok()?, front, 7)?;
+    match at.last {
+        Last::Normal(name) if at.dir == 7 => Some((name.bytes(), at.slash)),
+        _ => None,
+    }
+}
+
+#[test]
+fn places_stand_in_a_known_directory(rt: HostRuntime) {
+    for (path, front, want) in FRONTS.iter() {
+        let cut = before_last_part(path);
+        assert!(rt; cut == *front, "{path:?}: {cut:?}");
+        assert!(rt; name_in(path, front) == *want, "{path:?}");
+        assert!(rt; name_in(path, b"/other/").is_none(), "{path:?}");
+    }
 }
