@@ -156,8 +156,8 @@ fn is_so<R: Wait>(rt: &R, alloc: Global, shared: &Shared, pass: &mut Pass, step:
     }
 }
 
-/// Takes the steps one after the other. It tells which one, counted from 0, came to something else, or
-/// `None` where each came to what it should.
+/// Takes the steps one after the other. It tells which one, counted from 0, came to something else,
+/// or `None` where each came to what it should.
 pub(super) fn play<R: Wait>(
     rt: &R,
     alloc: Global,
@@ -176,7 +176,7 @@ pub(super) fn play<R: Wait>(
     None
 }
 
-/// The same over a new table of so many buckets. One that is refused memory has no step that is right.
+/// The same over a new table of so many buckets. Without memory for it the first step fails.
 pub(super) fn play_anew<R: Wait>(
     rt: &R,
     alloc: Global,
