@@ -176,7 +176,7 @@ pub(super) fn play<R: Wait>(
     None
 }
 
-/// The same over a new table of so many buckets. One that is refused memory has no step that is right.
+/// The same over a new table of so many buckets. Without memory for it the first step fails.
 pub(super) fn play_anew<R: Wait>(
     rt: &R,
     alloc: Global,
