@@ -55,33 +55,19 @@ pub fn plan_knowing<'a, S: Store>(
 fn found<'a, S: Store>(
     store: &S,
     call: &Call<'a>,
-    max_inodes: u64,
+    limit: u64,
     known: Option<Known<'_>>,
 ) -> Result<Option<Plan<'a>>, Refusal>
     requires change { IsChange call.now }
     requires known { IfSome known (IsKnownOn (S.tree store.now)) }
-    ensures settled { SettlesCallIf max_inodes (S.tree store.now) (request_of call.now) result }
+    ensures settled { SettlesCallIf limit (S.tree store.now) (request_of call.now) result }
     ensures without_memory { CallTakesNoMemory (request_of call.now) → FoundTakesNoMemory result }
 {
     Ok(match *call {
-        Call::Mkdir { base, path } => Some(plan_make(
-            store,
-            known,
-            base,
-            path,
-            New::Dir,
-            max_inodes,
-        )?),
-        Call::Create { base, path } => Some(plan_make(
-            store,
-            known,
-            base,
-            path,
-            New::File,
-            max_inodes,
-        )?),
+        Call::Mkdir { base, path } => Some(plan_make(store, known, base, path, New::Dir, limit)?),
+        Call::Create { base, path } => Some(plan_make(store, known, base, path, New::File, limit)?),
         Call::Symlink { base, text, path } => {
-            Some(plan_symlink(store, known, base, text, path, max_inodes)?)
+            Some(plan_symlink(store, known, base, text, path, limit)?)
         }
         Call::Link { base, old, new } => Some(plan_link(store, known, base, old, new)?),
         Call::Unlink { base, path } => Some(plan_unlink(store, known, base, path)?),

@@ -4,7 +4,7 @@ use Rattle.dc_ops.proofs.dispatch.found.Goals.{in-Mkdir+in_ok-plan_make-in-Mkdir
 
 pub returns-clause-settled : goal.returns-clause-settled
 returns-clause-settled g c =
-    let so = settles_as c.args.max_inodes (g.S.Store.tree c.args.store.now) c.args.call.now in
+    let so = settles_as c.args.limit (g.S.Store.tree c.args.store.now) c.args.call.now in
     elim c.match-call.branch [
       | in-Mkdir+in_ok-plan_make-in-Mkdir w ↦ so _ _ _ w.result-is w.in-Mkdir.is w.in_ok-plan_make-in-Mkdir.ensures
       | in-Create+in_ok-plan_make-in-Create w ↦ so _ _ _ w.result-is w.in-Create.is w.in_ok-plan_make-in-Create.ensures
