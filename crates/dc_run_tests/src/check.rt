@@ -16,7 +16,7 @@ const INPUT: &str = "0 mkdir /a\n0 cd /a\nsync\n1 rmdir /a\nsync\n0 look .\n";
 const OUTPUT: &str = "0 ok 2 @0\n0 is 2 dir @1\n1 ok @1\n0 no 2 @2\n";
 
 /// The sessions, calls and points of its stamps.
-const STAMPS: [(u64, Call<'static>, u64); 4] = [
+static STAMPS: [(u64, Call<'static>, u64); 4] = [
     (
         0,
         Call::Mkdir {

@@ -25,7 +25,7 @@ const MADE: &[u8] =
 
 /// Paths, and the numbers that they lead to at even and at odd points. The relative ones start in the
 /// directory that was made as `/a/d`.
-const LOOKS: [(&str, u64, u64); 10] = [
+static LOOKS: [(&str, u64, u64); 10] = [
     ("/a/d", 4, 5),
     ("/b/d", 5, 4),
     ("/a/d/x", 6, 7),

@@ -19,7 +19,7 @@ const PHASES: u64 = 5;
 /// How many lines a session has in a phase.
 const LINES: u64 = 10;
 
-const VERBS: [&str; 13] = [
+static VERBS: [&str; 13] = [
     "link", "symlink", "rename", "look", "llook", "cd", "readlink", "stat", "list", "mkdir",
     "create", "unlink", "rmdir",
 ];
@@ -27,7 +27,7 @@ const VERBS: [&str; 13] = [
 /// The verbs with two paths come first.
 const TWO_PATHS: usize = 3;
 
-const PATHS: [&str; 8] = ["/a", "/b", "/a/x", "/b/y", "/a/x/z", "x", "..", "/b/./"];
+static PATHS: [&str; 8] = ["/a", "/b", "/a/x", "/b/y", "/a/x/z", "x", "..", "/b/./"];
 
 /// One of the paths.
 fn path(seed: u64) -> &'static str {
@@ -46,7 +46,7 @@ fn line(alloc: Global, session: u64, seed: u64) -> Result<String, AllocError> {
 
 /// Commands that make links anew, remove them and rename over them, and look through one and two of
 /// them.
-const LINKED: [&str; 16] = [
+static LINKED: [&str; 16] = [
     "mkdir /d",
     "create /d/x",
     "symlink d /l",
@@ -154,7 +154,7 @@ fn eight_sessions_are_legal(rt: HostRuntime) -> Result<(), Fail> {
 }
 
 /// Inputs in which a phase has several sessions.
-const THREADED: [(&str, u64); 6] = [
+static THREADED: [(&str, u64); 6] = [
     ("1 look /\n0 look /\n", 2),
     ("0 look /\n1 look /\n", 2),
     (
@@ -175,9 +175,9 @@ const THREADED: [(&str, u64); 6] = [
 
 #[test]
 fn threaded_inputs_are_legal(rt: HostRuntime) -> Result<(), Fail> {
-    for (input, answers) in THREADED {
+    for (input, answers) in THREADED.iter() {
         let (found, verdict) = run_and_judge(&rt, rt.alloc(), 1, input.as_bytes())?;
-        assert_eq!(rt; found, answers, "{input}");
+        assert_eq!(rt; found, *answers, "{input}");
         assert!(rt; verdict == PhasedVerdict::Legal, "{input}: {verdict:?}");
     }
     Ok(())

@@ -17,7 +17,7 @@ const PHASES: u64 = 4;
 const LINES: u64 = 50;
 
 /// The directories are made, renamed, exchanged and removed while others look through them.
-const COMMANDS: [&str; 32] = [
+static COMMANDS: [&str; 32] = [
     "mkdir /p",
     "mkdir /q",
     "mkdir /p/d",

@@ -6,7 +6,7 @@
 ghost use Rattle.std.specs.Thread.{IsSync};
 ghost use Rattle.dc_cache.specs.Passes.{Fits, IsChange};
 
-use crate::answers::{create, mkdir, unlink};
+use crate::answers::{Want, create, mkdir, unlink};
 use crate::steps::{Act, Step, play};
 use dc_cache::{Call, Dcache, Fast, Flags, Follow, Pass, ROOT, Reply, Stamped, Store, parse};
 use std::alloc::{AllocError, Global};
@@ -164,18 +164,22 @@ fn run<R: Threads + Wait + Sync>(
     (pass, made && absent)
 }
 
+static DIRECTORIES: [Step<'static>; 5] = [
+    Step::Change(Act::Mkdir(b"/p"), Want::Done(2), 0),
+    Step::Change(Act::Mkdir(b"/p/d"), Want::Done(3), 1),
+    Step::Change(Act::Mkdir(b"/p/d/d"), Want::Done(4), 2),
+    Step::Change(Act::Mkdir(b"/p/d/d/d"), Want::Done(5), 3),
+    Step::Change(Act::Mkdir(b"/p/d/d/d/d"), Want::Done(6), 4),
+];
+
 /// The file is one and four directories below the one that is renamed.
 #[test]
 fn a_name_that_never_stands_is_never_found(rt: HostRuntime) -> Result<(), Fail> {
     let (cache, mut pass) = Dcache::new(rt.alloc(), 16, 1024).expect(&rt, "memory");
-    let steps = [
-        Step::Change(Act::Mkdir(b"/p"), Reply::Done(2), 0),
-        Step::Change(Act::Mkdir(b"/p/d"), Reply::Done(3), 1),
-        Step::Change(Act::Mkdir(b"/p/d/d"), Reply::Done(4), 2),
-        Step::Change(Act::Mkdir(b"/p/d/d/d"), Reply::Done(5), 3),
-        Step::Change(Act::Mkdir(b"/p/d/d/d/d"), Reply::Done(6), 4),
-    ];
-    assert_eq!(rt; play(&rt, rt.alloc(), &cache, &mut pass, &steps), None);
+    assert_eq!(rt;
+        play(&rt, rt.alloc(), &cache, &mut pass, &DIRECTORIES),
+        None
+    );
     let (pass, right) = run(
         &rt,
         rt.alloc(),

@@ -7,7 +7,7 @@ use std::alloc::Global;
 use std::test::Fail;
 
 /// Paths of few names, so that calls meet what others left. Some lead through links.
-const PATHS: [&[u8]; 8] = [
+static PATHS: [&[u8]; 8] = [
     b"/a",
     b"/b",
     b"/a/b",

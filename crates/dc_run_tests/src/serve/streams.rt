@@ -81,25 +81,28 @@ fn read_from<R: Threads + Wait + Sync>(
     (result, reader.reads, output.is_empty())
 }
 
+/// How many bytes a reader gives up to its turn, and what a run makes of it, and how often it reads.
+static ENDS: [(u32, Turn, Result<(), ServeFault>, u32); 5] = [
+    (18, Turn::Ends, Ok(()), 19),
+    (18, Turn::PausesOnce, Ok(()), 19),
+    // The longest input isn't refused by its reader: its last line breaks off.
+    (
+        1_048_576,
+        Turn::Ends,
+        Err(ServeFault::BadLine(116_509)),
+        1_048_577,
+    ),
+    (1_048_577, Turn::Ends, Err(ServeFault::Read), 1_048_577),
+    (u32::MAX, Turn::Ends, Err(ServeFault::Read), 1_048_577),
+];
+
 /// A read that fails or ends is not tried again, and nothing is answered after a fault.
 #[test]
 fn inputs_that_end_badly(rt: HostRuntime) {
-    for (left, turn, want, reads) in [
-        (18, Turn::Ends, Ok(()), 19),
-        (18, Turn::PausesOnce, Ok(()), 19),
-        // The longest input isn't refused by its reader: its last line breaks off.
-        (
-            1_048_576,
-            Turn::Ends,
-            Err(ServeFault::BadLine(116_509)),
-            1_048_577,
-        ),
-        (1_048_577, Turn::Ends, Err(ServeFault::Read), 1_048_577),
-        (u32::MAX, Turn::Ends, Err(ServeFault::Read), 1_048_577),
-    ] {
-        let (result, made, _) = read_from(&rt, rt.alloc(), left, turn);
-        assert_eq!(rt; result, want, "{left}");
-        assert_eq!(rt; made, reads, "{left}");
+    for (left, turn, want, reads) in ENDS.iter() {
+        let (result, made, _) = read_from(&rt, rt.alloc(), *left, *turn);
+        assert_eq!(rt; result, *want, "{left}");
+        assert_eq!(rt; made, *reads, "{left}");
     }
     for left in 0..19 {
         for turn in [Turn::Fails, Turn::FailsOnce] {
