@@ -29,12 +29,22 @@ pub fn carry<S: Store>(alloc: Global, store: &mut S, plan: Plan<'_>) -> Result<R
             store.drop_entry(dir, name);
             Ok(Reply::Unit)
         }
-        Plan::Move { from, to, .. } => {
-            store.move_entry(alloc, from, to)?;
+        Plan::Move {
+            from,
+            to,
+            number,
+            ..
+        } => {
+            store.move_entry(alloc, from, to, number)?;
             Ok(Reply::Unit)
         }
-        Plan::Swap { from, to, .. } => {
-            store.swap_entries(from, to);
+        Plan::Swap {
+            from,
+            to,
+            first,
+            second,
+        } => {
+            store.swap_entries(from, first.number, to, second.number);
             Ok(Reply::Unit)
         }
     }

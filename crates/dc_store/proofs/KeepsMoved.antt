@@ -94,7 +94,7 @@ module _ {inodes : List (ℕ × Inode)} {next : ℕ} {t : Tree} (now : Keeps ino
           (λ q node e. ap (λ ns. node_at ns q) (sym nodes_taken) ∙ leaves.kept q node e) in
           (n, leads, keeps_after (led_to inodes d name) (changed d (less_name name) inodes) sorted_taken after refl refl leaves.counted)
 
-    module _ (from : ℕ) (old : List ℕ) (to : ℕ) (new : List ℕ) (n : ℕ) (named : IsTrue (is_name new)) (can : moved.CanMove t (spot_at from old) (spot_at to new)) (found : Some n ≡ entry_number t (spot_at from old)) where
+    module _ (from : ℕ) (old : List ℕ) (to : ℕ) (new : List ℕ) (n : ℕ) (named : IsTrue (is_name new)) (leads : entry_number t (spot_at from old) ≡ Some n) (stands : moved.CanStandAt t (spot_at to new) n) where
       abbrev with_new : List (ℕ × Inode)
       with_new = changed to (with_name new n) inodes
 
@@ -102,7 +102,7 @@ module _ {inodes : List (ℕ × Inode)} {next : ℕ} {t : Tree} (now : Keeps ino
       without_old = changed from (less_name old) with_new
 
       may : CanMove t from old to new n
-      may = record { leads = sym found; stands = subst (λ o. IsSomeAnd o (moved.CanStandAt t (spot_at to new))) (sym found) can; named = named }
+      may = record { leads = leads; stands = stands; named = named }
 
       sorted_new : T (is_sorted nat_cmp with_new)
       sorted_new = sorted_changed to (with_name new n) inodes (in_order now)
@@ -111,7 +111,7 @@ module _ {inodes : List (ℕ × Inode)} {next : ℕ} {t : Tree} (now : Keeps ino
       sorted_old = sorted_changed from (less_name old) with_new sorted_new
 
       entries_new : entries_of with_new ≡ put spot_cmp (spot_at to new) n (entries_of inodes)
-      entries_new = let stands = may.stands in entries_with inodes (in_order now) to new n (lives_directory now to stands.directory)
+      entries_new = entries_with inodes (in_order now) to new n (lives_directory now to stands.directory)
 
       entries_old : entries_of without_old ≡ without_spot (spot_at from old) (entries_of with_new)
       entries_old = entries_less with_new sorted_new from old
@@ -144,17 +144,15 @@ module _ {inodes : List (ℕ × Inode)} {next : ℕ} {t : Tree} (now : Keeps ino
       abbrev left_over : List (ℕ × Inode)
       left_over = inodes_after (led_to inodes to new) without_old
 
-      moved_in : (entry_number t (spot_at from old) ≡ Some n) × Keeps (changed n (held_by to) left_over) next (tree_moved t from old to new n)
+      moved_in : Keeps (changed n (held_by to) left_over) next (tree_moved t from old to new n)
       moved_in =
           let leaves = move_leaves in
           let sorted_left = sorted_lost (led_to inodes to new) without_old sorted_old in
           let shown = held_shown left_over sorted_left n to in
-          let (leads, after) = after_move laws from old to new n now.shows named can (found ∙ sym (ap (lookup spot_cmp (spot_at from old)) (entries_are now))) entries_new (led_spot to new) entries_old
-          (leaves.nodes ∙ ap (nodes_after (led_to inodes to new) (entries_of without_old)) nodes_old) (λ q node e. ap (λ ns. node_at ns q) (sym nodes_old) ∙ leaves.kept q node e) shown (held_set left_over sorted_left n to) in (
-            leads,
-            keeps_after (led_to inodes to new) without_old sorted_old after shown (entries_kept left_over sorted_left n (held_by to) (λ i. refl))
-                (counted_changed None left_over (entries_of without_old) leaves.counted n (held_by to) (λ i. refl)),
-          )
+          let after = after_move laws from old to new n now.shows named leads stands entries_new (led_spot to new) entries_old
+          (leaves.nodes ∙ ap (nodes_after (led_to inodes to new) (entries_of without_old)) nodes_old) (λ q node e. ap (λ ns. node_at ns q) (sym nodes_old) ∙ leaves.kept q node e) shown (held_set left_over sorted_left n to) in
+          keeps_after (led_to inodes to new) without_old sorted_old after shown (entries_kept left_over sorted_left n (held_by to) (λ i. refl))
+          (counted_changed None left_over (entries_of without_old) leaves.counted n (held_by to) (λ i. refl))
 
       -- with what the steps of the code left
       module _ {entered taken : List (ℕ × Inode)} {replaced : Option ℕ} (put_in : entered ≡ changed to (with_name new n) inodes) (was : replaced ≡ led_to inodes to new) (out : taken ≡ changed from (less_name old) entered) where
@@ -166,7 +164,6 @@ module _ {inodes : List (ℕ × Inode)} {next : ℕ} {t : Tree} (now : Keeps ino
             subst (λ o. IfSome o (λ m. IfSome (inode_at taken m) (λ inode. 0 < inode.count))) (sym was)
             (subst (λ es. IfSome (led_to inodes to new) (λ m. IfSome (inode_at es m) (λ inode. 0 < inode.count))) (sym taken_is) move_can_lose)
 
-        pub after_steps : {rest last : List (ℕ × Inode)} → rest ≡ inodes_after replaced taken → last ≡ changed n (held_by to) rest → (entry_number t (spot_at from old) ≡ Some n) × Keeps last next (tree_moved t from old to new n)
+        pub after_steps : {rest last : List (ℕ × Inode)} → rest ≡ inodes_after replaced taken → last ≡ changed n (held_by to) rest → Keeps last next (tree_moved t from old to new n)
         after_steps lost set =
-            let (leads, moved) = moved_in in
-            (leads, subst (λ es. Keeps es next (tree_moved t from old to new n)) (sym (set ∙ ap (changed n (held_by to)) (lost ∙ (λ i. inodes_after (was i) (taken_is i))))) moved)
+            subst (λ es. Keeps es next (tree_moved t from old to new n)) (sym (set ∙ ap (changed n (held_by to)) (lost ∙ (λ i. inodes_after (was i) (taken_is i))))) moved_in

@@ -102,17 +102,13 @@ module _ (laws : TreeLaws) (from : ℕ) (old : List ℕ) (to : ℕ) (new : List 
 
 -- with what the steps of the code answered
 pub after_move : TreeLaws → {entries more less : List (Spot × ℕ)} {nodes fewer last : List (ℕ × rust_node.Node)} {next : ℕ} {t : Tree} {lost : Option ℕ} (from : ℕ) (old : List ℕ) (to : ℕ) (new : List ℕ) (n : ℕ)
-    → Shows entries nodes next t → IsTrue (is_name new) → moved.CanMove t (spot_at from old) (spot_at to new) → Some n ≡ find spot_cmp (spot_at from old) entries
+    → Shows entries nodes next t → IsTrue (is_name new) → entry_number t (spot_at from old) ≡ Some n → moved.CanStandAt t (spot_at to new) n
     → more ≡ put spot_cmp (spot_at to new) n entries → lost ≡ find spot_cmp (spot_at to new) entries → less ≡ without_spot (spot_at from old) more
     → fewer ≡ nodes_after lost less nodes → ((q : ℕ) (node : rust_node.Node) → node_at fewer q ≡ Some node → node_at nodes q ≡ Some node) → map inode_shown last ≡ map inode_shown fewer
     → ((q : ℕ) → node_at last q ≡ (if q == n then option_map (with_parent to) (node_at fewer q) else node_at fewer q))
-    → (entry_number t (spot_at from old) ≡ Some n) × Shows less last next (tree_moved t from old to new n)
-after_move laws {nodes = nodes} {last = last} {next = next} {t = t} {lost = lost} from old to new n now named can found entered was taken cut kept shown set =
+    → Shows less last next (tree_moved t from old to new n)
+after_move laws {nodes = nodes} {last = last} {next = next} {t = t} {lost = lost} from old to new n now named leads stands entered was taken cut kept shown set =
     let at : (spot : Spot) → entry_number t spot ≡ find spot_cmp spot _ = λ spot. ap (λ (u : Tree). entry_number u spot) (sym now.shows) in
-    let leads = at (spot_at from old) ∙ sym found in
-    let stands : moved.CanStandAt t (spot_at to new) n = subst (λ o. IsSomeAnd o (moved.CanStandAt t (spot_at to new))) leads can in
-    let less_is = taken ∙ ap (without_spot (spot_at from old)) entered in (
-      leads,
-      subst (λ es. Shows es last next (tree_moved t from old to new n)) (sym less_is)
-          (over_any laws from old to new n now (record { leads = leads; stands = stands; named = named }) kept shown set lost (at (spot_at to new) ∙ sym was) (cut ∙ ap (λ es. nodes_after lost es nodes) less_is)),
-    )
+    let less_is = taken ∙ ap (without_spot (spot_at from old)) entered in
+    subst (λ es. Shows es last next (tree_moved t from old to new n)) (sym less_is)
+    (over_any laws from old to new n now (record { leads = leads; stands = stands; named = named }) kept shown set lost (at (spot_at to new) ∙ sym was) (cut ∙ ap (λ es. nodes_after lost es nodes) less_is))

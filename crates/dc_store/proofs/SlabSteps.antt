@@ -5,17 +5,15 @@ use Rattle.std.specs.Ordering.{nat_cmp}
 use Rattle.dc_plain.specs.Conditions as plain
 use Rattle.dc_plain.specs.Conditions.{IsFree}
 use Rattle.dc_plain.specs.Effects.{tree_swapped, with_new}
-use Rattle.dc_plain.specs.Trees.{Tree, Spot, entry_number}
+use Rattle.dc_plain.specs.Trees.{Tree, Spot}
 use Rattle.dc_store.specs.Inodes.{changed, held_by, led_to, tree_of, with_name, without_inode}
 use Rattle.dc_store.specs.Laws.{TreeLaws}
 use Rattle.dc_store.specs.Maps.{node_shown, CanKeep}
 use Rattle.dc_store.specs.Slabs.{IsTied}
-use Rattle.dc_store.specs.Swapped.{CanSwap, Swaps}
 use Rattle.dc_store.specs.declared.inode.Inode.{Inode}
 use Rattle.dc_store.specs.declared.node.Node as rust_node
 use Rattle.dc_store.proofs.Keeps.{Keeps, keeps_now, tied_as, made_in, taken_back}
 use Rattle.dc_store.proofs.KeepsSwapped.{first_led, second_led, after_swaps}
-use Rattle.dc_store.proofs.Swaps.{can_as, swaps_as}
 
 module _ {inodes : List (ℕ × Inode)} {next : ℕ} {t : Tree} (now : Keeps inodes next t) (laws : TreeLaws) where
   -- an inode that no entry was made for goes again
@@ -29,10 +27,7 @@ module _ {inodes : List (ℕ × Inode)} {next : ℕ} {t : Tree} (now : Keeps ino
       made_in now laws d name free node low can (put_in ∙ ap (λ names. put {X = Inode} nat_cmp next (record { node = node; names = names; count = 1 }) inodes) none) entered
 
 module _ (laws : TreeLaws) (a b : Spot) (m n : ℕ) {inodes : List (ℕ × Inode)} {next : ℕ} {t : Tree} (tied : IsTied inodes next) (view : tree_of inodes next ≡ t)
-    (first : entry_number t a ≡ Some m) (second : entry_number t b ≡ Some n) (can : CanSwap t a b) where
-  may : plain.CanSwap t a m b n
-  may = can_as t a b m n first second can
-
+    (may : plain.CanSwap t a m b n) where
   -- both names are there as each is written
   pub first_ready : IsSome (led_to inodes a.dir a.name)
   first_ready = first_led laws a m b n (keeps_now tied view) may
@@ -49,5 +44,5 @@ module _ (laws : TreeLaws) (a b : Spot) (m n : ℕ) {inodes : List (ℕ × Inode
     pub still_tied : IsTied four next
     still_tied = tied_as keeps
 
-    pub has_swapped : Swaps t a b (tree_of four next)
-    has_swapped = let now = keeps in swaps_as t (tree_of four next) a b m n first second now.shows.shows
+    pub has_swapped : tree_of four next ≡ tree_swapped t a m b n
+    has_swapped = let now = keeps in now.shows.shows

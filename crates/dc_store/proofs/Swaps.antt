@@ -1,5 +1,5 @@
 -- A store in which two names have swapped what they lead to.
-use Rattle.std.proofs.Common.{◌≡◌, ℕ, ◌==◌, List, Bool, true, false, cond, map, Some, IfSome, IsSomeAnd, IsTrue, option_map, refl, ap, sym, ◌∙◌, subst, if◌then◌else◌}
+use Rattle.std.proofs.Common.{◌≡◌, ℕ, ◌==◌, List, Bool, true, false, cond, map, Some, IsTrue, option_map, refl, ap, sym, ◌∙◌, subst, if◌then◌else◌}
 use Rattle.std.specs.FinMap.Entries.{put}
 use Rattle.dc_plain.specs.Conditions as plain
 use Rattle.dc_plain.specs.EffectFacts.{SwapsNames}
@@ -8,22 +8,11 @@ use Rattle.dc_plain.specs.Trees.{Tree, Spot, spot_cmp, inode_of, entry_number, h
 use Rattle.dc_store.specs.Laws.{TreeLaws}
 use Rattle.dc_store.specs.Maps.{inode_shown, node_at, parent_in, with_parent}
 use Rattle.dc_store.specs.Nodes.{WritesParent}
-use Rattle.dc_store.specs.Swapped.{CanSwap}
 use Rattle.dc_store.specs.declared.node.Node as rust_node
 use Rattle.dc_store.specs.declared.node.Node.TheVariants as kinds
 use Rattle.dc_store.proofs.Decides.{decided, decided_not, other_test}
-use Rattle.dc_store.proofs.Dropped.{if_some_at}
 use Rattle.dc_store.proofs.Moves.{new_parent}
 use Rattle.dc_store.proofs.Stores.{Shows, lives_as}
-
--- by what was found at the two names
-pub can_as : (t : Tree) (a b : Spot) (m n : ℕ) → entry_number t a ≡ Some m → entry_number t b ≡ Some n → CanSwap t a b → plain.CanSwap t a m b n
-can_as t a b m n first second can =
-    subst (λ o. IsSomeAnd o (λ n. plain.CanSwap t a m b n)) second (subst (λ o. IsSomeAnd o (λ m. IsSomeAnd (entry_number t b) (λ n. plain.CanSwap t a m b n))) first can)
-
-pub swaps_as : (t u : Tree) (a b : Spot) (m n : ℕ) → entry_number t a ≡ Some m → entry_number t b ≡ Some n → u ≡ tree_swapped t a m b n → IfSome (entry_number t a) (λ m. IfSome (entry_number t b) (λ n. u ≡ tree_swapped t a m b n))
-swaps_as t u a b m n first second is =
-    if_some_at (λ m. IfSome (entry_number t b) (λ n. u ≡ tree_swapped t a m b n)) first (if_some_at (λ n. u ≡ tree_swapped t a m b n) second is)
 
 module _ (laws : TreeLaws) (a : Spot) (m : ℕ) (b : Spot) (n : ℕ) (one two : List (ℕ × rust_node.Node)) {entries : List (Spot × ℕ)} {nodes : List (ℕ × rust_node.Node)} {next : ℕ} {t : Tree} (now : Shows entries nodes next t)
     (can : plain.CanSwap t a m b n) (first_set : WritesParent m b.dir nodes one) (second_set : WritesParent n a.dir one two) where

@@ -5,7 +5,6 @@ pub mod Counts
 pub mod Dropped
 pub mod Maps
 pub mod Moved
-pub mod Swapped
 pub mod Names
 pub mod Inodes
 pub mod Slots

@@ -1,12 +1,12 @@
 //! The store in two ordered maps, which tests compare with the other one.
 
-ghost use Rattle.std.specs.Prelude.{◌≡◌, ◌<◌, None, option_map, IfSome, IfOk, OnOk, OnErr, IsTrue};
+ghost use Rattle.std.specs.Prelude.{◌≡◌, ◌<◌, None, Some, option_map, IfSome, IfOk, OnOk, OnErr, IsTrue};
 ghost use Rattle.dc_plain.specs.Effects.{with_new, with_entry_for};
 ghost use Rattle.dc_plain.specs.IsWellFormed.{IsWellFormed};
 ghost use Rattle.dc_plain.specs.Trees.{Tree, empty_tree, inode_of, entry_number, is_live_directory};
 ghost use Rattle.dc_plain.specs.Conditions.{CanBeNamed};
 ghost use Rattle.dc_store.specs.Maps.{tree_in, node_shown, IsNodeAt, CanKeep, IsSound};
-ghost use Rattle.dc_store.specs.Moved.{CanMove, Moves};
+ghost use Rattle.dc_store.specs.Moved.{CanStandAt, tree_moved};
 ghost use Rattle.dc_plain.specs.Spots.{spot_at, spot_shown};
 ghost use Rattle.dc_names.specs.declared.limits.TheConstants.{NUMBER_LIMIT};
 
@@ -97,17 +97,20 @@ impl MapStore {
     }
 
     /// Moves an entry. To put it in is the one step that can fail, and comes first.
-    fn relocate(&mut self, alloc: Global, old: Spot<'_>, new: Spot<'_>) -> Result<(), NoMemory>
-        requires { CanMove self.old (spot_shown old) (spot_shown new) }
-        ensures ok { OnOk result
-            (Moves self.old (spot_shown old.entry) (spot_shown new.entry) self.new) }
+    fn relocate(
+        &mut self,
+        alloc: Global,
+        old: Spot<'_>,
+        new: Spot<'_>,
+        number: u64,
+    ) -> Result<(), NoMemory>
+        requires leads { entry_number self.old (spot_shown old) ≡ Some number }
+        requires stands { CanStandAt self.old (spot_shown new) number }
+        ensures ok { OnOk result (self.new
+            ≡ tree_moved self.old (spot_shown old.entry) (spot_shown new.entry) number) }
         ensures err { OnErr result (self.new ≡ self.old) }
     {
         trees_keep_their_laws();
-        // An entry that isn't there could not move; the caller knows that this one is.
-        let Some(number) = self.entries.get(old.dir, old.name) else {
-            unreachable!();
-        };
         let replaced = self.entries.insert(alloc, new.dir, new.name, number)?;
         // A file under both names for a moment is never seen: nothing can fail from here on.
         self.entries.remove(old.dir, old.name);
@@ -185,19 +188,18 @@ impl Store for MapStore {
         drop_unnamed(&mut self.nodes, &self.entries, lost);
     }
 
-    fn move_entry(&mut self, alloc: Global, old: Spot<'_>, new: Spot<'_>) -> Result<(), NoMemory> {
-        self.relocate(alloc, old, new)
+    fn move_entry(
+        &mut self,
+        alloc: Global,
+        old: Spot<'_>,
+        new: Spot<'_>,
+        number: u64,
+    ) -> Result<(), NoMemory> {
+        self.relocate(alloc, old, new, number)
     }
 
-    fn swap_entries(&mut self, a: Spot<'_>, b: Spot<'_>) {
+    fn swap_entries(&mut self, a: Spot<'_>, first: u64, b: Spot<'_>, second: u64) {
         trees_keep_their_laws();
-        // Entries that aren't there could not swap; the caller knows that these are.
-        let Some(first) = self.entries.get(a.dir, a.name) else {
-            unreachable!();
-        };
-        let Some(second) = self.entries.get(b.dir, b.name) else {
-            unreachable!();
-        };
         self.entries.redirect(a.dir, a.name, second);
         self.entries.redirect(b.dir, b.name, first);
         // A directory whose dot-dot still led to its old parent would not be found from there.

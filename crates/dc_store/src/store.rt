@@ -1,16 +1,17 @@
 //! What a store of inodes and entries does, as calls on a plain tree.
 
-ghost use Rattle.std.specs.Prelude.{◌≡◌, ℕ, None, length, option_map, IsTrue, IfSome, IfOk, OnOk, OnErr};
+ghost use Rattle.std.specs.Prelude.{◌≡◌, ℕ, None, Some, length, option_map, IsTrue, IfSome, IfOk, OnOk, OnErr};
 ghost use Rattle.dc_names.specs.Paths.{fault_of};
 ghost use Rattle.dc_plain.specs.BytesShown.{names_shown};
+ghost use Rattle.dc_plain.specs.Conditions.{CanSwap};
+ghost use Rattle.dc_plain.specs.Effects.{tree_swapped};
 ghost use Rattle.dc_plain.specs.Facts.Label.{Parent};
 ghost use Rattle.dc_plain.specs.IsWellFormed.{IsWellFormed};
 ghost use Rattle.dc_plain.specs.Trees.{Tree, entry_number, inode_of, entry_of, text_of, kind_of, names_in, is_live_directory};
 ghost use Rattle.dc_store.specs.Added.{CanAdd, tree_added, number_added};
 ghost use Rattle.dc_store.specs.Counts.{count_of};
 ghost use Rattle.dc_store.specs.Dropped.{CanDrop, Drops};
-ghost use Rattle.dc_store.specs.Moved.{CanMove, Moves};
-ghost use Rattle.dc_store.specs.Swapped.{CanSwap, Swaps};
+ghost use Rattle.dc_store.specs.Moved.{CanStandAt, tree_moved};
 ghost use Rattle.dc_plain.specs.Spots.{spot_at, spot_shown};
 
 use dc_names::{Kind, Name, NoMemory, PathText};
@@ -104,19 +105,27 @@ pub trait Store {
         requires { CanDrop (tree self.old) (spot_at dir name.bytes.now) }
         ensures { Drops (tree self.old) (spot_at dir name.entry.bytes.now) (tree self.new) };
 
-    /// Moves an entry that is there to another name, in a live directory that isn't beneath what moves:
-    /// over nothing, or over another inode that is no directory in which entries stand, whose name goes
-    /// and which goes itself where that was its last.
+    /// Moves an entry that is there, and leads to this number, to another name, in a live directory that
+    /// isn't beneath what moves: over nothing, or over another inode that is no directory in which entries
+    /// stand, whose name goes and which goes itself where that was its last.
     /// `NoMemory` where memory was refused: then nothing has changed.
-    fn move_entry(&mut self, alloc: Global, old: Spot<'_>, new: Spot<'_>) -> Result<(), NoMemory>
-        requires { CanMove (tree self.old) (spot_shown old) (spot_shown new) }
-        ensures ok { OnOk result
-            (Moves (tree self.old) (spot_shown old.entry) (spot_shown new.entry) (tree self.new)) }
+    fn move_entry(
+        &mut self,
+        alloc: Global,
+        old: Spot<'_>,
+        new: Spot<'_>,
+        number: u64,
+    ) -> Result<(), NoMemory>
+        requires leads { entry_number (tree self.old) (spot_shown old) ≡ Some number }
+        requires stands { CanStandAt (tree self.old) (spot_shown new) number }
+        ensures ok { OnOk result (tree self.new
+            ≡ tree_moved (tree self.old) (spot_shown old.entry) (spot_shown new.entry) number) }
         ensures err { OnErr result (tree self.new ≡ tree self.old) };
 
-    /// Lets two entries that are there, and lead to two inodes, swap what they lead to: inodes of any
-    /// kinds, of which neither is a directory above the other's name. It takes no memory.
-    fn swap_entries(&mut self, a: Spot<'_>, b: Spot<'_>)
-        requires { CanSwap (tree self.old) (spot_shown a) (spot_shown b) }
-        ensures { Swaps (tree self.old) (spot_shown a.entry) (spot_shown b.entry) (tree self.new) };
+    /// Lets two entries that are there, and lead to these two inodes, swap what they lead to: inodes of
+    /// any kinds, of which neither is a directory above the other's name. It takes no memory.
+    fn swap_entries(&mut self, a: Spot<'_>, first: u64, b: Spot<'_>, second: u64)
+        requires { CanSwap (tree self.old) (spot_shown a) first (spot_shown b) second }
+        ensures { tree self.new
+            ≡ tree_swapped (tree self.old) (spot_shown a.entry) first (spot_shown b.entry) second };
 }

@@ -110,7 +110,7 @@ fn move_to<S: Store>(
     {
         return Ok(false);
     }
-    store.move_entry(alloc, old, new)?;
+    store.move_entry(alloc, old, new, number)?;
     Ok(true)
 }
 

@@ -1,16 +1,14 @@
-use Rattle.dc_store.proofs.Dropped.{if_some_at}
 use Rattle.dc_store.proofs.Moves.{after_move}
 use Rattle.dc_store.proofs.Stores.{shows_now, sound_as}
 use Rattle.dc_store.proofs.map_store.MapStore.relocate.Goals as goal
 
 pub invariant_of-self-2 : goal.invariant_of-self-2
 invariant_of-self-2 c =
-    let (leads, now) = after_move c.trees_keep_their_laws.ensures _ _ _ _ _ (shows_now c.self.invariant c.self.view_is) c.args.new.name.valid c.requires c.in-Some.ensures c.in_ok-replaced.ensures.ok c.in_ok-replaced.ensures.before
-    c.remove.ensures.rest c.drop_unnamed.ensures.rest c.drop_unnamed.ensures.kept c.set_parent.ensures.shown c.set_parent.ensures.set in
-    sound_as now
+    sound_as (after_move c.trees_keep_their_laws.ensures _ _ _ _ _ (shows_now c.self.invariant c.self.view_is) c.args.new.name.valid c.requires.leads c.requires.stands c.in_ok-replaced.ensures.ok c.in_ok-replaced.ensures.before
+    c.remove.ensures.rest c.drop_unnamed.ensures.rest c.drop_unnamed.ensures.kept c.set_parent.ensures.shown c.set_parent.ensures.set)
 
 pub returns-clause-ok : goal.returns-clause-ok
 returns-clause-ok c =
-    let (leads, now) = after_move c.trees_keep_their_laws.ensures _ _ _ _ _ (shows_now c.self.invariant c.self.view_is) c.args.new.name.valid c.requires c.in-Some.ensures c.in_ok-replaced.ensures.ok c.in_ok-replaced.ensures.before
+    let now = after_move c.trees_keep_their_laws.ensures _ _ _ _ _ (shows_now c.self.invariant c.self.view_is) c.args.new.name.valid c.requires.leads c.requires.stands c.in_ok-replaced.ensures.ok c.in_ok-replaced.ensures.before
     c.remove.ensures.rest c.drop_unnamed.ensures.rest c.drop_unnamed.ensures.kept c.set_parent.ensures.shown c.set_parent.ensures.set in
-    if_some_at _ leads now.shows
+    now.shows
