@@ -10,21 +10,11 @@ pub invariant_of-self-lent : goal.invariant_of-self-lent
 invariant_of-self-lent c w = written-IsKept c.self.inside.slab c.self.inside.keys.entries c.self.invariant c.args.number c.in_ok-key.field-0.now (sym c.in_ok-key.ensures.value) w
 
 pub returns-in_err-key : goal.returns-in_err-key
-returns-in_err-key c = rw c.from_residual.ensures (
-  (λ i. inr (c.self.view_is i)),
-  record {
-    writes_back = tt;
-    value = ap (option_and_then (slot c.self.inside.slab)) c.in_err-key.ensures.value ∙ sym (at_number c.self.inside.slab c.self.inside.keys.entries c.args.number) ∙ ap (λ inodes. inode_at inodes c.args.number) c.self.view_is;
-    in_order = seen_in_order c.self.inside.slab c.self.inside.keys.entries c.self.view_is;
-  },
-)
+returns-in_err-key c =
+    let value = ap (option_and_then (slot c.self.inside.slab)) c.in_err-key.ensures.value ∙ sym (at_number c.self.inside.slab c.self.inside.keys.entries c.args.number) ∙ ap (λ inodes. inode_at inodes c.args.number) c.self.view_is in
+    rw c.from_residual.ensures ((λ i. inr (c.self.view_is i)), record { writes_back = tt; value = value; in_order = seen_in_order c.self.inside.slab c.self.inside.keys.entries c.self.view_is })
 
 pub returns : goal.returns
-returns c = (
-  (λ i. inl (c.index_mut.result.ghost_name, λ w. seen_written c.self.inside.slab c.self.inside.keys.entries c.self.view_is c.self.invariant c.args.number c.in_ok-key.field-0.now (sym c.in_ok-key.ensures.value) w i)),
-  record {
-    writes_back = tt;
-    value = sym (seen_in_slot c.self.inside.slab c.self.inside.keys.entries c.self.view_is c.self.invariant c.args.number c.in_ok-key.field-0.now (sym c.in_ok-key.ensures.value) ∙ c.index_mut.ensures.value);
-    in_order = seen_in_order c.self.inside.slab c.self.inside.keys.entries c.self.view_is;
-  },
-)
+returns c =
+    let value = sym (seen_in_slot c.self.inside.slab c.self.inside.keys.entries c.self.view_is c.self.invariant c.args.number c.in_ok-key.field-0.now (sym c.in_ok-key.ensures.value) ∙ c.index_mut.ensures.value) in
+    ((λ i. inl (c.index_mut.result.ghost_name, λ w. seen_written c.self.inside.slab c.self.inside.keys.entries c.self.view_is c.self.invariant c.args.number c.in_ok-key.field-0.now (sym c.in_ok-key.ensures.value) w i)), record { writes_back = tt; value = value; in_order = seen_in_order c.self.inside.slab c.self.inside.keys.entries c.self.view_is })
