@@ -38,6 +38,9 @@ module _ {X : Type 0} where
     | false ↦ λ s t. lookup_entry_there row es t
   ]) refl h
 
+  pub keys-put_again : (c : LruCache ℕ X) (row : ℕ) (x : X) → IsDistinct nat_eq (keys_of c.entries) → is_in (keys_of c.entries) row ≡ true → keys_of (put_entries nat_eq c row x) ≡ row ∷ without row (keys_of c.entries)
+  keys-put_again c row x d h = let at = lookup_entry_there row c.entries h in rw at.1 (ap (λ r. row ∷ r) (keys-remove_entry row c.entries d))
+
   pub keys-promoted : (row : ℕ) (es : List (ℕ × X)) → IsDistinct nat_eq (keys_of es) → is_in (keys_of es) row ≡ true → keys_of (promoted (nat_eq row) es) ≡ row ∷ without row (keys_of es)
   keys-promoted row es d h = let at = lookup_entry_there row es h in rw at.1 (ap (λ r. row ∷ r) (keys-remove_entry row es d))
 

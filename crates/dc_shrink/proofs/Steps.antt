@@ -1,5 +1,5 @@
 -- What the parts of a shrinker are after the steps of its calls.
-use Rattle.std.proofs.Common.{◌≡◌, ℕ, ◌*◌, ◌<◌, ◌≤◌, ◌/◌, Bool, true, false, not, ◌||◌, List, [], ◌∷◌, length, Option, Some, None, is_some, map, slice_index_or, refl, ap, sym, subst, ◌∙◌, arith, nat_eq}
+use Rattle.std.proofs.Common.{◌≡◌, ℕ, ◌*◌, ◌<◌, ◌≤◌, ◌/◌, Bool, true, false, not, ◌||◌, List, [], ◌∷◌, length, Option, Some, None, IsSome, is_some, map, slice_index_or, refl, ap, sym, subst, ◌∙◌, arith, nat_eq}
 use Rattle.std.specs.List.{filter, range_with_len, IsDistinct}
 use Rattle.std.specs.Int.{div_ceil}
 use Rattle.std.proofs.lemmas.List.Elements.{filter_agree}
@@ -19,8 +19,8 @@ use Rattle.dc_names.specs.declared.limits.TheConstants.{MOST_COUNT}
 use Rattle.dc_shrink.specs.Listings.{Listing, listing, dropped, pins_of, is_in, is_used, in_bucket, without, IsListing}
 use Rattle.dc_shrink.specs.Orders.{promoted_in, IsKept, four_rows}
 use Rattle.dc_shrink.proofs.Lists.{without_absent}
-use Rattle.dc_shrink.proofs.Entries.{keys-promoted, keys-put, keys-remove_entry}
-use Rattle.dc_shrink.proofs.Listed.{listing_first, listing_dropped, listing_pinned, room, used_listed, not_listed}
+use Rattle.dc_shrink.proofs.Entries.{get_removed, keys-promoted, keys-put, keys-put_again, keys-remove_entry}
+use Rattle.dc_shrink.proofs.Listed.{gone, listing_first, listing_dropped, listing_pinned, room, used_listed, not_listed}
 use Rattle.dc_shrink.proofs.Orders.{orders_first, orders_dropped, orders_new}
 
 -- the buckets after one row went first
@@ -39,6 +39,13 @@ module _ {X : Type 0} (was now : LruCache ℕ X) {pins : map.FinMap nat_cmp ℕ}
   pub after_put : (x : X) → is_in (keys_of was.entries) row ≡ false → row < was.cap → now ≡ lru_cache (put_entries nat_eq was row x) was.cap → (now.cap ≡ was.cap) × (keys_of now.entries ≡ row ∷ keys_of was.entries)
   after_put x absent below e = let fits : length (keys_of was.entries) < was.cap = room is row absent below in
       (ap (λ d. d.cap) e, ap (λ d. keys_of d.entries) e ∙ keys-put was row x absent (omega (arith, length-keys_of was.entries)))
+
+  -- with a row that may be there or not
+  pub after_put_anew : (x : X) → row < was.cap → now ≡ lru_cache (put_entries nat_eq was row x) was.cap → (now.cap ≡ was.cap) × (keys_of now.entries ≡ row ∷ without row (keys_of was.entries))
+  after_put_anew x below e = (elim (is_in (keys_of was.entries) row) as (λ b. is_in (keys_of was.entries) row ≡ b → (now.cap ≡ was.cap) × (keys_of now.entries ≡ row ∷ without row (keys_of was.entries))) [
+    | true ↦ λ here. (ap (λ d. d.cap) e, ap (λ d. keys_of d.entries) e ∙ keys-put_again was row x is.distinct here)
+    | false ↦ λ absent. let put = after_put x absent below e in (put.0, put.1 ∙ ap (λ l. row ∷ l) (sym (without_absent row (keys_of was.entries) absent)))
+  ]) refl
 
 -- what holds stays so
 module _ {n : ℕ} {listed : List ℕ} {pins : map.FinMap nat_cmp ℕ} {buckets : List (List ℕ)} (kept : IsKept (listing n listed pins) buckets) (row : ℕ) where
@@ -63,6 +70,22 @@ module _ {n : ℕ} {listed : List ℕ} {pins : map.FinMap nat_cmp ℕ} {buckets 
       none : (o : Option ℕ) → is_some o ≡ false → o ≡ None
       none None e = refl
       none (Some v) e = cc
+
+-- a row that may have been in use or not goes first, without a pin
+module _ {n : ℕ} {listed : List ℕ} {pins : map.FinMap nat_cmp ℕ} {buckets : List (List ℕ)} (kept : IsKept (listing n listed pins) buckets) (row : ℕ) where
+  pub kept_renewed : row < n → IsKept (listing n (row ∷ without row listed) (map.remove pins row)) (promoted_in buckets row)
+  kept_renewed below = kept_added (kept_dropped kept row) row (gone row listed, rw (get_removed pins row row, eq-eqb row row refl) refl) below
+
+  -- or loses its pins alone, as it isn't listed
+  pub kept_unpinned : is_in listed row ≡ false → IsKept (listing n listed (map.remove pins row)) buckets
+  kept_unpinned absent = subst (λ l. IsKept (listing n l (map.remove pins row)) buckets) (without_absent row listed absent) (kept_dropped kept row)
+
+-- a row that is not found is not listed
+pub not_found : {X : Type 0} (row : ℕ) (es : List (ℕ × X)) → (IsSome (lookup (nat_eq row) es) → false ≡ true) → is_in (keys_of es) row ≡ false
+not_found row es never = (elim (is_in (keys_of es) row) as (λ b. is_in (keys_of es) row ≡ b → b ≡ false) [
+  | true ↦ λ here. sym (never (is_some-lookup (nat_eq row) es ∙ here))
+  | false ↦ λ absent. refl
+]) refl
 
 -- nothing is in use
 pub kept_new : (n : ℕ) → IsKept (listing n [] map.empty) (map four_rows (range_with_len 0 (div_ceil n 4)))

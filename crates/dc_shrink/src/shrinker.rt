@@ -73,6 +73,25 @@ impl Shrinker {
         Ok(())
     }
 
+    /// Lists the row that was chosen for a key as the most recently used, whatever it was: as `remove` and
+    /// `add` after each other, but the list is searched once, and takes no memory where it has the row.
+    ///
+    /// `NoMemory` where it can't be listed: then it is out of use.
+    pub fn renew(&mut self, chosen: u64) -> Result<(), NoMemory>
+        requires { chosen < self.old.rows }
+        ensures first { OnOk result (self.new ≡ added (dropped self.old chosen) chosen) }
+        ensures used { OnOk result (SetsUse chosen true self.old self.new) }
+        ensures err { OnErr result (self.new ≡ dropped self.old chosen) }
+        ensures unused { SetsUse chosen false self.old (dropped self.old chosen) }
+    {
+        self.pins.remove(&chosen);
+        let Ok(_) = self.listed.put(chosen, ()) else {
+            return Err(NoMemory);
+        };
+        promote(&mut self.buckets, chosen);
+        Ok(())
+    }
+
     /// Makes a listed row the most recently used.
     ///
     /// No walk calls it: a walk without the lock can't, and one with the lock has pinned the row. So the row
