@@ -1,19 +1,20 @@
 -- A row that was given a key is filled, or emptied again: no other row is another.
-use Rattle.std.proofs.Common.{◌≡◌, ◌≢◌, ℕ, Bool, true, false, List, slice_set, ap, ◌∙◌, get_or-set_other}
-use Rattle.dc_plain.specs.Facts.{Key}
-use Rattle.dc_plain.specs.Trees.{Tree}
+use Rattle.std.proofs.Common.{◌≡◌, ◌≢◌, ℕ, Bool, true, false, List, slice_set, ap, sym, ◌∙◌, get_or-set_other}
 use Rattle.dc_index.specs.Slots.{Slot, slot_of}
 use Rattle.dc_index.specs.Slots.Slot.{Free, Retired}
 use Rattle.dc_shrink.specs.Listings.{Listing, added, dropped, is_used, pins_of, without}
 use Rattle.dc_shrink.specs.Uses.{SetsUse}
 use Rattle.dc_table.specs.RowStates.{RowState}
-use Rattle.dc_rows.specs.Filling.{Redone, Emptied, Given}
+use Rattle.dc_rows.specs.Filling.{Redone, Emptied}
 use Rattle.dc_rows.specs.RowChanges.{OnlyRow}
 use Rattle.dc_rows.proofs.Lists.{without_twice, without_first, pins_unused, pins_dropped}
 
-module _ (t : Tree) (rows : ℕ) (words : List ℕ) (slots : List Slot) (used : Listing) (row : ℕ) (key : Key) (g : Given t rows words slots used row key) where
-  pub no_pins : pins_of used row ≡ 0
-  no_pins = pins_unused used row g.unused.here
+-- a row that is in use now, and was out of use between
+pub used_since : {was between now : Listing} {row : ℕ} → SetsUse row false was between → SetsUse row true was now → SetsUse row true between now
+used_since left taken = record { here = taken.here; others = λ r ne. taken.others r ne ∙ sym (left.others r ne) }
+
+pub no_pins : (was used : Listing) (row : ℕ) → SetsUse row false was used → pins_of used row ≡ 0
+no_pins was used row unused = pins_unused used row unused.here
 
 module _ (s t : RowState) (row : ℕ) where
   other_slot : (slot : Slot) → t.slots ≡ slice_set s.slots row slot → (r : ℕ) → r ≢ row → slot_of t.slots r ≡ slot_of s.slots r

@@ -118,25 +118,25 @@ pub victim_keyed : (slots : List Slot) (used : Listing) (row : ℕ) → Agree sl
 victim_keyed slots used row agree h = agree row ∙ or_left (is_in used.listed row) _ (any_passes_from_place (nat_eq row) used.listed (length used.listed - 1) row h (eq-eqb row row refl))
 
 -- a row that was given a key is written
-module _ (t : Tree) (rows : ℕ) (words : List ℕ) (slots : List Slot) (used : Listing) (row : ℕ) (key : Key) (g : Given t rows words slots used row key) where
+module _ (t : Tree) (rows : ℕ) (words : List ℕ) (slots : List Slot) (before used : Listing) (row : ℕ) (key : Key) (g : Given t rows words slots before row key) (unused : SetsUse row false before used) (same_rows : used.rows ≡ before.rows) where
   over : (slot : Slot) (later : List Slot) → later ≡ slice_set slots row slot → later ≡ slice_set g.before_slots row slot
   over slot later e = e ∙ (ap (λ z. slice_set z row slot) g.given ∙ set-set g.before_slots row (Held key) slot)
 
   pub told_now : (u own : List ℕ) (after : Listing) → IsOf t own key → Redone words u row own true → SetsUse row true used after → after.rows ≡ used.rows → Rest t rows u slots after
   told_now u own after of r sets same = let n = r.counted in let few = r.further refl in
-      placed t rows words g.before_slots g.before_used g.rest row g.inside g.open_still u own true (Held key) after slots r
+      placed t rows words g.before_slots before g.rest row g.inside g.open_still u own true (Held key) after slots r
       record { fact = of.fact; about = of.about; now = of.now; spelled = spells_too u own row (Some of.fact) of.spelled r.own } (λ gone. absurd (true≢false (sym gone)), λ full. absurd (omega arith))
-      (then_use row false true g.before_used used after g.unused sets) (same ∙ g.same_rows) g.given
+      (then_use row false true before used after unused sets) (same ∙ same_rows) g.given
 
   pub told_last : Spells EMPTY_ROW None → (u own : List ℕ) (between after : Listing) (ss : List Slot) → Redone words u row own false → SetsUse row true used between → SetsUse row false between after → after.rows ≡ used.rows
       → ss ≡ slice_set slots row Retired → Rest t rows u ss after
   told_last empty u own between after ss r taken left same is = let n = r.counted in let past = r.last refl in
-      placed t rows words g.before_slots g.before_used g.rest row g.inside g.open_still u own false Retired after ss r (spells_too u EMPTY_ROW row None empty r.own) (λ gone. omega arith, λ full. refl)
-      (then_use row true false g.before_used between after (then_use row false true g.before_used used between g.unused taken) left) (same ∙ g.same_rows) (over Retired ss is)
+      placed t rows words g.before_slots before g.rest row g.inside g.open_still u own false Retired after ss r (spells_too u EMPTY_ROW row None empty r.own) (λ gone. omega arith, λ full. refl)
+      (then_use row true false before between after (then_use row false true before used between unused taken) left) (same ∙ same_rows) (over Retired ss is)
 
   pub told_nothing : Spells EMPTY_ROW None → (u : List ℕ) (ss : List Slot) (after : Listing) → Emptied words u slots ss row → after ≡ used → Rest t rows u ss after
-  told_nothing empty u ss after e same = placed_empty t rows words g.before_slots g.before_used g.rest row g.inside g.open_still empty u ss after
-      record { slot = e.slot; more = e.more; is = over e.slot ss e.is; keyless = e.keyless; redone = e.redone; ended = e.ended } (subst (λ z. SetsUse row false g.before_used z) (sym same) g.unused) (ap (λ (z : Listing). z.rows) same ∙ g.same_rows)
+  told_nothing empty u ss after e same = placed_empty t rows words g.before_slots before g.rest row g.inside g.open_still empty u ss after
+      record { slot = e.slot; more = e.more; is = over e.slot ss e.is; keyless = e.keyless; redone = e.redone; ended = e.ended } (subst (λ z. SetsUse row false before z) (sym same) unused) (ap (λ (z : Listing). z.rows) same ∙ same_rows)
 
 some_there : (o : Option ℕ) → 0 < unwrap_or o 0 → is_some o ≡ true
 some_there None l = absurd (omega arith)

@@ -5,9 +5,9 @@ use Rattle.dc_plain.specs.Trees.{Tree}
 use Rattle.dc_row.specs.declared.TheConstants.{ROW_WORDS, EMPTY_ROW}
 use Rattle.dc_index.specs.Slots.{Slot, slot_of}
 use Rattle.dc_index.specs.Slots.Slot.{Free, Retired, Holds as Held}
-use Rattle.dc_shrink.specs.Listings.{Listing}
-use Rattle.dc_shrink.specs.Uses.{SetsUse}
+use Rattle.dc_shrink.specs.Listings.{Listing, dropped}
 use Rattle.dc_events.specs.Rows.{most, count, row_words}
+use Rattle.dc_table.specs.RowStates.{RowState}
 use Rattle.dc_table.specs.Rows.{Rest, cell, is_retired}
 use Rattle.dc_table.specs.Changes.{tree_now, words_of}
 use Rattle.dc_table.specs.Passes.{Pass, share}
@@ -31,16 +31,17 @@ pub record Emptied (before after : List ℕ) (slots later : List Slot) (row : �
   pub redone : Redone before after row EMPTY_ROW more
   pub ended : (is_retired slot ≡ true) ↔ (most ≤ count after row)
 
--- the row was given a key, and is no more in use for the one that it had; its words are still the old ones
+-- the row was given a key; its words, and whether it is in use, are still those of before
 pub record Given (t : Tree) (rows : ℕ) (words : List ℕ) (slots : List Slot) (used : Listing) (row : ℕ) (key : Key) : Type 0 where
   pub before_slots : List Slot
-  pub before_used : Listing
-  pub rest : Rest t rows words before_slots before_used
+  pub rest : Rest t rows words before_slots used
   pub given : slots ≡ slice_set before_slots row (Held key)
-  pub unused : SetsUse row false before_used used
-  pub same_rows : used.rows ≡ before_used.rows
   pub inside : row < length before_slots
   pub open_still : slot_of before_slots row ≢ Retired
 
 abbrev pub GivenAt : Pass → Guarded → ℕ → Key → Type 0
 GivenAt p x row key = Given (tree_now p) (share p).rows (words_of p) x.index x.shrinker row key
+
+-- the same rows with one of them out of use
+abbrev pub without_use : RowState → ℕ → RowState
+without_use s row = record { words = s.words; slots = s.slots; used = dropped s.used row }

@@ -1,17 +1,18 @@
 //! Rows are filled for keys under the lock.
 
-ghost use Rattle.std.specs.Prelude.{◌≡◌, None, IfOk, IfSome};
+ghost use Rattle.std.specs.Prelude.{◌≡◌, false, None, IfOk, IfSome};
 ghost use Rattle.dc_index.specs.Slots.{slot_of, IsRowOf};
 ghost use Rattle.dc_index.specs.Slots.Slot.{Holds as Held};
 ghost use Rattle.dc_plain.specs.KeysShown.{key_shown};
 ghost use Rattle.dc_row.specs.declared.TheConstants.{EMPTY_ROW};
 ghost use Rattle.dc_rows.specs.Changes.{KeepsTree, OnlyWrites, RestAt};
-ghost use Rattle.dc_rows.specs.Filling.{GivenAt};
+ghost use Rattle.dc_rows.specs.Filling.{GivenAt, without_use};
 ghost use Rattle.dc_rows.specs.Guards.{kept_by, rows_of, Keeps};
 ghost use Rattle.dc_rows.specs.Narrow.{HasFrom};
 ghost use Rattle.dc_rows.specs.Outcomes.{Fills};
 ghost use Rattle.dc_rows.specs.RowChanges.{Gets, IsFilled, LeadsTo, OnlyRow};
-ghost use Rattle.dc_shrink.specs.Listings.{pins_of};
+ghost use Rattle.dc_shrink.specs.Listings.{dropped, pins_of};
+ghost use Rattle.dc_shrink.specs.Uses.{SetsUse};
 ghost use Rattle.dc_table.specs.Changes.{tree_now, words_of};
 ghost use Rattle.dc_table.specs.Holders.{pass_of, rows_held};
 ghost use Rattle.dc_table.specs.Rows.{IsOf};
@@ -26,8 +27,8 @@ use dc_row::{ROW_WORDS, empty_row_spells_nothing, rows_end_in_zeros, told_words}
 use dc_table::{Guarded, Holder};
 use std::alloc::Global;
 
-/// Fills a row that was given a key, and takes it into use. Without memory for that it is emptied, and
-/// so it is where its count ends. From a place on the row and its words are zero.
+/// Fills a row that was given a key, and takes it into use for that one alone. Without memory for that it
+/// is emptied, and so it is where its count ends. From a place on the row and its words are zero.
 fn fill_given(
     holder: &mut Holder<'_>,
     kept: &mut Guarded,
@@ -46,11 +47,13 @@ fn fill_given(
     ensures rest { RestAt (pass_of holder.new) kept.new }
     ensures filled { IfOk result (λ found. IfSome found
         (IsFilled kept.new.index row (key_shown key.now))) }
-    ensures rows { OnlyRow row (rows_held holder.old kept.old) (rows_held holder.new kept.new) }
+    ensures unused { SetsUse row false kept.old.shrinker (dropped kept.old.shrinker row) }
+    ensures rows { OnlyRow row (without_use (rows_held holder.old kept.old) row)
+        (rows_held holder.new kept.new) }
     ensures unpinned { pins_of kept.new.shrinker row ≡ 0 }
 {
     empty_row_spells_nothing();
-    let Ok(()) = kept.shrinker.add(row) else {
+    let Ok(()) = kept.shrinker.renew(row) else {
         empty(holder, kept, row, end);
         return Err(NoMemory);
     };
@@ -95,7 +98,6 @@ fn fill_new(
     if evicts {
         holder.count_eviction();
     }
-    kept.shrinker.remove(row);
     fill_given(holder, kept, row, key, words, end)
 }
 
