@@ -81,6 +81,23 @@ fn unpin_again(rows: &mut Shrinker, row: u64) -> Result<(), NoMemory>
 }
 
 #[test]
+fn a_chosen_row_is_listed_anew(rt: HostRuntime) -> Result<(), Fail> {
+    let mut rows = new_again(rt.alloc(), 4)?;
+    add_again(&mut rows, 0)?;
+    add_again(&mut rows, 1)?;
+    // A row that is listed takes no memory.
+    rows.renew(0)?;
+    assert_eq!(rt; rows.victim(), Some(1));
+    pin_again(&mut rows, 1)?;
+    if rows.renew(1).is_err() {
+        rows.renew(1)?;
+    }
+    assert_eq!(rt; rows.pins(1), 0);
+    assert_eq!(rt; rows.victim(), Some(0));
+    Ok(())
+}
+
+#[test]
 fn least_recently_used_goes_first(rt: HostRuntime) -> Result<(), Fail> {
     let mut rows = new_again(rt.alloc(), 4)?;
     assert_eq!(rt; rows.victim(), None);
