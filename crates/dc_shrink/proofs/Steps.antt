@@ -16,7 +16,7 @@ use Rattle.std.proofs.lemmas.List.{with_items_is, length-set}
 use Rattle.std.proofs.lemmas.Map.Entries.{length-keys_of}
 use Rattle.lru.specs.LruCache.{LruCache, lru_cache, promoted, put_entries}
 use Rattle.dc_names.specs.declared.limits.TheConstants.{MOST_COUNT}
-use Rattle.dc_shrink.specs.Listings.{Listing, listing, dropped, pins_of, is_in, is_used, in_bucket, without, IsListing}
+use Rattle.dc_shrink.specs.Listings.{Listing, listing, added, dropped, pins_of, is_in, is_used, in_bucket, without, IsListing}
 use Rattle.dc_shrink.specs.Orders.{promoted_in, IsKept, four_rows}
 use Rattle.dc_shrink.proofs.Lists.{without_absent}
 use Rattle.dc_shrink.proofs.Entries.{get_removed, keys-promoted, keys-put, keys-put_again, keys-remove_entry}
@@ -71,21 +71,24 @@ module _ {n : ℕ} {listed : List ℕ} {pins : map.FinMap nat_cmp ℕ} {buckets 
       none None e = refl
       none (Some v) e = cc
 
--- a row that may have been in use or not goes first, without a pin
-module _ {n : ℕ} {listed : List ℕ} {pins : map.FinMap nat_cmp ℕ} {buckets : List (List ℕ)} (kept : IsKept (listing n listed pins) buckets) (row : ℕ) where
-  pub kept_renewed : row < n → IsKept (listing n (row ∷ without row listed) (map.remove pins row)) (promoted_in buckets row)
-  kept_renewed below = kept_added (kept_dropped kept row) row (gone row listed, rw (get_removed pins row row, eq-eqb row row refl) refl) below
-
-  -- or loses its pins alone, as it isn't listed
-  pub kept_unpinned : is_in listed row ≡ false → IsKept (listing n listed (map.remove pins row)) buckets
-  kept_unpinned absent = subst (λ l. IsKept (listing n l (map.remove pins row)) buckets) (without_absent row listed absent) (kept_dropped kept row)
-
 -- a row that is not found is not listed
 pub not_found : {X : Type 0} (row : ℕ) (es : List (ℕ × X)) → (IsSome (lookup (nat_eq row) es) → false ≡ true) → is_in (keys_of es) row ≡ false
 not_found row es never = (elim (is_in (keys_of es) row) as (λ b. is_in (keys_of es) row ≡ b → b ≡ false) [
   | true ↦ λ here. sym (never (is_some-lookup (nat_eq row) es ∙ here))
   | false ↦ λ absent. refl
 ]) refl
+
+-- a row that may have been in use or not: it goes first without a pin, or out of use
+module _ {X : Type 0} (was now : LruCache ℕ X) {pins later : map.FinMap nat_cmp ℕ} {buckets : List (List ℕ)} (kept : IsKept (listing was.cap (keys_of was.entries) pins) buckets) (row : ℕ) (left : later ≡ map.remove pins row) where
+  pub renewed : (x : X) → row < was.cap → now ≡ lru_cache (put_entries nat_eq was row x) was.cap → {bs : List (List ℕ)} → bs ≡ promoted_in buckets row
+      → IsKept (listing now.cap (keys_of now.entries) later) bs × (listing now.cap (keys_of now.entries) later ≡ added (dropped (listing was.cap (keys_of was.entries) pins) row) row)
+  renewed x below put moved = let e = after_put_anew was now kept.0 row x below put in
+      rw (e.0, e.1, left, moved) (kept_added (kept_dropped kept row) row (gone row (keys_of was.entries), rw (get_removed pins row row, eq-eqb row row refl) refl) below, refl)
+
+  pub unlisted : now ≡ was → (IsSome (lookup (nat_eq row) was.entries) → false ≡ true)
+      → IsKept (listing now.cap (keys_of now.entries) later) buckets × (listing now.cap (keys_of now.entries) later ≡ dropped (listing was.cap (keys_of was.entries) pins) row)
+  unlisted same never = let absent = without_absent row (keys_of was.entries) (not_found row was.entries never) in
+      rw (same, left) (subst (λ l. IsKept (listing was.cap l (map.remove pins row)) buckets) absent (kept_dropped kept row), ap (λ l. listing was.cap l (map.remove pins row)) (sym absent))
 
 -- nothing is in use
 pub kept_new : (n : ℕ) → IsKept (listing n [] map.empty) (map four_rows (range_with_len 0 (div_ceil n 4)))

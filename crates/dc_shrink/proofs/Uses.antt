@@ -52,6 +52,12 @@ module _ (s : Listing) (row : ℕ) where
     others = λ r ne. rw (others_in r ne, get_removed s.pins row r, apart r ne) refl;
   })
 
+  pub used_renewed : {t : Listing} → t ≡ added (dropped s row) row → SetsUse row true s t
+  used_renewed e = subst (SetsUse row true s) (sym e) (record {
+    here = rw (eq-eqb row row refl) refl;
+    others = λ r ne. rw (ne_eqb r row ne, others_in r ne, get_removed s.pins row r, apart r ne) refl;
+  })
+
   pub used_pinned : (pins : ℕ) {t : Listing} → is_used s row ≡ true → t ≡ with_pins s row pins → KeepsUse s t
   used_pinned pins {t} h e = kept row s t h (subst (SetsUse row true s) (sym e) (record {
     here = rw (get_inserted s.pins row pins row, eq-eqb row row refl) (or_true (is_in (without row s.listed) row));
