@@ -4,6 +4,9 @@ use Rattle.dc_plain.specs.TouchedKeys.{keys_gone, with_number}
 use Rattle.dc_ops.proofs.Renamed.{may_stand, renamed_keys}
 use Rattle.dc_ops.proofs.renames.plan_move.Goals as goal
 
+pub returns-then-is_one : goal.returns-then-is_one
+returns-then-is_one g c = first_of (search rules, grind (arith, common_steps))
+
 pub returns : goal.returns
 returns g c = let t = g.S.Store.tree c.args.store.now in record {
   does = first_of (search rules, grind (arith, common_steps));
