@@ -1,14 +1,16 @@
 -- What a walk promises once it has made its checks, or given up before them.
-use Rattle.std.proofs.Common.{◌≡◌, ℕ, ◌++◌, ◌∷◌, [], List, Bool, false, Option, length, ap, ◌∙◌, arith}
+use Rattle.std.proofs.Common.{◌≡◌, ℕ, ◌++◌, ◌∷◌, [], List, Bool, true, false, Option, length, ap, ◌∙◌, arith}
 use Rattle.dc_plain.specs.Facts.{Teller}
 use Rattle.dc_plain.specs.Resolution.{Outcome}
-use Rattle.dc_plain.specs.Requests.{Answer, answer_of as reply_shown}
+use Rattle.dc_plain.specs.Requests.{Request, Answer, answer_of as reply_shown}
 use Rattle.dc_events.specs.Views.{View, Book, Record}
 use Rattle.dc_table.specs.Changes.{NothingNew}
 use Rattle.dc_walk.specs.Becomings.{nothing_again}
 use Rattle.dc_walk.specs.Causes.{HasCause}
+use Rattle.dc_walk.specs.Fasts.{Tried}
 use Rattle.dc_walk.specs.Looks.{look_shown, outcome_of}
 use Rattle.dc_walk.specs.Settling.{IsChanged, noted_in}
+use Rattle.dc_walk.specs.Sources.{Rests}
 use Rattle.dc_walk.specs.Uses.{Use}
 use Rattle.dc_walk.specs.Walks.{Settles, Stopped, Walks, Went}
 use Rattle.dc_walk.specs.declared.look.Look.{Look}
@@ -78,3 +80,18 @@ module _ (locks : Bool) (look : Look) (buckets : ℕ) (v w : View) where
     tried = stopped.nothing;
     free = λ unlocked. let gave = stopped.gave_up unlocked in record { keeps = gave; asks = stopped.asks; loads = gave.loads };
   }
+
+-- what was tried stays so while another has the lock and gives it back
+pub tried_still : (call : Request) (u : View) {v w : View} (fast : rust_fast.Fast) → Tried call u v fast → Rests true v w → Tried call u w fast
+tried_still call u (fasts.Done stamped) tried rests = let r = tried.recorded in let nothing = rests.nothing in let later = nothing.later in let seen = r.seen in record {
+  recorded = record {
+    altered = r.altered;
+    own = nothing.own ∙ r.own;
+    joined = nothing.joined ∙ r.joined;
+    later = r.later;
+    seen = omega arith;
+    past = λ is. let past = r.past is in omega arith;
+  };
+  first_load = ap (λ (x : View). x.first_load) rests.rest ∙ tried.first_load;
+}
+tried_still call u (fasts.Again why) tried rests = nothing_again tried rests.nothing
