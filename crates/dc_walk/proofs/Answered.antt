@@ -1,10 +1,10 @@
 -- What a walk promises once it has made its checks, or given up before them.
-use Rattle.std.proofs.Common.{◌≡◌, ℕ, ◌++◌, ◌∷◌, [], List, Bool, true, false, Option, length, ap, ◌∙◌, arith}
+use Rattle.std.proofs.Common.{◌≡◌, ℕ, ◌++◌, ◌∷◌, [], List, Bool, true, false, Option, length, ap, sym, ◌∙◌, arith}
 use Rattle.dc_plain.specs.Facts.{Teller}
 use Rattle.dc_plain.specs.Resolution.{Outcome}
 use Rattle.dc_plain.specs.Requests.{Request, Answer, answer_of as reply_shown}
 use Rattle.dc_events.specs.Views.{View, Book, Record}
-use Rattle.dc_table.specs.Changes.{NothingNew}
+use Rattle.dc_table.specs.Changes.{NothingNew, Rested}
 use Rattle.dc_walk.specs.Becomings.{nothing_again}
 use Rattle.dc_walk.specs.Causes.{HasCause}
 use Rattle.dc_walk.specs.Fasts.{Tried}
@@ -95,3 +95,11 @@ tried_still call u (fasts.Done stamped) tried rests = let r = tried.recorded in 
   first_load = ap (λ (x : View). x.first_load) rests.rest ∙ tried.first_load;
 }
 tried_still call u (fasts.Again why) tried rests = nothing_again tried rests.nothing
+
+-- a pass that had the lock, and has it no more
+pub rests_so : {v w : View} → Rested v w → Rests true v w
+rests_so {v = v} r = let later = r.later in let seen = ap (λ (x : View). x.book.seen) r.same in record {
+  rest = r.same ∙ (λ i. record v { book = (sym r.same i).book; hold = (sym r.same i).hold });
+  nothing = record { own = ap (λ (x : View). x.book.own) r.same; joined = ap (λ (x : View). x.book.joined) r.same; later = omega arith };
+  still = λ free. absurd cc;
+}
