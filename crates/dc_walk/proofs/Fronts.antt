@@ -1,6 +1,7 @@
 -- What is found before a change has the lock, and what of it holds under the lock.
-use Rattle.std.proofs.Common.{◌≡◌, ℕ, zero, suc, ◌-◌, ◌<◌, List, [], ◌∷◌, Some, Result, Ok, Err, option_map, map, length, get_or, ap, sym, ◌∙◌, subst, arith}
+use Rattle.std.proofs.Common.{◌≡◌, ℕ, zero, suc, ◌-◌, ◌<◌, List, [], ◌∷◌, Some, Result, Ok, Err, option_map, map, length, get_or, refl, ap, sym, ◌∙◌, subst, arith}
 use Rattle.std.specs.List.{AllByRecursion}
+use Rattle.std.proofs.lemmas.List.{length-map}
 use Rattle.dc_names.specs.declared.kind.Kind.TheVariants.{Dir}
 use Rattle.dc_names.specs.declared.refusal.Refusal.{Refusal}
 use Rattle.dc_plain.specs.declared.call.Follow.TheVariants as follow
@@ -17,6 +18,7 @@ use Rattle.dc_events.specs.Rows.{IfFact, note_words}
 use Rattle.dc_events.specs.Standing.{tree_of}
 use Rattle.dc_events.specs.Walks.{no_note}
 use Rattle.dc_events.specs.Effects.{note_at}
+use Rattle.dc_table.specs.Shares.{Known as Knowing}
 use Rattle.dc_table.specs.Walking.{HasNoted, IsTrueNow}
 use Rattle.dc_ops.specs.Knowing.{IsKnownOn}
 use Rattle.dc_ops.specs.declared.known.Known.{Known}
@@ -25,11 +27,12 @@ use Rattle.dc_rows.specs.declared.guard.Guard.{Guard}
 use Rattle.dc_walk.specs.Becomings.{untried_again}
 use Rattle.dc_walk.specs.Finds.{told_in, use_shown}
 use Rattle.dc_walk.specs.Placing.{IsFoundBy}
-use Rattle.dc_walk.specs.Rooms.{Kept}
+use Rattle.dc_walk.specs.Rooms.{Kept, no_use, used_at}
 use Rattle.dc_walk.specs.Uses.{Use, IsUse, Marked, facts_of}
-use Rattle.dc_walk.proofs.Checks.{there_elem}
+use Rattle.dc_walk.proofs.Checks.{there_elem, use_there}
 use Rattle.dc_walk.proofs.Marks.{IsNext, any_there}
 use Rattle.dc_walk.proofs.Seats.{same_passes}
+use Rattle.dc_walk.proofs.Standing.{inside_at}
 use Rattle.dc_walk.proofs.Told.{answer_is}
 
 module _ (v : View) (us : List Use) (d : Use) (j : ℕ) (marked : Marked 0 0 v.walk.notes us) (less : j < length us) where
@@ -46,7 +49,7 @@ module _ (v : View) (us : List Use) (d : Use) (j : ℕ) (marked : Marked 0 0 v.w
   note_is = subst (λ (i : ℕ). IsUse use_of use_of.place (get_or v.walk.notes i no_note)) no_offset next_is.is
 
   -- each use is a note of the walk
-  pub noted_there : HasNoted v use_of.place use_of.row use_of.count
+  noted_there : HasNoted v use_of.place use_of.row use_of.count
   noted_there = let inside = next_is.inside in let is = note_is in let size = is.spells.size in record {
     there = there_elem v.walk.notes use_of.place (omega arith);
     whole = omega arith;
@@ -55,16 +58,38 @@ module _ (v : View) (us : List Use) (d : Use) (j : ℕ) (marked : Marked 0 0 v.w
   }
 
   -- and its fact is true, where the note is
-  pub true_there : SpelledIsRead → (limit : ℕ) → IsTrueNow limit v use_of.place → Holds (tree_of limit v.hold.history) use_of.fact
+  true_there : SpelledIsRead → (limit : ℕ) → IsTrueNow limit v use_of.place → Holds (tree_of limit v.hold.history) use_of.fact
   true_there read limit t =
       let words : List ℕ = note_words (note_at v use_of.place) in
       let same : Some t.fact ≡ Some (Some use_of.fact) = sym (read words t.fact t.spells) ∙ read words (Some use_of.fact) note_is.spells in
       let fact : t.fact ≡ Some use_of.fact = cc in
       subst (IfFact (tree_of limit v.hold.history)) fact t.holds
 
-pub all_true : (t : Tree) (us : List Use) (d : Use) → ((j : ℕ) → j < length us → Holds t (get_or us j d).fact) → AllByRecursion (Holds t) (facts_of us)
+all_true : (t : Tree) (us : List Use) (d : Use) → ((j : ℕ) → j < length us → Holds t (get_or us j d).fact) → AllByRecursion (Holds t) (facts_of us)
 all_true t [] d each = tt
 all_true t (u ∷ us) d each = (each 0 (omega arith), all_true t us d (λ j less. each (suc j) (omega arith)))
+
+-- the fact of the row in the room is true
+abbrev pub IsTrueAt : Tree → Kept → ℕ → Type 0
+IsTrueAt t room j = Holds t (get_or (map use_shown room.items) j (use_shown no_use)).fact
+
+-- what a pass that knows the same may check, for a row of the room
+pub may_check : {k l : Knowing} {room : Kept} {front : Known} → IsFoundBy k.view k.share.rows room front → l ≡ k → (c : ℕ) → c < length room.items → {place row count : ℕ} → place ≡ (used_at room.items c).place → row ≡ (used_at room.items c).row → count ≡ (use_shown (used_at room.items c)).count
+    → (row < l.share.rows) × HasNoted l.view place row count
+may_check {k = k} {room = room} found same c there at of counted =
+    let items = room.items in let less : c < length (map use_shown items) = omega (arith, length-map items use_shown) in
+    let noted : HasNoted k.view (used_at items c).place (used_at items c).row (use_shown (used_at items c)).count = subst (λ (u : Use). HasNoted k.view u.place u.row u.count) (use_there use_shown items items c no_use refl) (noted_there k.view (map use_shown items) (use_shown no_use) c found.noted less) in (
+      subst (λ (z : ℕ × Knowing). z.0 < z.1.share.rows) (λ i. (sym of i, sym same i)) (inside_at _ items c no_use found.inside there),
+      subst (λ (z : Knowing × (ℕ × ℕ × ℕ)). HasNoted z.0.view z.1.0 z.1.1 z.1.2) (λ i. (sym same i, (sym at i, sym of i, sym counted i))) noted,
+    )
+
+-- its fact is true of the tree, where the check finds the row as it was
+pub true_so : {k l : Knowing} {room : Kept} {front : Known} {t : Tree} → IsFoundBy k.view k.share.rows room front → SpelledIsRead → tree_of k.share.limit k.view.hold.history ≡ t → l ≡ k → (c : ℕ) → c < length room.items → {place : ℕ} → place ≡ (used_at room.items c).place → IsTrueNow l.share.limit l.view place → IsTrueAt t room c
+true_so {k = k} {room = room} found read tree same c there at now =
+    let items = room.items in let us = map use_shown items in let less : c < length us = omega (arith, length-map items use_shown) in
+    let here = use_there use_shown items items c no_use refl in
+    let stands : IsTrueNow k.share.limit k.view (get_or us c (use_shown no_use)).place = subst (λ (z : Knowing × ℕ). IsTrueNow z.0.share.limit z.0.view z.1) (λ i. (same i, (at ∙ sym (ap (λ (u : Use). u.place) here)) i)) now in
+    subst (λ (t : Tree). Holds t (get_or us c (use_shown no_use)).fact) tree (true_there k.view us (use_shown no_use) c found.noted less read k.share.limit stands)
 
 -- a look-up that was answered so led there
 led_there : (t : Tree) (dir : ℕ) (walked : Result Target Refusal) → (settled t (left_alone t (walked >>= λ place. Ok (Found place.0 place.1)))).0 ≡ Found dir Dir → walked ≡ Ok (dir, Dir)
@@ -72,11 +97,15 @@ led_there t dir (Ok place) e = let number : dir ≡ place.0 = cc in let kind : D
 led_there t dir (Err refusal) e = absurd cc
 
 -- by true facts the path leads there on the tree
-pub known_so : RepliesByFacts → (t : Tree) (known : Known) {v : View} {rows : ℕ} {room : Kept} → IsFoundBy v rows room known → AllByRecursion (Holds t) (facts_of (map use_shown room.items)) → IsKnownOn t known
+known_so : RepliesByFacts → (t : Tree) (known : Known) {v : View} {rows : ℕ} {room : Kept} → IsFoundBy v rows room known → AllByRecursion (Holds t) (facts_of (map use_shown room.items)) → IsKnownOn t known
 known_so replies t known {room = room} found all =
     let facts : List Fact = facts_of (map use_shown room.items) in
     let answer = answer_is (told_in room.items) known.base known.front.now follow.Dir found.valid ∙ ap (option_map outcome_answer) found.leads in
     led_there t known.dir (walk_on t known.base known.front.now follow.Dir) (ap (λ x. x.0) (replies 0 t facts (Look known.base known.front.now follow.Dir) (Found known.dir Dir) all answer))
+
+-- each row of the room is as it was noted
+pub known_by : RepliesByFacts → (t : Tree) (front : Known) {v : View} {rows : ℕ} {room : Kept} → IsFoundBy v rows room front → ((j : ℕ) → j < length room.items → IsTrueAt t room j) → IsKnownOn t front
+known_by replies t front {room = room} found each = known_so replies t front found (all_true t (map use_shown room.items) (use_shown no_use) (λ j less. each j (omega (arith, length-map room.items use_shown, less))))
 
 -- a guard that has done nothing, twice
 pub still_again : {f g h : Guard} → IsStill f g → IsStill g h → IsStill f h

@@ -11,6 +11,7 @@ pub mod Wides
 pub mod Standing
 pub mod Questions
 pub mod Ended
+pub mod Answered
 pub mod Checks
 pub mod Turns
 pub mod Fronts

@@ -1,5 +1,5 @@
 -- What the rows of a bucket told so far.
-use Rattle.std.proofs.Common.{◌≡◌, ℕ, ◌+◌, ◌≤◌, Option, Some, None, Result, Ok, Err, IfOk, true, if◌then◌else◌, ap, arith, below_more}
+use Rattle.std.proofs.Common.{◌≡◌, ℕ, ◌+◌, ◌≤◌, List, [], ◌∷◌, refl, sym, subst, append-nil, Option, Some, None, Result, Ok, Err, IfOk, true, if◌then◌else◌, ap, arith, below_more}
 use Rattle.std.specs.List.{Contains}
 use Rattle.std.specs.Option.{option_or}
 use Rattle.dc_plain.specs.Facts.{Key}
@@ -9,11 +9,22 @@ use Rattle.dc_walk.specs.Asking.{IsOther, GoesOn}
 use Rattle.dc_walk.specs.Causes.{Looked}
 use Rattle.dc_names.specs.declared.limits.TheConstants.{BUCKET_ROWS}
 use Rattle.dc_walk.specs.Findings.{spent, IsFinding}
+use Rattle.dc_walk.specs.Probes.{fresh_note, probed}
 use Rattle.dc_walk.specs.Sights.{AnswersIn}
 use Rattle.dc_walk.specs.declared.rows.Rows.{Rows}
 use Rattle.dc_walk.specs.declared.source.Lane.{Lane}
 use Rattle.dc_walk.proofs.Sighted.{other_on, fault_on}
 use Rattle.dc_walk.proofs.Walked.{rested}
+
+-- a row was noted and read
+pub on_read : {v w : View} (row count : ℕ) (words : List ℕ) → w ≡ probed v row count words → GoesOn v w
+on_read {v = v} row count words e = subst (GoesOn v) (sym e) (record {
+  notes = fresh_note row count words ∷ [];
+  noted = refl;
+  more = [];
+  faults = sym (append-nil v.faults);
+  same = record { call = refl; book = refl; first_load = refl };
+})
 
 pub looked_none : (v : View) (first : ℕ) (key : Key) → Looked v first key None 0
 looked_none v first key = record { odd_row = tt; others = λ j l. absurd (omega arith) }

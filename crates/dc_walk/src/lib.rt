@@ -21,8 +21,6 @@ mod row;
 mod rows;
 mod settle;
 mod source;
-#[cfg(test)]
-mod tests;
 mod unlocked;
 mod used;
 mod walk;

@@ -9,7 +9,7 @@ use dc_resolve::Bytes;
 use dc_row::{RowText, spelled_text};
 
 /// The text of a link, by value, since it is followed after other rows were used.
-#[derive(Debug, Drop)]
+#[derive(Drop)]
 pub(crate) struct LinkText {
     text: RowText,
 }

@@ -6,7 +6,7 @@ use Rattle.dc_table.specs.Passes.{view}
 use Rattle.dc_walk.specs.declared.probe.TheConstants.{BLOCK_WORDS}
 use Rattle.dc_walk.proofs.Probed.{can_go_on, goes_on}
 use Rattle.dc_walk.proofs.Seats.{fits_still, row_still, stays_again}
-use Rattle.dc_walk.proofs.Shorts.{differ_zero, first_more, past_more}
+use Rattle.dc_walk.proofs.Shorts.{ReadsSome, differ_zero, first_more, past_more}
 use Rattle.dc_walk.proofs.probe.read_short.Goals as goal
 
 pub read_word-value-requires : goal.read_word-value-requires
@@ -73,3 +73,11 @@ loop-i-2-preserved c = let i = c.loop-i-2.invariant in let e = c.read_word-past.
     );
   };
 }
+
+pub loop-block-preserved : goal.loop-block-preserved
+loop-block-preserved c = let i = c.loop-i-2.invariant in
+    let all : SHORT_WORDS + BLOCK_WORDS * c.loop-block.block + c.loop-i-2.i ≡ SHORT_WORDS + BLOCK_WORDS * (c.loop-block.block + 1) = omega (arith, c.loop-i-2-test.false, c.loop-i-2.auto.i-end) in record {
+      fits = i.fits;
+      stays = i.stays;
+      read = λ v h. subst (λ (n : ℕ). ReadsSome v (view c.loop-i-2.pass) c.args.row c.args.top c.args.text.now c.read_word-value.result n (c.loop-i-2.differ ≡ 0)) all (i.read v h);
+    }

@@ -13,9 +13,10 @@ use Rattle.dc_walk.specs.declared.TheConstants.{MOST_USED}
 use Rattle.dc_walk.proofs.Rooms.{kept_so, key_size}
 use Rattle.dc_walk.specs.Rooms.{Used}
 use Rattle.dc_walk.specs.Findings.{now_in}
-use Rattle.dc_walk.specs.Probes.{ReadsTop}
+use Rattle.dc_walk.specs.Probes.{IsEarly, ReadsTop}
 use Rattle.dc_walk.specs.declared.probe.Extent.{Extent}
 use Rattle.dc_walk.specs.declared.probe.Extent.TheVariants.{Head, Whole}
+use Rattle.dc_walk.proofs.Lookings.{on_read}
 use Rattle.dc_walk.proofs.Seats.{stays_again}
 use Rattle.dc_walk.proofs.Sighted.{on_odd, failed_odd, failed_read, other_so, answers_so, can_still}
 use Rattle.dc_walk.proofs.Standing.{shown_so, spelled_more, inside_more, held_more, stands_last}
@@ -24,6 +25,31 @@ use Rattle.dc_walk.proofs.row.look_at.Goals as goal
 
 not_whole : {e : Extent} → e ≡ Head → e ≡ Whole → ⊥
 not_whole is whole = let same : Head ≡ Whole = sym is ∙ whole in absurd cc
+
+pub read_top-requires-clause-early : goal.read_top-requires-clause-early
+read_top-requires-clause-early c = let f = c.args.rows.now in let w = c.requires.finding.walk in
+    subst (λ q. IsEarly (begins (not f.begun) (view f.pass.now) q)) (sym c.call-call.ensures) (record { busy = w.busy; fresh = w.early })
+
+pub take_in-requires-clause-reading : goal.take_in-requires-clause-reading
+take_in-requires-clause-reading c = let f = c.args.rows.now in let w = c.requires.finding.walk in record {
+  before = now_in f;
+  early = record { busy = w.busy; fresh = w.early };
+  read = subst (λ q. ReadsTop (begins (not f.begun) (view f.pass.now) q) (view c.read_top.new.pass) c.args.row c.in-Some.top) c.call-call.ensures c.in-Some.ensures.read;
+}
+
+pub returns-in-Head-clause-on : goal.returns-in-Head-clause-on
+returns-in-Head-clause-on c = let f = c.args.rows.now in let top = c.in-Some.top in
+    on_read c.args.row top.count (top.head ∷ top.number ∷ []) (subst (λ q. ReadsTop (begins (not f.begun) (view f.pass.now) q) (view c.read_top.new.pass) c.args.row top) c.call-call.ensures c.in-Some.ensures.read)
+
+pub returns-in-None-clause-on : goal.returns-in-None-clause-on
+returns-in-None-clause-on c = let f = c.args.rows.now in let top = c.in-Some.top in
+    let taken = c.in-None.ensures.takes (now_in f) (subst (λ q. ReadsTop (begins (not f.begun) (view f.pass.now) q) (view c.read_top.new.pass) c.args.row top) c.call-call.ensures c.in-Some.ensures.read) in
+    on_read c.args.row (get_or taken.0 0 0) (drop 1 taken.0) taken.1.read
+
+pub returns-in-Some-take_in-clause-on : goal.returns-in-Some-take_in-clause-on
+returns-in-Some-take_in-clause-on c = let f = c.args.rows.now in let top = c.in-Some.top in
+    let taken = c.in-Some-take_in.ensures.takes (now_in f) (subst (λ q. ReadsTop (begins (not f.begun) (view f.pass.now) q) (view c.read_top.new.pass) c.args.row top) c.call-call.ensures c.in-Some.ensures.read) in
+    on_read c.args.row (get_or taken.0 0 0) (drop 1 taken.0) taken.1.read
 
 pub returns-in_default-clause-on : goal.returns-in_default-clause-on
 returns-in_default-clause-on c = let f = c.args.rows.now in
