@@ -4,7 +4,7 @@ ghost use Rattle.std.specs.Thread.{IsSync};
 
 use dc_cache::{Ended, SlabStore};
 use dc_names::NoMemory;
-use dc_plain::Reply;
+use dc_plain::{OwnCall, Reply};
 use dc_soak::{BUCKETS, Draw, NAMES, Round, Shaken, Tally, Wrong, agree, judge};
 use std::alloc::{AllocError, Global};
 use std::sync::Wait;
@@ -33,8 +33,8 @@ fn tally<R: Threads + Wait + Sync>(rt: &R, alloc: Global) -> Result<Tally, Fail>
     let mut whole = Tally::default();
     for seed in 1..9 {
         let played = Round::of(seed, 800).play(rt, alloc)?;
-        if let Some(wrong) = played.wrong {
-            return Err(Fail::from(told(alloc, seed, &wrong)?));
+        if let Some(wrong) = &played.wrong {
+            return Err(Fail::from(told(alloc, seed, wrong)?));
         }
         whole.take_in(&played.tally);
     }
@@ -73,18 +73,21 @@ fn all_sizes_come(rt: HostRuntime) {
     }
 }
 
+/// The first two hundred calls that a thread draws.
+fn drawn(alloc: Global, thread: u64) -> Result<Vec<OwnCall>, NoMemory> {
+    let mut draw = Draw::new(alloc, 5, thread);
+    let mut calls = Vec::new(alloc);
+    for _ in 0..200 {
+        calls.push(draw.call()?)?;
+    }
+    Ok(calls)
+}
+
 #[test]
 fn calls_are_drawn_again(rt: HostRuntime) -> Result<(), Fail> {
-    let mut one = Draw::new(rt.alloc(), 5, 1);
-    let mut same = Draw::new(rt.alloc(), 5, 1);
-    let mut other = Draw::new(rt.alloc(), 5, 2);
-    let mut differ = false;
-    for _ in 0..200 {
-        let call = one.call()?;
-        assert!(rt; call == same.call()?);
-        differ = differ || call != other.call()?;
-    }
-    assert!(rt; differ);
+    let calls = drawn(rt.alloc(), 1)?;
+    assert!(rt; calls == drawn(rt.alloc(), 1)?);
+    assert!(rt; calls != drawn(rt.alloc(), 2)?);
     Ok(())
 }
 
@@ -138,7 +141,7 @@ fn wrong_after<R: Threads + Wait + Sync>(
 }
 
 /// A short word for what is wrong.
-fn word(wrong: Option<Wrong>) -> &'static str {
+fn word(wrong: &Option<Wrong>) -> &'static str {
     match wrong {
         None => "nothing",
         Some(Wrong::Record(101, Some(_))) => "record 101",
@@ -172,7 +175,8 @@ fn agrees<R: Threads + Wait + Sync>(rt: &R, alloc: Global) -> Result<bool, Fail>
 #[test]
 fn wrong_records_and_trees_are_told(rt: HostRuntime) -> Result<(), Fail> {
     for (deed, want) in DEEDS.iter() {
-        assert_eq!(rt; word(wrong_after(&rt, rt.alloc(), *deed)?), *want);
+        let wrong = wrong_after(&rt, rt.alloc(), *deed)?;
+        assert_eq!(rt; word(&wrong), *want);
     }
     assert!(rt; agrees(&rt, rt.alloc())?);
     Ok(())
