@@ -2,7 +2,7 @@
 
 ghost use Rattle.dc_cache.specs.Passes.{IsChange};
 
-use dc_cache::{Call, ChangeFault, ROOT, Reply, Stamped};
+use dc_cache::{Call, ChangeFault, Flags, Kind, ROOT, Reply, Stamped};
 
 pub fn mkdir(path: &[u8]) -> Call<'_>
     ensures { IsChange result }
@@ -32,15 +32,80 @@ pub fn unlink(path: &[u8]) -> Call<'_>
     Call::Unlink { base: ROOT, path }
 }
 
+pub fn rmdir(path: &[u8]) -> Call<'_>
+    ensures { IsChange result }
+{
+    Call::Rmdir { base: ROOT, path }
+}
+
+pub fn link<'a>(old: &'a [u8], new: &'a [u8]) -> Call<'a>
+    ensures { IsChange result }
+{
+    Call::Link {
+        base: ROOT,
+        old,
+        new,
+    }
+}
+
+pub fn rename<'a>(old: &'a [u8], new: &'a [u8]) -> Call<'a>
+    ensures { IsChange result }
+{
+    Call::Rename {
+        base: ROOT,
+        old,
+        new,
+        flags: Flags::default(),
+    }
+}
+
+/// A reply that is wanted, as a table of constants has it.
+#[derive(Clone, Copy)]
+pub enum Want<'a> {
+    Found(u64, Kind),
+    Done(u64),
+    Unit,
+    Text(&'a [u8]),
+    Names(&'a [&'a [u8]]),
+    Stat(u64, Kind, u64),
+    Refused(u64),
+}
+
+impl Want<'_> {
+    /// Whether a reply is this one.
+    fn is(&self, reply: &Reply) -> bool {
+        match (self, reply) {
+            (Want::Found(number, kind), Reply::Found(found, other)) => {
+                number == found && kind == other
+            }
+            (Want::Done(number), Reply::Done(made)) => number == made,
+            (Want::Unit, Reply::Unit) => true,
+            (Want::Text(text), Reply::Text(told)) => *text == told.as_slice(),
+            (Want::Names(names), Reply::Names(told)) => are_names(names, told),
+            (Want::Stat(number, kind, count), Reply::Stat(found, other, counted)) => {
+                number == found && kind == other && count == counted
+            }
+            (Want::Refused(number), Reply::Refused(told)) => number == told,
+            _ => false,
+        }
+    }
+}
+
+/// Whether these are the names that were told.
+fn are_names(names: &[&[u8]], told: &[Vec<u8>]) -> bool {
+    let told = told.iter().map(|name| name.as_slice());
+    told.eq(names.iter().copied())
+}
+
 /// Whether an answer is this one.
-pub fn is(stamped: &Stamped, reply: &Reply, at: u64) -> bool {
-    stamped.at == at && stamped.reply == *reply
+pub fn is(stamped: &Stamped, want: Want<'_>, at: u64) -> bool {
+    stamped.at == at && want.is(&stamped.reply)
 }
 
 /// Whether a change was answered so.
-pub fn is_made(made: &Result<Stamped, ChangeFault>, reply: &Reply, at: u64) -> bool {
+pub fn is_made(made: &Result<Stamped, ChangeFault>, want: Want<'_>, at: u64) -> bool {
     match made {
-        Ok(stamped) => is(stamped, reply, at),
+        Ok(stamped) => is(stamped, want, at),
         Err(_) => false,
     }
 }

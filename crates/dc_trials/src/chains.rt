@@ -4,9 +4,9 @@ ghost use Rattle.dc_cache.specs.Passes.{Fits};
 ghost use Rattle.std.specs.Prelude.{◌<◌};
 ghost use Rattle.std.specs.Thread.{IsSync};
 
-use crate::answers::{is_made, symlink};
-use crate::steps::{Act, Step, play};
-use dc_cache::{Dcache, Follow, Kind, Pass, Reply, Why};
+use crate::answers::{Want, is_made, symlink};
+use crate::steps::{Act, Step, first_other, play, play_anew};
+use dc_cache::{Dcache, Follow, Kind, Pass, Why};
 use dc_names::{MOST_LINKS, NAME_MAX};
 use std::alloc::Global;
 use std::sync::Wait;
@@ -53,7 +53,7 @@ fn is_linked<R: Wait>(
     let (text, path) = (text_to(way, number + 1), path_of(number));
     let made = cache.change(rt, alloc, pass, &symlink(&text, &path));
     let before = 2 + u64::from(number);
-    is_made(&made, &Reply::Done(before + 2), before)
+    is_made(&made, Want::Done(before + 2), before)
 }
 
 /// Makes each link of the chain, and says whether each was made.
@@ -68,23 +68,26 @@ fn is_chained<R: Wait>(rt: &R, alloc: Global, cache: &Dcache, pass: &mut Pass, w
     all
 }
 
+const END: Want<'static> = Want::Found(3, Kind::Dir);
+
+const ABOVE: Want<'static> = Want::Found(1, Kind::Dir);
+
+static LOOKS: [Step<'static>; 7] = [
+    Step::Stat(b"/l00", Want::Stat(3, Kind::Dir, 0), MADE),
+    Step::Again(b"/l00", Why::Miss(0)),
+    Step::Look(b"/l00", Follow::Yes, END, MADE),
+    Step::Fast(b"/l00", END, MADE),
+    Step::Counted(b"/l00", END, MADE),
+    Step::Look(b"/l00/..", Follow::Yes, ABOVE, MADE),
+    Step::Fast(b"/l00/..", ABOVE, MADE),
+];
+
 /// Looks the end of the chain up, and what is above it, by each kind of walk.
 fn look<R: Wait>(rt: &R, alloc: Global, cache: &Dcache, pass: &mut Pass) -> Option<usize>
     requires { Fits cache.now pass.old }
     ensures { Fits cache.now pass.new }
 {
-    let end = || Reply::Found(3, Kind::Dir);
-    let above = || Reply::Found(1, Kind::Dir);
-    let steps = [
-        Step::Stat(b"/l00", Reply::Stat(3, Kind::Dir, 0), MADE),
-        Step::Again(b"/l00", Why::Miss(0)),
-        Step::Look(b"/l00", Follow::Yes, end(), MADE),
-        Step::Fast(b"/l00", end(), MADE),
-        Step::Counted(b"/l00", end(), MADE),
-        Step::Look(b"/l00/..", Follow::Yes, above(), MADE),
-        Step::Fast(b"/l00/..", above(), MADE),
-    ];
-    play(rt, alloc, cache, pass, &steps)
+    first_other(rt, alloc, cache, pass, &LOOKS)
 }
 
 /// The same in a thread with the smallest stack that there is, or `None` where none can be started.
@@ -114,6 +117,11 @@ fn look_in_a_thread<R: Threads + Wait + Sync>(
     )
 }
 
+static TWO_DIRECTORIES: [Step<'static>; 2] = [
+    Step::Change(Act::Mkdir(b"/d"), Want::Done(2), 0),
+    Step::Change(Act::Mkdir(b"/l40"), Want::Done(3), 1),
+];
+
 /// As many texts are gone over one within another as links are followed, and each is a local of its call.
 /// They lead on in the directory of the links, or through one beside them.
 // `rt try` doesn't optimise, so under it the walks by rows run out of this stack of 128 KiB (256 are enough).
@@ -123,11 +131,7 @@ fn the_longest_chain_fits_on_the_smallest_stack(rt: HostRuntime) -> Result<(), F
     let alloc = rt.alloc();
     for way in [*b"././/", *b"d/../"] {
         let (cache, mut pass) = Dcache::new(alloc, 1024, 64).expect(&rt, "memory");
-        let steps = [
-            Step::Change(Act::Mkdir(b"/d"), Reply::Done(2), 0),
-            Step::Change(Act::Mkdir(b"/l40"), Reply::Done(3), 1),
-        ];
-        assert_eq!(rt; play(&rt, alloc, &cache, &mut pass, &steps), None);
+        play(&rt, alloc, &cache, &mut pass, &TWO_DIRECTORIES)?;
         assert!(rt; is_chained(&rt, alloc, &cache, &mut pass, way));
         assert_eq!(rt; look_in_a_thread(&rt, alloc, &cache, &mut pass), Some(None));
     }
@@ -137,19 +141,17 @@ fn the_longest_chain_fits_on_the_smallest_stack(rt: HostRuntime) -> Result<(), F
 /// The longest name stands in a row, and so does a link's text as long, which is that name here.
 #[test]
 fn the_longest_name_and_text_stand_in_rows(rt: HostRuntime) -> Result<(), Fail> {
-    let (cache, mut pass) = Dcache::new(rt.alloc(), 256, 16).expect(&rt, "memory");
     let mut path = [b'n'; NAME_MAX + 1];
     path[0] = b'/';
     let path = path.as_slice();
-    let file = || Reply::Found(2, Kind::File);
+    let file = Want::Found(2, Kind::File);
     let steps = [
-        Step::Change(Act::Create(path), Reply::Done(2), 0),
-        Step::Change(Act::Symlink(&path[1..], b"/t"), Reply::Done(3), 1),
-        Step::Look(path, Follow::Yes, file(), 2),
-        Step::Fast(path, file(), 2),
-        Step::Look(b"/t", Follow::Yes, file(), 2),
-        Step::Fast(b"/t", file(), 2),
+        Step::Change(Act::Create(path), Want::Done(2), 0),
+        Step::Change(Act::Symlink(&path[1..], b"/t"), Want::Done(3), 1),
+        Step::Look(path, Follow::Yes, file, 2),
+        Step::Fast(path, file, 2),
+        Step::Look(b"/t", Follow::Yes, file, 2),
+        Step::Fast(b"/t", file, 2),
     ];
-    assert_eq!(rt; play(&rt, rt.alloc(), &cache, &mut pass, &steps), None);
-    Ok(())
+    play_anew(&rt, rt.alloc(), 256, 16, &steps)
 }

@@ -102,7 +102,13 @@ fn answered<R: Wait>(
 }
 
 /// Makes `CALLS` changes of a fixed sequence, and stamps their answers.
-fn work<R: Wait>(rt: &R, alloc: Global, cache: &Dcache, pass: &mut Pass, session: u64) -> Stamps
+fn change_all<R: Wait>(
+    rt: &R,
+    alloc: Global,
+    cache: &Dcache,
+    pass: &mut Pass,
+    session: u64,
+) -> Stamps
     requires { Fits cache.now pass.old }
     ensures { Fits cache.now pass.new }
 {
@@ -113,6 +119,21 @@ fn work<R: Wait>(rt: &R, alloc: Global, cache: &Dcache, pass: &mut Pass, session
         stamps.push(stamped(rt, alloc, cache, pass, session, seed)?)?;
     }
     Ok(stamps)
+}
+
+/// A thread at work, with a pass of its own.
+fn work<R: Wait>(
+    rt: &R,
+    alloc: Global,
+    cache: &Dcache,
+    mut pass: Pass,
+    session: u64,
+) -> (Pass, Stamps)
+    requires { Fits cache.now pass }
+    ensures { Fits cache.now result.0 }
+{
+    let stamps = change_all(rt, alloc, cache, &mut pass, session);
+    (pass, stamps)
 }
 
 /// Makes the directories in which the threads work.
@@ -133,92 +154,77 @@ fn prepare<R: Wait>(rt: &R, alloc: Global, cache: &Dcache, pass: &mut Pass) -> S
     Ok(stamps)
 }
 
-/// All stamps, those of each thread in their order.
-fn gathered(mut stamps: Vec<Stamp>, more: [Stamps; 4]) -> Stamps {
-    for part in more {
-        for stamp in part? {
-            stamps.push(stamp)?;
-        }
+/// The stamps of one thread, and then those of another.
+fn gathered(first: Stamps, second: Stamps) -> Stamps {
+    let mut stamps = first?;
+    for stamp in second? {
+        stamps.push(stamp)?;
     }
     Ok(stamps)
 }
 
-/// Two threads at work, each with a pass of its own.
-fn both<R: Threads + Wait + Sync>(
+/// Two threads at work, with passes that are one again afterwards.
+fn work_in_two<R: Threads + Wait + Sync>(
     rt: &R,
     alloc: Global,
     cache: &Dcache,
-    mut a: Pass,
-    mut b: Pass,
+    mut pass: Pass,
     session: u64,
-    other: u64,
-) -> ((Pass, Stamps), (Pass, Stamps))
-    requires a { Fits cache.now a }
-    requires b { Fits cache.now b }
+    another: u64,
+) -> (Pass, Stamps)
     requires sync { IsSync R.row }
-    ensures a { Fits cache.now result.0.0 }
-    ensures b { Fits cache.now result.1.0 }
+    requires pass { Fits cache.now pass }
+    ensures { Fits cache.now result.0 }
 {
-    join(
+    let other = cache.split(&mut pass);
+    let ((mut pass, first), (other, second)) = join(
         rt,
         move || -> (Pass, Stamps)
-            requires { Fits cache.now a }
+            requires { Fits cache.now pass }
             ensures { Fits cache.entry.now result.0 }
-        {
-            let stamps = work(rt, alloc, cache, &mut a, session);
-            (a, stamps)
-        },
+        { work(rt, alloc, cache, pass, session) },
         move || -> (Pass, Stamps)
-            requires { Fits cache.now b }
+            requires { Fits cache.now other }
             ensures { Fits cache.entry.now result.0 }
-        {
-            let stamps = work(rt, alloc, cache, &mut b, other);
-            (b, stamps)
-        },
-    )
+        { work(rt, alloc, cache, other, another) },
+    );
+    cache.join(&mut pass, other);
+    (pass, gathered(first, second))
 }
 
-/// Four threads at work, each with a pass that is cut off this one, and is taken in again.
-fn four<R: Threads + Wait + Sync>(
+/// Four threads at work, with passes that are one again afterwards.
+fn work_in_four<R: Threads + Wait + Sync>(
     rt: &R,
     alloc: Global,
     cache: &Dcache,
-    pass: &mut Pass,
-) -> [Stamps; 4]
-    requires fits { Fits cache.now pass.old }
+    mut pass: Pass,
+) -> (Pass, Stamps)
     requires sync { IsSync R.row }
-    ensures { Fits cache.now pass.new }
+    requires pass { Fits cache.now pass }
+    ensures { Fits cache.now result.0 }
 {
-    let a = cache.split(pass);
-    let b = cache.split(pass);
-    let c = cache.split(pass);
-    let d = cache.split(pass);
-    let (((a, first), (b, second)), ((c, third), (d, fourth))) = join(
+    let other = cache.split(&mut pass);
+    let ((mut pass, first), (other, second)) = join(
         rt,
-        move || -> ((Pass, Stamps), (Pass, Stamps))
-            requires { IsSync R.row × Fits cache.now a × Fits cache.now b }
-            ensures a { Fits cache.entry.now result.0.0 }
-            ensures b { Fits cache.entry.now result.1.0 }
-        { both(rt, alloc, cache, a, b, 1, 2) },
-        move || -> ((Pass, Stamps), (Pass, Stamps))
-            requires { IsSync R.row × Fits cache.now c × Fits cache.now d }
-            ensures c { Fits cache.entry.now result.0.0 }
-            ensures d { Fits cache.entry.now result.1.0 }
-        { both(rt, alloc, cache, c, d, 3, 4) },
+        move || -> (Pass, Stamps)
+            requires { IsSync R.row × Fits cache.now pass }
+            ensures { Fits cache.entry.now result.0 }
+        { work_in_two(rt, alloc, cache, pass, 1, 2) },
+        move || -> (Pass, Stamps)
+            requires { IsSync R.row × Fits cache.now other }
+            ensures { Fits cache.entry.now result.0 }
+        { work_in_two(rt, alloc, cache, other, 3, 4) },
     );
-    cache.join(pass, a);
-    cache.join(pass, b);
-    cache.join(pass, c);
-    cache.join(pass, d);
-    [first, second, third, fourth]
+    cache.join(&mut pass, other);
+    (pass, gathered(first, second))
 }
 
 #[test]
 fn four_threads_change_what_one_plain_tree_explains(rt: HostRuntime) -> Result<(), Fail> {
     let (shared, mut p) = Dcache::new(rt.alloc(), 4, 64).expect(&rt, "memory");
     let alloc = rt.alloc();
-    let made = prepare(&rt, alloc, &shared, &mut p).expect(&rt, "memory");
-    let more = four(&rt, alloc, &shared, &mut p);
+    let made = prepare(&rt, alloc, &shared, &mut p);
+    let (p, more) = work_in_four(&rt, alloc, &shared, p);
     let stamps = gathered(made, more).expect(&rt, "memory");
     assert!(rt; stamps.len() == 4 + 4 * CALLS as usize);
     let verdict = check(alloc, 64, stamps.as_slice());

@@ -1,10 +1,13 @@
 //! A hold's calls, as a program in C makes them.
 
-use dc_cache::{Call, Flags, Follow, ROOT, Reply};
+use crate::answers::mkdir;
+use crate::steps::{Act, call_of};
+use dc_cache::{Follow, ROOT, Reply};
 use dc_hold::{
     Found, Hold, Lost, Status, flags_of, follow_of, lost_of, put_names, put_text, told_change,
     told_fast, told_read, told_tried,
 };
+use std::alloc::Global;
 use std::test::Fail;
 
 fn found(number: u64, kind: u32, count: u64, at: u64) -> Found {
@@ -17,21 +20,22 @@ fn found(number: u64, kind: u32, count: u64, at: u64) -> Found {
     }
 }
 
+/// Whether a directory that was made first has no row, then is found, and has its row from then on.
+fn has_a_row_once_it_is_found(alloc: Global, hold: &mut Hold) -> bool {
+    let before = told_fast(&hold.look_fast(ROOT, b"/a", Follow::Yes));
+    let tried = told_tried(&hold.try_look(alloc, ROOT, b"/a", Follow::Yes));
+    let fast = told_fast(&hold.look_fast(ROOT, b"/a", Follow::Yes));
+    let missed = before.status == Status::Again && before.found.why == 1;
+    let is_found = tried.status == Status::Done && tried.found == found(2, 1, 0, 1);
+    missed && is_found && fast == tried
+}
+
 #[test]
 fn a_directory_is_made_and_found(rt: HostRuntime) -> Result<(), Fail> {
     let mut hold = Hold::new(rt.alloc(), 16, 16).expect(&rt, "memory");
-    let mkdir = Call::Mkdir {
-        base: ROOT,
-        path: b"/a",
-    };
-    let made = told_change(&hold.try_change(rt.alloc(), &mkdir));
+    let made = told_change(&hold.try_change(rt.alloc(), &mkdir(b"/a")));
     assert!(rt; made.status == Status::Done && made.found == found(2, 0, 0, 0));
-    let fast = told_fast(&hold.look_fast(ROOT, b"/a", Follow::Yes));
-    assert!(rt; fast.status == Status::Again && fast.found.why == 1);
-    let tried = told_tried(&hold.try_look(rt.alloc(), ROOT, b"/a", Follow::Yes));
-    assert!(rt; tried.status == Status::Done && tried.found == found(2, 1, 0, 1));
-    let fast = told_fast(&hold.look_fast(ROOT, b"/a", Follow::Yes));
-    assert!(rt; fast == tried);
+    assert!(rt; has_a_row_once_it_is_found(rt.alloc(), &mut hold));
     let fast = told_fast(&hold.look_fast(ROOT, b"", Follow::Yes));
     assert!(rt; fast.status == Status::Refused(2) && fast.status.number() == 2);
     let stat = told_tried(&hold.try_stat(ROOT, b"/"));
@@ -41,93 +45,47 @@ fn a_directory_is_made_and_found(rt: HostRuntime) -> Result<(), Fail> {
     Ok(())
 }
 
+/// A file with two names, a directory, and a link to that.
+static MADE: [Act<'static>; 4] = [
+    Act::Create(b"/f"),
+    Act::Link(b"/f", b"/g"),
+    Act::Mkdir(b"/d"),
+    Act::Symlink(b"./d", b"/s"),
+];
+
+/// Changes of them, and the number, the kind and the last that each tells of what its name lost.
+static LOST: [(Act<'static>, u64, u32, u32); 5] = [
+    (Act::Rename(b"/f", b"/g"), 0, 0, 0),
+    (Act::Unlink(b"/f"), 2, 2, 0),
+    (Act::Rename(b"/s", b"/g"), 2, 2, 1),
+    (Act::Unlink(b"/d"), 0, 0, 0),
+    (Act::Rmdir(b"/d"), 3, 1, 1),
+];
+
+/// Whether a hold makes a change.
+fn is_made(alloc: Global, hold: &mut Hold, act: Act<'_>) -> bool {
+    told_change(&hold.try_change(alloc, &call_of(act))).status == Status::Done
+}
+
+/// What a change tells of what its name lost, or `None` where the lock is held.
+fn lost(alloc: Global, hold: &mut Hold, act: Act<'_>) -> Option<Lost> {
+    let (_made, gone) = hold.try_change_telling(alloc, &call_of(act))?;
+    Some(lost_of(gone))
+}
+
 #[test]
 fn what_a_name_lost_is_told(rt: HostRuntime) -> Result<(), Fail> {
     let mut hold = Hold::new(rt.alloc(), 16, 16).expect(&rt, "memory");
-    let calls = [
-        Call::Create {
-            base: ROOT,
-            path: b"/f",
-        },
-        Call::Link {
-            base: ROOT,
-            old: b"/f",
-            new: b"/g",
-        },
-        Call::Mkdir {
-            base: ROOT,
-            path: b"/d",
-        },
-        Call::Symlink {
-            base: ROOT,
-            text: b"./d",
-            path: b"/s",
-        },
-    ];
-    for call in calls {
-        let made = told_change(&hold.try_change(rt.alloc(), &call));
-        assert!(rt; made.status == Status::Done);
+    for act in MADE.iter() {
+        assert!(rt; is_made(rt.alloc(), &mut hold, *act));
     }
-    let flags = Flags {
-        no_replace: false,
-        exchange: false,
-    };
-    let cases: [(Call<'_>, u64, u32, u32); 5] = [
-        (
-            Call::Rename {
-                base: ROOT,
-                old: b"/f",
-                new: b"/g",
-                flags,
-            },
-            0,
-            0,
-            0,
-        ),
-        (
-            Call::Unlink {
-                base: ROOT,
-                path: b"/f",
-            },
-            2,
-            2,
-            0,
-        ),
-        (
-            Call::Rename {
-                base: ROOT,
-                old: b"/s",
-                new: b"/g",
-                flags,
-            },
-            2,
-            2,
-            1,
-        ),
-        (
-            Call::Unlink {
-                base: ROOT,
-                path: b"/d",
-            },
-            0,
-            0,
-            0,
-        ),
-        (
-            Call::Rmdir {
-                base: ROOT,
-                path: b"/d",
-            },
-            3,
-            1,
-            1,
-        ),
-    ];
-    for (call, number, kind, last) in cases {
-        let (_made, gone) = hold
-            .try_change_telling(rt.alloc(), &call)
-            .expect(&rt, "the lock is free");
-        assert!(rt; lost_of(gone) == (Lost { number, kind, last }));
+    for (act, number, kind, last) in LOST.iter() {
+        let want = Lost {
+            number: *number,
+            kind: *kind,
+            last: *last,
+        };
+        assert!(rt; lost(rt.alloc(), &mut hold, *act) == Some(want));
     }
     Ok(())
 }
@@ -136,9 +94,7 @@ fn what_a_name_lost_is_told(rt: HostRuntime) -> Result<(), Fail> {
 fn texts_and_names_are_written(rt: HostRuntime) -> Result<(), Fail> {
     let mut hold = Hold::new(rt.alloc(), 16, 16).expect(&rt, "memory");
     for path in [b"/ab", b"/cd"] {
-        let mkdir = Call::Mkdir { base: ROOT, path };
-        let made = told_change(&hold.try_change(rt.alloc(), &mkdir));
-        assert!(rt; made.status == Status::Done);
+        assert!(rt; is_made(rt.alloc(), &mut hold, Act::Mkdir(path)));
     }
     let tried = hold.try_list(rt.alloc(), ROOT, b"/");
     assert!(rt; told_read(&tried).status == Status::Done);
@@ -157,14 +113,19 @@ fn texts_and_names_are_written(rt: HostRuntime) -> Result<(), Fail> {
     Ok(())
 }
 
+/// Whether either of two holds says that it shares its cache with the other, or neither.
+fn share(one: &Hold, other: &Hold) -> (bool, bool) {
+    (one.shares_with(other), other.shares_with(one))
+}
+
 #[test]
 fn holds_know_their_cache(rt: HostRuntime) -> Result<(), Fail> {
-    let mut hold = Hold::new(rt.alloc(), 1, 16).expect(&rt, "memory");
-    let other = hold.split().expect(&rt, "memory");
-    let third = Hold::new(rt.alloc(), 1, 16).expect(&rt, "memory");
-    assert!(rt; hold.shares_with(&other) && other.shares_with(&hold));
-    assert!(rt; !hold.shares_with(&third) && !third.shares_with(&hold));
     assert!(rt; Hold::new(rt.alloc(), 3, 16).is_err());
     assert!(rt; follow_of(3).is_none() && flags_of(4).is_none());
+    let mut hold = Hold::new(rt.alloc(), 1, 16).expect(&rt, "memory");
+    let other = hold.split().expect(&rt, "memory");
+    assert!(rt; share(&hold, &other) == (true, true));
+    let third = Hold::new(rt.alloc(), 1, 16).expect(&rt, "memory");
+    assert!(rt; share(&hold, &third) == (false, false));
     Ok(())
 }

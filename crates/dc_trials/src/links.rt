@@ -2,9 +2,9 @@
 
 ghost use Rattle.dc_cache.specs.Passes.{Fits};
 
-use crate::answers::is;
+use crate::answers::{Want, is};
 use crate::steps::{Act, Step, is_told, play};
-use dc_cache::{Dcache, FastLink, Follow, Kind, Pass, ROOT, Reply, Why, parse};
+use dc_cache::{Dcache, FastLink, Follow, Kind, Pass, ROOT, Why, parse};
 use std::alloc::Global;
 use std::sync::Wait;
 use std::test::Fail;
@@ -28,8 +28,8 @@ fn is_refused<R: Wait>(
     let FastLink::Refused(told) = cache.readlink_fast(pass, ROOT, path) else {
         return false;
     };
-    let refused = Reply::Refused(number);
-    is(&told, &refused, 3) && is_told(&cache.readlink(rt, alloc, pass, ROOT, text), &refused, 3)
+    let refused = Want::Refused(number);
+    is(&told, refused, 3) && is_told(&cache.readlink(rt, alloc, pass, ROOT, text), refused, 3)
 }
 
 /// Whether each `readlink` is refused with its number.
@@ -50,32 +50,37 @@ fn are_refused<R: Wait>(
     all
 }
 
+/// A directory, a file in it, and a link to the directory.
+static THREE: [Step<'static>; 3] = [
+    Step::Change(Act::Mkdir(b"/d"), Want::Done(2), 0),
+    Step::Change(Act::Create(b"/d/f"), Want::Done(3), 1),
+    Step::Change(Act::Symlink(b"d", b"/s"), Want::Done(4), 2),
+];
+
+/// Paths of what is no link there, and the number of the refusal.
+static NO_LINKS: [(&[u8], u64); 6] = [
+    (b"/", 22),
+    (b"/d", 22),
+    (b"/s/f", 22),
+    (b"/s/", 22),
+    (b"/x", 2),
+    (b"/d/f/", 20),
+];
+
 #[test]
 fn rows_tell_what_is_no_link(rt: HostRuntime) -> Result<(), Fail> {
     let (cache, mut p) = Dcache::new(rt.alloc(), 16, 16).expect(&rt, "memory");
-    let steps = [
-        Step::Change(Act::Mkdir(b"/d"), Reply::Done(2), 0),
-        Step::Change(Act::Create(b"/d/f"), Reply::Done(3), 1),
-        Step::Change(Act::Symlink(b"d", b"/s"), Reply::Done(4), 2),
-    ];
-    assert_eq!(rt; play(&rt, rt.alloc(), &cache, &mut p, &steps), None);
-    let rows = [
-        (b"/".as_slice(), 22),
-        (b"/d", 22),
-        (b"/s/f", 22),
-        (b"/s/", 22),
-        (b"/x", 2),
-        (b"/d/f/", 20),
-    ];
-    assert!(rt; are_refused(&rt, rt.alloc(), &cache, &mut p, &rows));
+    play(&rt, rt.alloc(), &cache, &mut p, &THREE)?;
+    assert!(rt; are_refused(&rt, rt.alloc(), &cache, &mut p, &NO_LINKS));
     Ok(())
 }
+
+static ONE_LINK: [Step<'static>; 1] = [Step::Change(Act::Symlink(b"d", b"/s"), Want::Done(2), 0)];
 
 #[test]
 fn rows_tell_a_link_from_what_is_none(rt: HostRuntime) -> Result<(), Fail> {
     let (cache, mut p) = Dcache::new(rt.alloc(), 16, 16).expect(&rt, "memory");
-    let steps = [Step::Change(Act::Symlink(b"d", b"/s"), Reply::Done(2), 0)];
-    assert_eq!(rt; play(&rt, rt.alloc(), &cache, &mut p, &steps), None);
+    play(&rt, rt.alloc(), &cache, &mut p, &ONE_LINK)?;
     let path = parse(b"/s")?;
     let told = cache.readlink_fast(&mut p, ROOT, path);
     assert!(rt; matches!(told, FastLink::Again(Why::Miss(0))));
@@ -83,6 +88,6 @@ fn rows_tell_a_link_from_what_is_none(rt: HostRuntime) -> Result<(), Fail> {
     let FastLink::Link(told) = cache.readlink_fast(&mut p, ROOT, path) else {
         return Err("no link".into());
     };
-    assert!(rt; is(&told, &Reply::Found(2, Kind::Link), 1));
+    assert!(rt; is(&told, Want::Found(2, Kind::Link), 1));
     Ok(())
 }

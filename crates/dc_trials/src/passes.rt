@@ -3,191 +3,188 @@
 ghost use Rattle.std.specs.Thread.{IsSync};
 ghost use Rattle.dc_cache.specs.Passes.{Fits};
 
-use crate::answers::create;
-use crate::steps::{Act, Step, play};
-use dc_cache::{Dcache, Follow, Kind, MakeFault, NotYet, Pass, Reply, Store, Why};
+use crate::answers::{Want, create};
+use crate::steps::{Act, Step, play, play_anew};
+use dc_cache::{Dcache, Follow, Kind, MakeFault, NotYet, Pass, Store, Why};
 use dc_names::NAME_MAX;
 use std::alloc::Global;
 use std::sync::Wait;
 use std::test::Fail;
 use std::thread::{Threads, join};
 
+/// Buckets and inodes of which no cache is made.
+static BAD_SIZES: [(u64, u64); 5] = [(0, 16), (3, 16), (2048, 16), (1, 0), (1, 1_048_577)];
+
+static GOOD_SIZES: [(u64, u64); 2] = [(1, 1), (1024, 1_048_576)];
+
 #[test]
-fn a_cache_has_its_sizes(rt: HostRuntime) -> Result<(), Fail> {
-    for (buckets, max_inodes) in [(0, 16), (3, 16), (2048, 16), (1, 0), (1, 1_048_577)] {
-        let made = Dcache::new(rt.alloc(), buckets, max_inodes);
+fn a_cache_has_its_sizes(rt: HostRuntime) {
+    for (buckets, max_inodes) in BAD_SIZES.iter() {
+        let made = Dcache::new(rt.alloc(), *buckets, *max_inodes);
         assert!(rt; matches!(made, Err(MakeFault::BadSize)));
     }
-    for (buckets, max_inodes) in [(1, 1), (1024, 1_048_576)] {
-        assert!(rt; Dcache::new(rt.alloc(), buckets, max_inodes).is_ok());
+    for (buckets, max_inodes) in GOOD_SIZES.iter() {
+        assert!(rt; Dcache::new(rt.alloc(), *buckets, *max_inodes).is_ok());
     }
-    Ok(())
+}
+
+/// The same of caches with as many buckets as one wishes.
+static BAD_BUCKETS: [(u64, u64); 5] = [
+    (0, 16),
+    (3 * 1024, 16),
+    (1 << 21, 16),
+    (2048, 0),
+    (2048, 1_048_577),
+];
+
+static BUCKETS: [u64; 3] = [1, 2048, 65_536];
+
+/// A directory that is made, and whose row is filled by a look-up.
+static MADE_AND_FOUND: [Step<'static>; 3] = [
+    Step::Change(Act::Mkdir(b"/a"), Want::Done(2), 0),
+    Step::Look(b"/a", Follow::Yes, Want::Found(2, Kind::Dir), 1),
+    Step::Fast(b"/a", Want::Found(2, Kind::Dir), 1),
+];
+
+/// Plays the steps over a new cache with so many buckets.
+fn play_with_buckets<R: Wait>(rt: &R, alloc: Global, buckets: u64) -> Result<(), Fail> {
+    let (cache, mut pass) = Dcache::with_buckets(alloc, buckets, 16)?;
+    play(rt, alloc, &cache, &mut pass, &MADE_AND_FOUND)
 }
 
 #[test]
 fn a_cache_has_as_many_buckets_as_the_work_wants(rt: HostRuntime) -> Result<(), Fail> {
-    for (buckets, max_inodes) in [
-        (0, 16),
-        (3 * 1024, 16),
-        (1 << 21, 16),
-        (2048, 0),
-        (2048, 1_048_577),
-    ] {
-        let made = Dcache::with_buckets(rt.alloc(), buckets, max_inodes);
+    for (buckets, max_inodes) in BAD_BUCKETS.iter() {
+        let made = Dcache::with_buckets(rt.alloc(), *buckets, *max_inodes);
         assert!(rt; matches!(made, Err(MakeFault::BadSize)));
     }
-    for buckets in [1, 2048, 65_536] {
-        let made = Dcache::with_buckets(rt.alloc(), buckets, 16);
-        let (cache, mut p) = made.expect(&rt, "memory");
-        let steps = [
-            Step::Change(Act::Mkdir(b"/a"), Reply::Done(2), 0),
-            Step::Look(b"/a", Follow::Yes, Reply::Found(2, Kind::Dir), 1),
-            Step::Fast(b"/a", Reply::Found(2, Kind::Dir), 1),
-        ];
-        assert_eq!(rt; play(&rt, rt.alloc(), &cache, &mut p, &steps), None);
+    for buckets in BUCKETS.iter() {
+        play_with_buckets(&rt, rt.alloc(), *buckets)?;
     }
     Ok(())
 }
+
+static MADE: [Step<'static>; 1] = [Step::Change(Act::Mkdir(b"/a"), Want::Done(2), 0)];
+
+static LEARNT: [Step<'static>; 4] = [
+    Step::Fast(b"/", Want::Found(1, Kind::Dir), 1),
+    Step::Again(b"/a", Why::Miss(0)),
+    Step::Look(b"/a", Follow::Yes, Want::Found(2, Kind::Dir), 1),
+    Step::Fast(b"/a", Want::Found(2, Kind::Dir), 1),
+];
 
 #[test]
 fn a_pass_learns_how_far_another_came(rt: HostRuntime) -> Result<(), Fail> {
     let (cache, mut p) = Dcache::new(rt.alloc(), 1, 16).expect(&rt, "memory");
     let mut q = cache.split(&mut p);
-    let steps = [Step::Change(Act::Mkdir(b"/a"), Reply::Done(2), 0)];
-    assert_eq!(rt; play(&rt, rt.alloc(), &cache, &mut p, &steps), None);
+    play(&rt, rt.alloc(), &cache, &mut p, &MADE)?;
     assert!(rt; cache.learn(&mut q, 2) == Err(NotYet(1)));
     assert!(rt; cache.learn(&mut q, 1) == Ok(()));
-    let steps = [
-        Step::Fast(b"/", Reply::Found(1, Kind::Dir), 1),
-        Step::Again(b"/a", Why::Miss(0)),
-        Step::Look(b"/a", Follow::Yes, Reply::Found(2, Kind::Dir), 1),
-        Step::Fast(b"/a", Reply::Found(2, Kind::Dir), 1),
-    ];
-    assert_eq!(rt; play(&rt, rt.alloc(), &cache, &mut q, &steps), None);
+    play(&rt, rt.alloc(), &cache, &mut q, &LEARNT)?;
     cache.join(&mut p, q);
     let ended = cache.close(p).expect(&rt, "the lock is free");
     assert!(rt; ended.clock == 1 && ended.store.live() == 2);
     Ok(())
 }
 
-/// What the steps of one pass over a cache of one bucket and sixteen inodes come to.
-fn play_alone<R: Wait>(
-    rt: &R,
-    alloc: Global,
-    steps: &[Step<'_>],
-) -> Result<Option<usize>, MakeFault> {
-    let (cache, mut p) = Dcache::new(alloc, 1, 16)?;
-    Ok(play(rt, alloc, &cache, &mut p, steps))
-}
-
 /// A look-up that always asks under the lock would leave no row behind.
 #[test]
 fn a_look_fills_the_rows_that_it_needs(rt: HostRuntime) -> Result<(), Fail> {
-    let steps = [
-        Step::Change(Act::Mkdir(b"/a"), Reply::Done(2), 0),
-        Step::Look(b"/a", Follow::Yes, Reply::Found(2, Kind::Dir), 1),
-        Step::Fast(b"/a", Reply::Found(2, Kind::Dir), 1),
-    ];
-    assert_eq!(rt; play_alone(&rt, rt.alloc(), &steps), Ok(None));
-    Ok(())
+    play_anew(&rt, rt.alloc(), 1, 16, &MADE_AND_FOUND)
 }
+
+static EMPTIED: [Step<'static>; 9] = [
+    Step::Counted(b"/a", Want::Refused(2), 0),
+    Step::Look(b"/b", Follow::Yes, Want::Refused(2), 0),
+    Step::Look(b"/c", Follow::Yes, Want::Refused(2), 0),
+    Step::Look(b"/a", Follow::Yes, Want::Refused(2), 0),
+    Step::Shrink(2, 2),
+    Step::Again(b"/a", Why::Miss(0)),
+    Step::Again(b"/b", Why::Miss(0)),
+    Step::Fast(b"/c", Want::Refused(2), 0),
+    Step::Shrink(2, 1),
+];
 
 /// A walk by rows that are there is no use of them, so the row of `/a` goes first.
 #[test]
 fn the_least_recently_used_rows_are_emptied(rt: HostRuntime) -> Result<(), Fail> {
-    let steps = [
-        Step::Counted(b"/a", Reply::Refused(2), 0),
-        Step::Look(b"/b", Follow::Yes, Reply::Refused(2), 0),
-        Step::Look(b"/c", Follow::Yes, Reply::Refused(2), 0),
-        Step::Look(b"/a", Follow::Yes, Reply::Refused(2), 0),
-        Step::Shrink(2, 2),
-        Step::Again(b"/a", Why::Miss(0)),
-        Step::Again(b"/b", Why::Miss(0)),
-        Step::Fast(b"/c", Reply::Refused(2), 0),
-        Step::Shrink(2, 1),
-    ];
-    assert_eq!(rt; play_alone(&rt, rt.alloc(), &steps), Ok(None));
-    Ok(())
+    play_anew(&rt, rt.alloc(), 1, 16, &EMPTIED)
 }
+
+static ONE_AFTER_ANOTHER: [Step<'static>; 11] = [
+    Step::Change(Act::Create(b"/a"), Want::Done(2), 0),
+    Step::Look(b"/a", Follow::Yes, Want::Found(2, Kind::File), 1),
+    Step::Change(Act::Create(b"/b"), Want::Done(3), 1),
+    Step::Look(b"/b", Follow::Yes, Want::Found(3, Kind::File), 2),
+    Step::Change(Act::Create(b"/c"), Want::Done(4), 2),
+    Step::Look(b"/c", Follow::Yes, Want::Found(4, Kind::File), 3),
+    Step::Change(Act::Create(b"/d"), Want::Done(5), 3),
+    Step::Look(b"/d", Follow::Yes, Want::Found(5, Kind::File), 4),
+    Step::Change(Act::Create(b"/e"), Want::Done(6), 4),
+    Step::Look(b"/e", Follow::Yes, Want::Found(6, Kind::File), 5),
+    Step::Look(b"/a", Follow::Yes, Want::Found(2, Kind::File), 5),
+];
 
 /// The fifth name of a bucket of four rows takes a row of another, and nobody sees it.
 #[test]
 fn rows_serve_one_name_after_another(rt: HostRuntime) -> Result<(), Fail> {
-    let steps = [
-        Step::Change(Act::Create(b"/a"), Reply::Done(2), 0),
-        Step::Look(b"/a", Follow::Yes, Reply::Found(2, Kind::File), 1),
-        Step::Change(Act::Create(b"/b"), Reply::Done(3), 1),
-        Step::Look(b"/b", Follow::Yes, Reply::Found(3, Kind::File), 2),
-        Step::Change(Act::Create(b"/c"), Reply::Done(4), 2),
-        Step::Look(b"/c", Follow::Yes, Reply::Found(4, Kind::File), 3),
-        Step::Change(Act::Create(b"/d"), Reply::Done(5), 3),
-        Step::Look(b"/d", Follow::Yes, Reply::Found(5, Kind::File), 4),
-        Step::Change(Act::Create(b"/e"), Reply::Done(6), 4),
-        Step::Look(b"/e", Follow::Yes, Reply::Found(6, Kind::File), 5),
-        Step::Look(b"/a", Follow::Yes, Reply::Found(2, Kind::File), 5),
-    ];
-    assert_eq!(rt; play_alone(&rt, rt.alloc(), &steps), Ok(None));
-    Ok(())
+    play_anew(&rt, rt.alloc(), 1, 16, &ONE_AFTER_ANOTHER)
 }
+
+static READS: [Step<'static>; 12] = [
+    Step::Change(Act::Mkdir(b"/d"), Want::Done(2), 0),
+    Step::Change(Act::Create(b"/d/f"), Want::Done(3), 1),
+    Step::Change(Act::Symlink(b"./d", b"/s"), Want::Done(4), 2),
+    Step::Look(b"/s/f", Follow::Yes, Want::Found(3, Kind::File), 3),
+    Step::Look(b"/s", Follow::No, Want::Found(4, Kind::Link), 3),
+    Step::Look(b"/s/", Follow::No, Want::Found(2, Kind::Dir), 3),
+    Step::Look(b"/s/../d", Follow::Yes, Want::Found(2, Kind::Dir), 3),
+    Step::Look(b"", Follow::Yes, Want::Refused(2), 3),
+    Step::Look(&[b'n'; 256], Follow::Yes, Want::Refused(36), 3),
+    Step::Look(b"/\0", Follow::Yes, Want::Refused(22), 3),
+    Step::Stat(b"/d/f", Want::Stat(3, Kind::File, 1), 3),
+    Step::Stat(b"", Want::Refused(2), 3),
+];
 
 #[test]
 fn reads_are_answered(rt: HostRuntime) -> Result<(), Fail> {
-    let (cache, mut p) = Dcache::new(rt.alloc(), 256, 65536).expect(&rt, "memory");
-    let steps = [
-        Step::Change(Act::Mkdir(b"/d"), Reply::Done(2), 0),
-        Step::Change(Act::Create(b"/d/f"), Reply::Done(3), 1),
-        Step::Change(Act::Symlink(b"./d", b"/s"), Reply::Done(4), 2),
-        Step::Look(b"/s/f", Follow::Yes, Reply::Found(3, Kind::File), 3),
-        Step::Look(b"/s", Follow::No, Reply::Found(4, Kind::Link), 3),
-        Step::Look(b"/s/", Follow::No, Reply::Found(2, Kind::Dir), 3),
-        Step::Look(b"/s/../d", Follow::Yes, Reply::Found(2, Kind::Dir), 3),
-        Step::Look(b"", Follow::Yes, Reply::Refused(2), 3),
-        Step::Look(&[b'n'; 256], Follow::Yes, Reply::Refused(36), 3),
-        Step::Look(b"/\0", Follow::Yes, Reply::Refused(22), 3),
-        Step::Stat(b"/d/f", Reply::Stat(3, Kind::File, 1), 3),
-        Step::Stat(b"", Reply::Refused(2), 3),
-    ];
-    assert_eq!(rt; play(&rt, rt.alloc(), &cache, &mut p, &steps), None);
-    Ok(())
+    play_anew(&rt, rt.alloc(), 256, 65536, &READS)
 }
+
+static READS_WITH_MEMORY: [Step<'static>; 4] = [
+    Step::Change(Act::Mkdir(b"/d"), Want::Done(2), 0),
+    Step::Change(Act::Symlink(b"./d", b"/s"), Want::Done(3), 1),
+    Step::Readlink(b"/s", Want::Text(b"./d"), 2),
+    Step::List(b"/", Want::Names(&[b"d", b"s"]), 2),
+];
 
 #[test]
 fn reads_that_take_memory_are_answered(rt: HostRuntime) -> Result<(), Fail> {
-    let text = Vec::from_slice(rt.alloc(), b"./d")?;
-    let d = Vec::from_slice(rt.alloc(), b"d")?;
-    let s = Vec::from_slice(rt.alloc(), b"s")?;
-    let names = Vec::from_array(rt.alloc(), [d, s])?;
-    let steps = [
-        Step::Change(Act::Mkdir(b"/d"), Reply::Done(2), 0),
-        Step::Change(Act::Symlink(b"./d", b"/s"), Reply::Done(3), 1),
-        Step::Readlink(b"/s", Reply::Text(text), 2),
-        Step::List(b"/", Reply::Names(names), 2),
-    ];
-    assert_eq!(rt; play_alone(&rt, rt.alloc(), &steps), Ok(None));
-    Ok(())
+    play_anew(&rt, rt.alloc(), 1, 16, &READS_WITH_MEMORY)
 }
+
+const FILE: Want<'static> = Want::Found(3, Kind::File);
+
+static LINKS: [Step<'static>; 12] = [
+    Step::Change(Act::Mkdir(b"/d"), Want::Done(2), 0),
+    Step::Change(Act::Create(b"/d/f"), Want::Done(3), 1),
+    Step::Change(Act::Symlink(b"./d", b"/s"), Want::Done(4), 2),
+    Step::Again(b"/s/f", Why::Miss(0)),
+    Step::Look(b"/s/f", Follow::Yes, FILE, 3),
+    Step::Fast(b"/s/f", FILE, 3),
+    Step::Change(Act::Unlink(b"/s"), Want::Unit, 3),
+    Step::Fast(b"/s/f", Want::Refused(2), 4),
+    Step::Change(Act::Symlink(b"d", b"/s"), Want::Done(5), 4),
+    Step::Again(b"/s/f", Why::Link),
+    Step::Look(b"/s/f", Follow::Yes, FILE, 5),
+    Step::Fast(b"/s/f", FILE, 5),
+];
 
 /// The text of a link stands in a row as long as the link has a name. A new link of that name is
 /// another, whose text is asked anew.
 #[test]
 fn links_are_followed_by_their_rows(rt: HostRuntime) -> Result<(), Fail> {
-    let file = || Reply::Found(3, Kind::File);
-    let steps = [
-        Step::Change(Act::Mkdir(b"/d"), Reply::Done(2), 0),
-        Step::Change(Act::Create(b"/d/f"), Reply::Done(3), 1),
-        Step::Change(Act::Symlink(b"./d", b"/s"), Reply::Done(4), 2),
-        Step::Again(b"/s/f", Why::Miss(0)),
-        Step::Look(b"/s/f", Follow::Yes, file(), 3),
-        Step::Fast(b"/s/f", file(), 3),
-        Step::Change(Act::Unlink(b"/s"), Reply::Unit, 3),
-        Step::Fast(b"/s/f", Reply::Refused(2), 4),
-        Step::Change(Act::Symlink(b"d", b"/s"), Reply::Done(5), 4),
-        Step::Again(b"/s/f", Why::Link),
-        Step::Look(b"/s/f", Follow::Yes, file(), 5),
-        Step::Fast(b"/s/f", file(), 5),
-    ];
-    assert_eq!(rt; play_alone(&rt, rt.alloc(), &steps), Ok(None));
-    Ok(())
+    play_anew(&rt, rt.alloc(), 1, 16, &LINKS)
 }
 
 /// A text that is longer than a name has no room in a row: each look-up asks for it under the lock.
@@ -195,20 +192,18 @@ fn links_are_followed_by_their_rows(rt: HostRuntime) -> Result<(), Fail> {
 fn a_text_without_room_is_asked_under_the_lock(rt: HostRuntime) -> Result<(), Fail> {
     let mut text = [b'/'; NAME_MAX + 1];
     text[NAME_MAX] = b'd';
-    let file = || Reply::Found(3, Kind::File);
     let steps = [
-        Step::Change(Act::Mkdir(b"/d"), Reply::Done(2), 0),
-        Step::Change(Act::Create(b"/d/f"), Reply::Done(3), 1),
-        Step::Change(Act::Symlink(&text, b"/t"), Reply::Done(4), 2),
+        Step::Change(Act::Mkdir(b"/d"), Want::Done(2), 0),
+        Step::Change(Act::Create(b"/d/f"), Want::Done(3), 1),
+        Step::Change(Act::Symlink(&text, b"/t"), Want::Done(4), 2),
         Step::Again(b"/t/f", Why::Miss(0)),
-        Step::Look(b"/t/f", Follow::Yes, file(), 3),
+        Step::Look(b"/t/f", Follow::Yes, FILE, 3),
         Step::Again(b"/t/f", Why::Link),
-        Step::Look(b"/t/f", Follow::Yes, file(), 3),
+        Step::Look(b"/t/f", Follow::Yes, FILE, 3),
         Step::Again(b"/t/f", Why::Link),
-        Step::Look(b"/t/f", Follow::Yes, file(), 3),
+        Step::Look(b"/t/f", Follow::Yes, FILE, 3),
     ];
-    assert_eq!(rt; play_alone(&rt, rt.alloc(), &steps), Ok(None));
-    Ok(())
+    play_anew(&rt, rt.alloc(), 1, 16, &steps)
 }
 
 /// Creates fifty files whose names begin with this letter, looks each up, and returns the pass.
@@ -260,26 +255,28 @@ fn threads_share_a_cache(rt: HostRuntime) -> Result<(), Fail> {
     Ok(())
 }
 
+static FILLED_AT_ONCE: [Step<'static>; 7] = [
+    Step::Change(Act::Mkdir(b"/a"), Want::Done(2), 0),
+    Step::Change(Act::Mkdir(b"/a/b"), Want::Done(3), 1),
+    Step::Again(b"/a/b", Why::Miss(0)),
+    Step::Filled(b"/a/b", Want::Found(3, Kind::Dir), 2),
+    Step::Fast(b"/a/b", Want::Found(3, Kind::Dir), 2),
+    Step::Filled(b"/c", Want::Refused(2), 2),
+    Step::Filled(b"/d", Want::Refused(2), 2),
+];
+
+static ONE_MORE: [Step<'static>; 1] = [Step::Filled(b"/e", Want::Refused(2), 2)];
+
+static NO_LONGER: [Step<'static>; 1] = [Step::Again(b"/a", Why::Miss(0))];
+
 /// A look-up that fills the rows of its whole path: the next one goes by them. The fifth name of one bucket
 /// takes a row of another.
 #[test]
 fn a_path_is_filled_under_one_hold(rt: HostRuntime) -> Result<(), Fail> {
     let (cache, mut p) = Dcache::new(rt.alloc(), 1, 16).expect(&rt, "memory");
-    let steps = [
-        Step::Change(Act::Mkdir(b"/a"), Reply::Done(2), 0),
-        Step::Change(Act::Mkdir(b"/a/b"), Reply::Done(3), 1),
-        Step::Again(b"/a/b", Why::Miss(0)),
-        Step::Filled(b"/a/b", Reply::Found(3, Kind::Dir), 2),
-        Step::Fast(b"/a/b", Reply::Found(3, Kind::Dir), 2),
-        Step::Filled(b"/c", Reply::Refused(2), 2),
-        Step::Filled(b"/d", Reply::Refused(2), 2),
-    ];
-    assert_eq!(rt; play(&rt, rt.alloc(), &cache, &mut p, &steps), None);
+    play(&rt, rt.alloc(), &cache, &mut p, &FILLED_AT_ONCE)?;
     assert!(rt; cache.counts().evictions == 0);
-    let steps = [Step::Filled(b"/e", Reply::Refused(2), 2)];
-    assert_eq!(rt; play(&rt, rt.alloc(), &cache, &mut p, &steps), None);
+    play(&rt, rt.alloc(), &cache, &mut p, &ONE_MORE)?;
     assert!(rt; cache.counts().evictions == 1 && cache.counts().sleeps == 0);
-    let steps = [Step::Again(b"/a", Why::Miss(0))];
-    assert_eq!(rt; play(&rt, rt.alloc(), &cache, &mut p, &steps), None);
-    Ok(())
+    play(&rt, rt.alloc(), &cache, &mut p, &NO_LONGER)
 }

@@ -6,9 +6,9 @@
 ghost use Rattle.std.specs.Thread.{IsSync};
 ghost use Rattle.dc_cache.specs.Passes.{Fits, IsChange};
 
-use crate::answers::{create, mkdir, unlink};
+use crate::answers::{Want, create, mkdir, rename, unlink};
 use crate::steps::{Act, Step, play};
-use dc_cache::{Call, Dcache, Fast, Flags, Follow, Pass, ROOT, Reply, Stamped, Store, parse};
+use dc_cache::{Call, Dcache, Fast, Follow, Pass, ROOT, Reply, Stamped, Store, parse};
 use std::alloc::{AllocError, Global};
 use std::sync::Wait;
 use std::test::Fail;
@@ -21,18 +21,6 @@ struct Race<'a> {
     second: &'a [u8],
     file: &'a [u8],
     file_then: &'a [u8],
-}
-
-fn rename<'a>(old: &'a [u8], new: &'a [u8]) -> Call<'a>
-    ensures { IsChange result }
-{
-    let base = ROOT;
-    Call::Rename {
-        base,
-        old,
-        new,
-        flags: Flags::default(),
-    }
 }
 
 /// Whether an answer is ENOENT.
@@ -164,43 +152,50 @@ fn run<R: Threads + Wait + Sync>(
     (pass, made && absent)
 }
 
+static DIRECTORIES: [Step<'static>; 5] = [
+    Step::Change(Act::Mkdir(b"/p"), Want::Done(2), 0),
+    Step::Change(Act::Mkdir(b"/p/d"), Want::Done(3), 1),
+    Step::Change(Act::Mkdir(b"/p/d/d"), Want::Done(4), 2),
+    Step::Change(Act::Mkdir(b"/p/d/d/d"), Want::Done(5), 3),
+    Step::Change(Act::Mkdir(b"/p/d/d/d/d"), Want::Done(6), 4),
+];
+
+const NEAR: Race<'static> = Race {
+    first: b"/p",
+    second: b"/q",
+    file: b"/p/d/f",
+    file_then: b"/q/d/f",
+};
+
+const FAR: Race<'static> = Race {
+    first: b"/p",
+    second: b"/q",
+    file: b"/p/d/d/d/d/f",
+    file_then: b"/q/d/d/d/d/f",
+};
+
+/// Two races, one after the other, with the same pass.
+fn run_both<R: Threads + Wait + Sync>(
+    rt: &R,
+    alloc: Global,
+    cache: &Dcache,
+    pass: Pass,
+) -> (Pass, bool)
+    requires sync { IsSync R.row }
+    requires pass { Fits cache.now pass }
+    ensures { Fits cache.now result.0 }
+{
+    let (pass, near) = run(rt, alloc, cache, pass, NEAR);
+    let (pass, far) = run(rt, alloc, cache, pass, FAR);
+    (pass, near && far)
+}
+
 /// The file is one and four directories below the one that is renamed.
 #[test]
 fn a_name_that_never_stands_is_never_found(rt: HostRuntime) -> Result<(), Fail> {
     let (cache, mut pass) = Dcache::new(rt.alloc(), 16, 1024).expect(&rt, "memory");
-    let steps = [
-        Step::Change(Act::Mkdir(b"/p"), Reply::Done(2), 0),
-        Step::Change(Act::Mkdir(b"/p/d"), Reply::Done(3), 1),
-        Step::Change(Act::Mkdir(b"/p/d/d"), Reply::Done(4), 2),
-        Step::Change(Act::Mkdir(b"/p/d/d/d"), Reply::Done(5), 3),
-        Step::Change(Act::Mkdir(b"/p/d/d/d/d"), Reply::Done(6), 4),
-    ];
-    assert_eq!(rt; play(&rt, rt.alloc(), &cache, &mut pass, &steps), None);
-    let (pass, right) = run(
-        &rt,
-        rt.alloc(),
-        &cache,
-        pass,
-        Race {
-            first: b"/p",
-            second: b"/q",
-            file: b"/p/d/f",
-            file_then: b"/q/d/f",
-        },
-    );
-    assert!(rt; right);
-    let (pass, right) = run(
-        &rt,
-        rt.alloc(),
-        &cache,
-        pass,
-        Race {
-            first: b"/p",
-            second: b"/q",
-            file: b"/p/d/d/d/d/f",
-            file_then: b"/q/d/d/d/d/f",
-        },
-    );
+    play(&rt, rt.alloc(), &cache, &mut pass, &DIRECTORIES)?;
+    let (pass, right) = run_both(&rt, rt.alloc(), &cache, pass);
     assert!(rt; right);
     let ended = cache.close(pass).expect(&rt, "the lock is free");
     // Five directories, and four changes in each of forty rounds of both races.

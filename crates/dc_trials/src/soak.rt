@@ -1,9 +1,15 @@
 //! Rounds of the soak as they are drawn and played, and records and trees that are wrong.
 
+ghost use Rattle.std.specs.Thread.{IsSync};
+
 use dc_cache::{Ended, SlabStore};
-use dc_plain::Reply;
+use dc_names::NoMemory;
+use dc_plain::{OwnCall, Reply};
 use dc_soak::{BUCKETS, Draw, NAMES, Round, Shaken, Tally, Wrong, agree, judge};
+use std::alloc::{AllocError, Global};
+use std::sync::Wait;
 use std::test::Fail;
+use std::thread::Threads;
 
 /// A round of one thread.
 fn alone(seed: u64) -> Round {
@@ -15,16 +21,29 @@ fn alone(seed: u64) -> Round {
     }
 }
 
-#[test]
-fn rounds_are_legal(rt: HostRuntime) -> Result<(), Fail> {
+/// What is wrong about the round of a seed, in words.
+fn told(alloc: Global, seed: u64, wrong: &Wrong) -> Result<String, AllocError> {
+    format!(in alloc; "seed {seed}: {wrong}")
+}
+
+/// The tally of eight rounds. It fails where one goes wrong.
+fn tally<R: Threads + Wait + Sync>(rt: &R, alloc: Global) -> Result<Tally, Fail>
+    requires { IsSync R.row }
+{
     let mut whole = Tally::default();
     for seed in 1..9 {
-        let played = Round::of(seed, 800).play(&rt, rt.alloc())?;
-        if let Some(wrong) = played.wrong {
-            panic!(rt; "seed {seed}: {wrong}");
+        let played = Round::of(seed, 800).play(rt, alloc)?;
+        if let Some(wrong) = &played.wrong {
+            return Err(Fail::from(told(alloc, seed, wrong)?));
         }
         whole.take_in(&played.tally);
     }
+    Ok(whole)
+}
+
+#[test]
+fn rounds_are_legal(rt: HostRuntime) -> Result<(), Fail> {
+    let whole = tally(&rt, rt.alloc())?;
     assert!(rt; whole.rounds == 8 && whole.changes > 100);
     assert!(rt; whole.hits > 100 && whole.emptied > 10 && whole.splits > 10);
     assert!(rt; whole.evicted > 10);
@@ -54,60 +73,111 @@ fn all_sizes_come(rt: HostRuntime) {
     }
 }
 
+/// The first two hundred calls that a thread draws.
+fn drawn(alloc: Global, thread: u64) -> Result<Vec<OwnCall>, NoMemory> {
+    let mut draw = Draw::new(alloc, 5, thread);
+    let mut calls = Vec::new(alloc);
+    for _ in 0..200 {
+        calls.push(draw.call()?)?;
+    }
+    Ok(calls)
+}
+
 #[test]
 fn calls_are_drawn_again(rt: HostRuntime) -> Result<(), Fail> {
-    let mut one = Draw::new(rt.alloc(), 5, 1);
-    let mut same = Draw::new(rt.alloc(), 5, 1);
-    let mut other = Draw::new(rt.alloc(), 5, 2);
-    let mut differ = false;
-    for _ in 0..200 {
-        let call = one.call()?;
-        assert!(rt; call == same.call()?);
-        differ = differ || call != other.call()?;
-    }
-    assert!(rt; differ);
+    let calls = drawn(rt.alloc(), 1)?;
+    assert!(rt; calls == drawn(rt.alloc(), 1)?);
+    assert!(rt; calls != drawn(rt.alloc(), 2)?);
     Ok(())
 }
 
-/// A reply that no tree gives, and a record that isn't there.
-#[test]
-fn wrong_records_are_told(rt: HostRuntime) -> Result<(), Fail> {
-    let Shaken { stamps, ended, .. } = alone(1).shake(&rt, rt.alloc())?;
-    assert!(rt; judge(rt.alloc(), stamps, ended)?.is_none());
-    let Shaken {
-        mut stamps,
-        ended,
-        ..
-    } = alone(1).shake(&rt, rt.alloc())?;
-    if let Some(stamp) = stamps.get_mut(100) {
-        stamp.reply = Reply::Refused(99);
-    }
-    let wrong = judge(rt.alloc(), stamps, ended)?;
-    assert!(rt; matches!(wrong, Some(Wrong::Record(101, Some(_)))));
-    let Shaken {
-        mut stamps,
-        ended,
-        ..
-    } = alone(1).shake(&rt, rt.alloc())?;
-    stamps.truncate(100);
-    let wrong = judge(rt.alloc(), stamps, ended)?;
-    assert!(rt; matches!(wrong, Some(Wrong::Clock(_, _))));
-    Ok(())
+/// What is done to the record or the tree of a round.
+#[derive(Clone, Copy)]
+enum Deed {
+    Nothing,
+    /// A reply becomes one that no tree gives.
+    ReplyChanged,
+    /// The last records are taken away.
+    CutShort,
+    /// The tree becomes another than the one that the changes make.
+    TreeChanged,
+    TreeLost,
 }
 
-/// A tree that isn't the one that the changes make, and one that is lost.
+/// A new tree in the place of one that isn't lost.
+fn with_new_tree(alloc: Global, ended: Option<Ended>) -> Result<Option<Ended>, NoMemory> {
+    let store = SlabStore::new(alloc)?;
+    match ended {
+        Some(Ended { clock, .. }) => Ok(Some(Ended { store, clock })),
+        None => Ok(None),
+    }
+}
+
+/// What is wrong about a round of one thread after a deed.
+fn wrong_after<R: Threads + Wait + Sync>(
+    rt: &R,
+    alloc: Global,
+    deed: Deed,
+) -> Result<Option<Wrong>, Fail>
+    requires { IsSync R.row }
+{
+    let Shaken {
+        mut stamps,
+        mut ended,
+        ..
+    } = alone(1).shake(rt, alloc)?;
+    match deed {
+        Deed::Nothing => {}
+        Deed::ReplyChanged => {
+            if let Some(stamp) = stamps.get_mut(100) {
+                stamp.reply = Reply::Refused(99);
+            }
+        }
+        Deed::CutShort => stamps.truncate(100),
+        Deed::TreeChanged => ended = with_new_tree(alloc, ended)?,
+        Deed::TreeLost => ended = None,
+    }
+    Ok(judge(alloc, stamps, ended)?)
+}
+
+/// A short word for what is wrong.
+fn word(wrong: &Option<Wrong>) -> &'static str {
+    match wrong {
+        None => "nothing",
+        Some(Wrong::Record(101, Some(_))) => "record 101",
+        Some(Wrong::Record(..)) => "another record",
+        Some(Wrong::Tree) => "tree",
+        Some(Wrong::Clock(..)) => "clock",
+        Some(Wrong::Lost) => "lost",
+    }
+}
+
+/// Deeds, and what is wrong about a round after each.
+static DEEDS: [(Deed, &str); 5] = [
+    (Deed::Nothing, "nothing"),
+    (Deed::ReplyChanged, "record 101"),
+    (Deed::CutShort, "clock"),
+    (Deed::TreeChanged, "tree"),
+    (Deed::TreeLost, "lost"),
+];
+
+/// Whether the tree of a round isn't lost, and agrees with itself.
+fn agrees<R: Threads + Wait + Sync>(rt: &R, alloc: Global) -> Result<bool, Fail>
+    requires { IsSync R.row }
+{
+    let Shaken { ended, .. } = alone(1).shake(rt, alloc)?;
+    match ended {
+        Some(Ended { store, .. }) => Ok(agree(alloc, &store, &store)?),
+        None => Ok(false),
+    }
+}
+
 #[test]
-fn wrong_trees_are_told(rt: HostRuntime) -> Result<(), Fail> {
-    let Shaken { stamps, ended, .. } = alone(1).shake(&rt, rt.alloc())?;
-    let Some(Ended { store, clock }) = ended else {
-        panic!(rt; "a lost tree");
-    };
-    assert!(rt; agree(rt.alloc(), &store, &store)?);
-    let store = SlabStore::new(rt.alloc())?;
-    let wrong = judge(rt.alloc(), stamps, Some(Ended { store, clock }))?;
-    assert!(rt; matches!(wrong, Some(Wrong::Tree)));
-    let Shaken { stamps, .. } = alone(1).shake(&rt, rt.alloc())?;
-    let wrong = judge(rt.alloc(), stamps, None)?;
-    assert!(rt; matches!(wrong, Some(Wrong::Lost)));
+fn wrong_records_and_trees_are_told(rt: HostRuntime) -> Result<(), Fail> {
+    for (deed, want) in DEEDS.iter() {
+        let wrong = wrong_after(&rt, rt.alloc(), *deed)?;
+        assert_eq!(rt; word(&wrong), *want);
+    }
+    assert!(rt; agrees(&rt, rt.alloc())?);
     Ok(())
 }

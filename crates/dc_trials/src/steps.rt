@@ -2,12 +2,13 @@
 
 ghost use Rattle.dc_cache.specs.Passes.{Fits, IsChange};
 
-use crate::answers::{create, is, is_made, mkdir, symlink, unlink};
+use crate::answers::{Want, create, is, is_made, link, mkdir, rename, rmdir, symlink, unlink};
 use dc_cache::{
-    Call, ChangeFault, Dcache, Fast, Follow, NoMemory, Pass, ROOT, Reply, Stamped, Why, parse,
+    Call, ChangeFault, Dcache, Fast, Follow, NoMemory, Pass, ROOT, Stamped, Why, parse,
 };
 use std::alloc::Global;
 use std::sync::Wait;
+use std::test::Fail;
 
 /// A change from the root.
 #[derive(Clone, Copy)]
@@ -17,22 +18,26 @@ pub enum Act<'a> {
     /// A text, and the path of the link that has it.
     Symlink(&'a [u8], &'a [u8]),
     Unlink(&'a [u8]),
+    Rmdir(&'a [u8]),
+    /// The old path and the new one.
+    Link(&'a [u8], &'a [u8]),
+    Rename(&'a [u8], &'a [u8]),
 }
 
 /// A step from the root, then its reply and point.
-#[derive(Drop)]
+#[derive(Clone, Copy)]
 pub enum Step<'a> {
-    Change(Act<'a>, Reply, u64),
-    Look(&'a [u8], Follow, Reply, u64),
+    Change(Act<'a>, Want<'a>, u64),
+    Look(&'a [u8], Follow, Want<'a>, u64),
     /// A look-up that fills the rows of its whole path.
-    Filled(&'a [u8], Reply, u64),
+    Filled(&'a [u8], Want<'a>, u64),
     /// A look-up that fills and pins a row for each name.
-    Counted(&'a [u8], Reply, u64),
-    Stat(&'a [u8], Reply, u64),
-    Readlink(&'a [u8], Reply, u64),
-    List(&'a [u8], Reply, u64),
+    Counted(&'a [u8], Want<'a>, u64),
+    Stat(&'a [u8], Want<'a>, u64),
+    Readlink(&'a [u8], Want<'a>, u64),
+    List(&'a [u8], Want<'a>, u64),
     /// A walk by the rows alone.
-    Fast(&'a [u8], Reply, u64),
+    Fast(&'a [u8], Want<'a>, u64),
     /// A walk by the rows alone that has no answer, and why.
     Again(&'a [u8], Why),
     /// So many rows are to be emptied at most, and so many are.
@@ -42,18 +47,18 @@ pub enum Step<'a> {
 }
 
 /// A step that never waits, then its reply and point.
-#[derive(Drop)]
+#[derive(Clone, Copy)]
 pub enum Tried<'a> {
-    Change(Act<'a>, Reply, u64),
-    Look(&'a [u8], Follow, Reply, u64),
-    Stat(&'a [u8], Reply, u64),
-    Readlink(&'a [u8], Reply, u64),
-    List(&'a [u8], Reply, u64),
+    Change(Act<'a>, Want<'a>, u64),
+    Look(&'a [u8], Follow, Want<'a>, u64),
+    Stat(&'a [u8], Want<'a>, u64),
+    Readlink(&'a [u8], Want<'a>, u64),
+    List(&'a [u8], Want<'a>, u64),
     /// So many rows are to be emptied at most, and so many are.
     Shrink(u64, u64),
 }
 
-fn call_of<'a>(act: Act<'a>) -> Call<'a>
+pub fn call_of<'a>(act: Act<'a>) -> Call<'a>
     ensures { IsChange result }
 {
     match act {
@@ -61,6 +66,9 @@ fn call_of<'a>(act: Act<'a>) -> Call<'a>
         Act::Create(path) => create(path),
         Act::Symlink(text, path) => symlink(text, path),
         Act::Unlink(path) => unlink(path),
+        Act::Rmdir(path) => rmdir(path),
+        Act::Link(old, new) => link(old, new),
+        Act::Rename(old, new) => rename(old, new),
     }
 }
 
@@ -116,9 +124,9 @@ fn look_filled<R: Wait>(
 }
 
 /// Whether a walk was answered so.
-fn is_done(found: &Option<Fast>, reply: &Reply, at: u64) -> bool {
+fn is_done(found: &Option<Fast>, want: Want<'_>, at: u64) -> bool {
     match found {
-        Some(Fast::Done(stamped)) => is(stamped, reply, at),
+        Some(Fast::Done(stamped)) => is(stamped, want, at),
         _ => false,
     }
 }
@@ -132,33 +140,33 @@ fn is_again(found: &Option<Fast>, why: Why) -> bool {
 }
 
 /// Whether a read was answered so.
-pub fn is_told(told: &Result<Stamped, NoMemory>, reply: &Reply, at: u64) -> bool {
+pub fn is_told(told: &Result<Stamped, NoMemory>, want: Want<'_>, at: u64) -> bool {
     match told {
-        Ok(stamped) => is(stamped, reply, at),
+        Ok(stamped) => is(stamped, want, at),
         Err(_) => false,
     }
 }
 
 /// Whether a look-up that never waits was answered so.
-pub fn is_found(found: &Option<Stamped>, reply: &Reply, at: u64) -> bool {
+pub fn is_found(found: &Option<Stamped>, want: Want<'_>, at: u64) -> bool {
     match found {
-        Some(found) => is(found, reply, at),
+        Some(found) => is(found, want, at),
         None => false,
     }
 }
 
 /// Whether a read that never waits was answered so.
-fn is_read(told: &Option<Result<Stamped, NoMemory>>, reply: &Reply, at: u64) -> bool {
+fn is_read(told: &Option<Result<Stamped, NoMemory>>, want: Want<'_>, at: u64) -> bool {
     match told {
-        Some(told) => is_told(told, reply, at),
+        Some(told) => is_told(told, want, at),
         None => false,
     }
 }
 
 /// Whether a change that never waits was answered so.
-fn is_changed(made: &Option<Result<Stamped, ChangeFault>>, reply: &Reply, at: u64) -> bool {
+pub fn is_changed(made: &Option<Result<Stamped, ChangeFault>>, want: Want<'_>, at: u64) -> bool {
     match made {
-        Some(made) => is_made(made, reply, at),
+        Some(made) => is_made(made, want, at),
         None => false,
     }
 }
@@ -169,22 +177,22 @@ fn is_tried(alloc: Global, cache: &Dcache, pass: &mut Pass, tried: &Tried<'_>) -
     ensures { Fits cache.now pass.new }
 {
     match tried {
-        Tried::Change(act, reply, at) => {
-            is_changed(&cache.try_change(alloc, pass, &call_of(*act)), reply, *at)
+        Tried::Change(act, want, at) => {
+            is_changed(&cache.try_change(alloc, pass, &call_of(*act)), *want, *at)
         }
-        Tried::Look(path, follow, reply, at) => {
+        Tried::Look(path, follow, want, at) => {
             is_found(
                 &cache.try_look(alloc, pass, ROOT, path, *follow),
-                reply,
+                *want,
                 *at,
             )
         }
-        Tried::Stat(path, reply, at) => is_found(&cache.try_stat(pass, ROOT, path), reply, *at),
-        Tried::Readlink(path, reply, at) => {
-            is_read(&cache.try_readlink(alloc, pass, ROOT, path), reply, *at)
+        Tried::Stat(path, want, at) => is_found(&cache.try_stat(pass, ROOT, path), *want, *at),
+        Tried::Readlink(path, want, at) => {
+            is_read(&cache.try_readlink(alloc, pass, ROOT, path), *want, *at)
         }
-        Tried::List(path, reply, at) => {
-            is_read(&cache.try_list(alloc, pass, ROOT, path), reply, *at)
+        Tried::List(path, want, at) => {
+            is_read(&cache.try_list(alloc, pass, ROOT, path), *want, *at)
         }
         Tried::Shrink(most, emptied) => cache.try_shrink(pass, *most) == Some(*emptied),
     }
@@ -196,26 +204,26 @@ fn is_so<R: Wait>(rt: &R, alloc: Global, cache: &Dcache, pass: &mut Pass, step: 
     ensures { Fits cache.now pass.new }
 {
     match step {
-        Step::Change(act, reply, at) => {
-            is_made(&cache.change(rt, alloc, pass, &call_of(*act)), reply, *at)
+        Step::Change(act, want, at) => {
+            is_made(&cache.change(rt, alloc, pass, &call_of(*act)), *want, *at)
         }
-        Step::Look(path, follow, reply, at) => {
-            is(&look(rt, alloc, cache, pass, path, *follow), reply, *at)
+        Step::Look(path, follow, want, at) => {
+            is(&look(rt, alloc, cache, pass, path, *follow), *want, *at)
         }
-        Step::Filled(path, reply, at) => {
-            is(&look_filled(rt, alloc, cache, pass, path), reply, *at)
+        Step::Filled(path, want, at) => {
+            is(&look_filled(rt, alloc, cache, pass, path), *want, *at)
         }
-        Step::Counted(path, reply, at) => {
-            is_done(&look_counted(rt, alloc, cache, pass, path), reply, *at)
+        Step::Counted(path, want, at) => {
+            is_done(&look_counted(rt, alloc, cache, pass, path), *want, *at)
         }
-        Step::Stat(path, reply, at) => is(&cache.stat(rt, pass, ROOT, path), reply, *at),
-        Step::Readlink(path, reply, at) => {
-            is_told(&cache.readlink(rt, alloc, pass, ROOT, path), reply, *at)
+        Step::Stat(path, want, at) => is(&cache.stat(rt, pass, ROOT, path), *want, *at),
+        Step::Readlink(path, want, at) => {
+            is_told(&cache.readlink(rt, alloc, pass, ROOT, path), *want, *at)
         }
-        Step::List(path, reply, at) => {
-            is_told(&cache.list(rt, alloc, pass, ROOT, path), reply, *at)
+        Step::List(path, want, at) => {
+            is_told(&cache.list(rt, alloc, pass, ROOT, path), *want, *at)
         }
-        Step::Fast(path, reply, at) => is_done(&look_fast(cache, pass, path), reply, *at),
+        Step::Fast(path, want, at) => is_done(&look_fast(cache, pass, path), *want, *at),
         Step::Again(path, why) => is_again(&look_fast(cache, pass, path), *why),
         Step::Shrink(most, emptied) => cache.shrink(rt, pass, *most) == *emptied,
         Step::Try(tried) => is_tried(alloc, cache, pass, tried),
@@ -224,7 +232,7 @@ fn is_so<R: Wait>(rt: &R, alloc: Global, cache: &Dcache, pass: &mut Pass, step: 
 
 /// Takes the steps one after the other. It tells which one, counted from 0, came to something else, or
 /// `None` where each came to what it should.
-pub fn play<R: Wait>(
+pub fn first_other<R: Wait>(
     rt: &R,
     alloc: Global,
     cache: &Dcache,
@@ -240,4 +248,33 @@ pub fn play<R: Wait>(
         }
     }
     None
+}
+
+/// Takes the steps one after the other, and fails where one comes to something else.
+pub fn play<R: Wait>(
+    rt: &R,
+    alloc: Global,
+    cache: &Dcache,
+    pass: &mut Pass,
+    steps: &[Step<'_>],
+) -> Result<(), Fail>
+    requires { Fits cache.now pass.old }
+    ensures { Fits cache.now pass.new }
+{
+    match first_other(rt, alloc, cache, pass, steps) {
+        Some(number) => Err(Fail::from(("step", number))),
+        None => Ok(()),
+    }
+}
+
+/// The same of one pass over a new cache of so many buckets and inodes.
+pub fn play_anew<R: Wait>(
+    rt: &R,
+    alloc: Global,
+    buckets: u64,
+    max_inodes: u64,
+    steps: &[Step<'_>],
+) -> Result<(), Fail> {
+    let (cache, mut pass) = Dcache::new(alloc, buckets, max_inodes)?;
+    play(rt, alloc, &cache, &mut pass, steps)
 }

@@ -4,6 +4,7 @@
 ghost use Rattle.std.specs.Thread.{IsSync};
 ghost use Rattle.dc_cache.specs.Passes.{Fits, IsChange};
 
+use crate::answers::Want;
 use crate::numbers::next;
 use crate::steps::{Step, play};
 use dc_cache::{Call, Dcache, Flags, Follow, Pass, ROOT, Reply};
@@ -15,7 +16,7 @@ use std::thread::{Threads, join};
 /// How many calls each thread makes.
 const CALLS: u64 = 200;
 
-const PATHS: [&[u8]; 8] = [
+static PATHS: [&[u8]; 8] = [
     b"/a", b"/b", b"/a/c", b"/b/c", b"/a/c/..", b"/a/c/d", b"/b/c/d", b"/e",
 ];
 
@@ -166,14 +167,13 @@ fn no_pin_outlives_its_walk(rt: HostRuntime) -> Result<(), Fail> {
     assert!(rt; cache.shrink(&rt, &mut pass, 4) == 0);
     let at = absent_at(&rt, rt.alloc(), &cache, &mut pass, b"w").expect(&rt, "an absent name");
     let steps = [
-        Step::Look(b"x", Follow::Yes, Reply::Refused(2), at),
-        Step::Look(b"y", Follow::Yes, Reply::Refused(2), at),
-        Step::Look(b"z", Follow::Yes, Reply::Refused(2), at),
-        Step::Fast(b"w", Reply::Refused(2), at),
-        Step::Fast(b"x", Reply::Refused(2), at),
-        Step::Fast(b"y", Reply::Refused(2), at),
-        Step::Fast(b"z", Reply::Refused(2), at),
+        Step::Look(b"x", Follow::Yes, Want::Refused(2), at),
+        Step::Look(b"y", Follow::Yes, Want::Refused(2), at),
+        Step::Look(b"z", Follow::Yes, Want::Refused(2), at),
+        Step::Fast(b"w", Want::Refused(2), at),
+        Step::Fast(b"x", Want::Refused(2), at),
+        Step::Fast(b"y", Want::Refused(2), at),
+        Step::Fast(b"z", Want::Refused(2), at),
     ];
-    assert_eq!(rt; play(&rt, rt.alloc(), &cache, &mut pass, &steps), None);
-    Ok(())
+    play(&rt, rt.alloc(), &cache, &mut pass, &steps)
 }

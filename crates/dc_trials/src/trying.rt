@@ -3,10 +3,10 @@
 ghost use Rattle.std.specs.Thread.{IsSync};
 ghost use Rattle.dc_cache.specs.Passes.{Fits};
 
-use crate::answers::{is_made, mkdir};
+use crate::answers::{Want, mkdir};
 use crate::passes::fill;
-use crate::steps::{Act, Step, Tried, is_found, play};
-use dc_cache::{Dcache, Follow, Kind, Pass, ROOT, Reply, Sleepless, Why};
+use crate::steps::{Act, Step, Tried, is_changed, is_found, play, play_anew};
+use dc_cache::{Dcache, Follow, Kind, Pass, ROOT, Sleepless, Why};
 use std::alloc::Global;
 use std::sync::Wait;
 use std::sync::atomic::{AtomicBool, Ordering};
@@ -78,8 +78,7 @@ fn is_answered(alloc: Global, cache: &Dcache, pass: &mut Pass) -> bool
 {
     let root = cache.try_look(alloc, pass, ROOT, b"/..", Follow::Yes);
     let none = cache.try_look(alloc, pass, ROOT, b"", Follow::Yes);
-    is_found(&root, &Reply::Found(1, Kind::Dir), FILES)
-        && is_found(&none, &Reply::Refused(2), FILES)
+    is_found(&root, Want::Found(1, Kind::Dir), FILES) && is_found(&none, Want::Refused(2), FILES)
 }
 
 /// Tries a call until another pass has the lock, and says whether it came to that, and whether look-ups
@@ -144,6 +143,12 @@ fn try_meanwhile<R: Threads + Wait + Sync>(
     (pass, refused)
 }
 
+static FREE: [Step<'static>; 1] = [Step::Try(Tried::Change(
+    Act::Mkdir(b"/a"),
+    Want::Done(FILES + 2),
+    FILES,
+))];
+
 #[test]
 fn a_held_lock_is_no_answer(rt: HostRuntime) -> Result<(), Fail> {
     let (cache, pass) = Dcache::new(rt.alloc(), 16, 1024).expect(&rt, "memory");
@@ -152,46 +157,37 @@ fn a_held_lock_is_no_answer(rt: HostRuntime) -> Result<(), Fail> {
     let over = AtomicBool::new(false);
     let (mut pass, refused) = try_meanwhile(&rt, rt.alloc(), &cache, pass, &over);
     assert!(rt; refused);
-    let free = [Step::Try(Tried::Change(Act::Mkdir(b"/a"), Reply::Done(FILES + 2), FILES))];
-    assert_eq!(rt; play(&rt, rt.alloc(), &cache, &mut pass, &free), None);
-    Ok(())
+    play(&rt, rt.alloc(), &cache, &mut pass, &FREE)
 }
+
+static WHOLE_PATH: [Step<'static>; 6] = [
+    Step::Try(Tried::Change(Act::Mkdir(b"/d"), Want::Done(2), 0)),
+    Step::Try(Tried::Change(Act::Create(b"/d/f"), Want::Done(3), 1)),
+    Step::Try(Tried::Change(Act::Symlink(b"./d", b"/s"), Want::Done(4), 2)),
+    Step::Again(b"/d/../s/f", Why::Miss(0)),
+    Step::Try(Tried::Look(b"/d/../s/f", Follow::Yes, Want::Found(3, Kind::File), 3)),
+    Step::Fast(b"/d/../s/f", Want::Found(3, Kind::File), 3),
+];
 
 /// The rows of each name, dot-dot and link of the path are filled at once.
 #[test]
 fn one_look_fills_the_whole_path(rt: HostRuntime) -> Result<(), Fail> {
-    let (cache, mut p) = Dcache::new(rt.alloc(), 16, 16).expect(&rt, "memory");
-    let path = b"/d/../s/f";
-    let file = || Reply::Found(3, Kind::File);
-    let steps = [
-        Step::Try(Tried::Change(Act::Mkdir(b"/d"), Reply::Done(2), 0)),
-        Step::Try(Tried::Change(Act::Create(b"/d/f"), Reply::Done(3), 1)),
-        Step::Try(Tried::Change(Act::Symlink(b"./d", b"/s"), Reply::Done(4), 2)),
-        Step::Again(path, Why::Miss(0)),
-        Step::Try(Tried::Look(path, Follow::Yes, file(), 3)),
-        Step::Fast(path, file(), 3),
-    ];
-    assert_eq!(rt; play(&rt, rt.alloc(), &cache, &mut p, &steps), None);
-    Ok(())
+    play_anew(&rt, rt.alloc(), 16, 16, &WHOLE_PATH)
 }
+
+static ANSWERED: [Step<'static>; 7] = [
+    Step::Try(Tried::Change(Act::Symlink(b"./d", b"/s"), Want::Done(2), 0)),
+    Step::Try(Tried::Look(b"/s", Follow::No, Want::Found(2, Kind::Link), 1)),
+    Step::Try(Tried::Stat(b"/", Want::Stat(1, Kind::Dir, 1), 1)),
+    Step::Try(Tried::Readlink(b"/s", Want::Text(b"./d"), 1)),
+    Step::Try(Tried::List(b"/", Want::Names(&[b"s"]), 1)),
+    Step::Try(Tried::Shrink(2, 1)),
+    Step::Again(b"/s", Why::Miss(0)),
+];
 
 #[test]
 fn a_free_lock_is_an_answer(rt: HostRuntime) -> Result<(), Fail> {
-    let (cache, mut p) = Dcache::new(rt.alloc(), 1, 16).expect(&rt, "memory");
-    let text = Vec::from_slice(rt.alloc(), b"./d")?;
-    let s = Vec::from_slice(rt.alloc(), b"s")?;
-    let names = Vec::from_array(rt.alloc(), [s])?;
-    let steps = [
-        Step::Try(Tried::Change(Act::Symlink(b"./d", b"/s"), Reply::Done(2), 0)),
-        Step::Try(Tried::Look(b"/s", Follow::No, Reply::Found(2, Kind::Link), 1)),
-        Step::Try(Tried::Stat(b"/", Reply::Stat(1, Kind::Dir, 1), 1)),
-        Step::Try(Tried::Readlink(b"/s", Reply::Text(text), 1)),
-        Step::Try(Tried::List(b"/", Reply::Names(names), 1)),
-        Step::Try(Tried::Shrink(2, 1)),
-        Step::Again(b"/s", Why::Miss(0)),
-    ];
-    assert_eq!(rt; play(&rt, rt.alloc(), &cache, &mut p, &steps), None);
-    Ok(())
+    play_anew(&rt, rt.alloc(), 1, 16, &ANSWERED)
 }
 
 #[test]
@@ -199,7 +195,7 @@ fn nobody_sleeps_on_a_cache_without_waiting(rt: HostRuntime) -> Result<(), Fail>
     let (cache, mut p) = Sleepless::new(rt.alloc(), 1, 16).expect(&rt, "memory");
     let mut q = cache.split(&mut p);
     let made = cache.try_change(rt.alloc(), &mut q, &mkdir(b"/a"));
-    assert!(rt; is_made(&made.expect(&rt, "the lock is free"), &Reply::Done(2), 0));
+    assert!(rt; is_changed(&made, Want::Done(2), 0));
     cache.join(&mut p, q);
     assert!(rt; cache.learn(&mut p, 1).is_ok() && cache.learn(&mut p, 2).is_err());
     assert!(rt; cache.counts().sleeps == 0);

@@ -1,5 +1,5 @@
 //! Renames that may not replace, and exchanges: replies by the rules, worked out by hand.
-use super::{Row, first_on_both};
+use super::{Row, answer_by_both};
 use crate::calls::{Ask, Want};
 use dc_names::Kind;
 use std::test::Fail;
@@ -41,9 +41,7 @@ static EXCHANGES: [Row; 27] = [
 
 #[test]
 fn exchanges_of_all_kinds(rt: HostRuntime) -> Result<(), Fail> {
-    let other = first_on_both(rt.alloc(), &EXCHANGES)?;
-    assert!(rt; other == EXCHANGES.len(), "row {other}");
-    Ok(())
+    answer_by_both(rt.alloc(), &EXCHANGES)
 }
 
 /// Names of one inode, what lies beneath, and names that are missing.
@@ -79,9 +77,7 @@ static NOTHING_ALTERED: [Row; 23] = [
 
 #[test]
 fn exchanges_that_alter_nothing(rt: HostRuntime) -> Result<(), Fail> {
-    let other = first_on_both(rt.alloc(), &NOTHING_ALTERED)?;
-    assert!(rt; other == NOTHING_ALTERED.len(), "row {other}");
-    Ok(())
+    answer_by_both(rt.alloc(), &NOTHING_ALTERED)
 }
 
 /// Names that have to be free, and the order of what is refused.
@@ -104,9 +100,7 @@ static NOT_REPLACED: [Row; 14] = [
 
 #[test]
 fn names_that_are_not_replaced(rt: HostRuntime) -> Result<(), Fail> {
-    let other = first_on_both(rt.alloc(), &NOT_REPLACED)?;
-    assert!(rt; other == NOT_REPLACED.len(), "row {other}");
-    Ok(())
+    answer_by_both(rt.alloc(), &NOT_REPLACED)
 }
 
 /// Both flags come before the texts; dot, dot-dot and the root are refused by each flag alike.
@@ -129,7 +123,5 @@ static LAST_PARTS: [Row; 14] = [
 
 #[test]
 fn flags_and_last_parts(rt: HostRuntime) -> Result<(), Fail> {
-    let other = first_on_both(rt.alloc(), &LAST_PARTS)?;
-    assert!(rt; other == LAST_PARTS.len(), "row {other}");
-    Ok(())
+    answer_by_both(rt.alloc(), &LAST_PARTS)
 }

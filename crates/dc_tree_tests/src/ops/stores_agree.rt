@@ -81,40 +81,54 @@ impl Three {
     }
 }
 
-#[test]
-fn stores_answer_alike(rt: HostRuntime) -> Result<(), Fail> {
-    let mut three = Three::new(rt.alloc())?;
+/// How often each kind of reply came to a thousand calls, and the next number of a slab. It fails where two
+/// replies differ.
+fn answer_alike(alloc: Global) -> Result<([u32; 7], u64), Fail> {
+    let mut three = Three::new(alloc)?;
     let mut seen = [0; 7];
     let mut number = 7;
     for _ in 0..1000 {
         number = drawn(number);
-        let Some(reply) = three.answer(rt.alloc(), &ask_of(number).call())? else {
-            panic!(rt; "two replies differ");
+        let Some(reply) = three.answer(alloc, &ask_of(number).call())? else {
+            return Err(Fail::from("two replies differ"));
         };
         counted(&mut seen, &reply);
     }
+    Ok((seen, three.slab.next()))
+}
+
+#[test]
+fn stores_answer_alike(rt: HostRuntime) -> Result<(), Fail> {
+    let (seen, next) = answer_alike(rt.alloc())?;
     // Every kind of reply came, and twice as many inodes were made as may live, so slab keys were used again.
     assert!(rt; seen.iter().all(|times| *times >= 10));
-    assert!(rt; three.slab.next() > 32);
+    assert!(rt; next > 32);
     Ok(())
 }
 
-/// After every two other calls comes an exchange of two of the paths.
-#[test]
-fn stores_exchange_alike(rt: HostRuntime) -> Result<(), Fail> {
-    let mut three = Three::new(rt.alloc())?;
+/// What is asked at a step: after every two other calls comes an exchange of two of the paths.
+fn ask_at(step: u32, number: u32) -> Ask<'static> {
+    if step % 3 == 2 {
+        Ask::Exchange(path_of(number), path_of(drawn(number)))
+    } else {
+        ask_of(number)
+    }
+}
+
+/// Fails where two replies to nine hundred calls differ.
+fn exchange_alike(alloc: Global) -> Result<(), Fail> {
+    let mut three = Three::new(alloc)?;
     let mut number = 7;
     for step in 0..900 {
         number = drawn(number);
-        let ask = if step % 3 == 2 {
-            Ask::Exchange(path_of(number), path_of(drawn(number)))
-        } else {
-            ask_of(number)
-        };
-        assert!(rt;
-            three.answer(rt.alloc(), &ask.call())?.is_some(),
-            "step {step}"
-        );
+        if three.answer(alloc, &ask_at(step, number).call())?.is_none() {
+            return Err(Fail::from(("step", step)));
+        }
     }
     Ok(())
+}
+
+#[test]
+fn stores_exchange_alike(rt: HostRuntime) -> Result<(), Fail> {
+    exchange_alike(rt.alloc())
 }

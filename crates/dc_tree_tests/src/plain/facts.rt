@@ -53,15 +53,22 @@ static HELD: [(Told, bool); 6] = [
     (Told::Text(2, b"a"), false),
 ];
 
-#[test]
-fn holds_what_is_so(rt: HostRuntime) -> Result<(), Fail> {
-    let tree = small_tree(rt.alloc())?;
+/// Fails where a fact holds that is not to, or the other way round.
+fn hold_so(alloc: Global) -> Result<(), Fail> {
+    let tree = small_tree(alloc)?;
     for (told, holds) in HELD.iter() {
         let fact = told.fact().ok_or("no fact")?;
-        assert!(rt; tree.holds(&fact) == *holds, "{told:?}");
+        if tree.holds(&fact) != *holds {
+            return Err(Fail::from(*told));
+        }
     }
-    untouched_facts_stay();
     Ok(())
+}
+
+#[test]
+fn holds_what_is_so(rt: HostRuntime) -> Result<(), Fail> {
+    untouched_facts_stay();
+    hold_so(rt.alloc())
 }
 
 /// Facts, and whether the link's removal touches them.
@@ -71,16 +78,21 @@ static TOUCHED: [(Told, bool); 3] = [
     (Told::Name(1, b"a", None), false),
 ];
 
-#[test]
-fn touches_what_alters(rt: HostRuntime) -> Result<(), Fail> {
-    let tree = small_tree(rt.alloc())?;
-    let unlink = Ask::Unlink(b"/l").call();
+/// Fails where the link's removal touches a fact that it is not to, or the other way round.
+fn touch_so(alloc: Global) -> Result<(), Fail> {
+    let tree = small_tree(alloc)?;
     for (told, touches) in TOUCHED.iter() {
         let fact = told.fact().ok_or("no fact")?;
-        let found = tree.touches(rt.alloc(), &unlink, &fact)?;
-        assert!(rt; found == *touches, "{told:?}");
+        if tree.touches(alloc, &Ask::Unlink(b"/l").call(), &fact)? != *touches {
+            return Err(Fail::from(*told));
+        }
     }
     Ok(())
+}
+
+#[test]
+fn touches_what_alters(rt: HostRuntime) -> Result<(), Fail> {
+    touch_so(rt.alloc())
 }
 
 /// What is told, and the answers that follow, if one does.
@@ -113,12 +125,18 @@ fn is_answered(
     })
 }
 
-#[test]
-fn answers_by_facts(rt: HostRuntime) -> Result<(), Fail> {
-    let mut facts = Vec::new(rt.alloc());
+/// The facts that are told.
+fn facts(alloc: Global) -> Result<Vec<Fact<'static>>, Fail> {
+    let mut facts = Vec::new(alloc);
     for told in FACTS.iter() {
         facts.push(told.fact().ok_or("no fact")?)?;
     }
+    Ok(facts)
+}
+
+#[test]
+fn answers_by_facts(rt: HostRuntime) -> Result<(), Fail> {
+    let facts = facts(rt.alloc())?;
     for (ask, want) in ANSWERS.iter() {
         assert!(rt; is_answered(rt.alloc(), &facts, *ask, *want)?);
     }
