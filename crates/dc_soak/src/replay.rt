@@ -90,8 +90,8 @@ impl<'a> Replay<'a> {
             clock: 0,
             change: None,
         };
-        for stamp in by_point(alloc, stamps)? {
-            replay.take(alloc, stamp, inodes)?;
+        for stamp in &by_point(alloc, stamps)? {
+            replay.take(alloc, *stamp, inodes)?;
         }
         replay.settle(alloc, inodes)?;
         Ok(replay)
@@ -106,6 +106,14 @@ fn lead_alike(one: &SlabStore, other: &SlabStore, dir: u64, names: &[Vec<u8>]) -
     })
 }
 
+/// Whether both have the same under a number, but for the names in it.
+fn agree_but_names(one: &SlabStore, other: &SlabStore, number: u64) -> bool {
+    one.kind(number) == other.kind(number)
+        && one.parent(number) == other.parent(number)
+        && one.text(number) == other.text(number)
+        && one.count(number) == other.count(number)
+}
+
 /// Whether both have the same under a number.
 fn agree_at(
     alloc: Global,
@@ -115,10 +123,7 @@ fn agree_at(
 ) -> Result<bool, NoMemory> {
     let names = one.list(alloc, number)?;
     Ok(
-        one.kind(number) == other.kind(number)
-            && one.parent(number) == other.parent(number)
-            && one.text(number) == other.text(number)
-            && one.count(number) == other.count(number)
+        agree_but_names(one, other, number)
             && names == other.list(alloc, number)?
             && lead_alike(one, other, number, &names),
     )
