@@ -83,6 +83,19 @@ impl<'a> Replay<'a> {
         Ok(())
     }
 
+    /// Takes some stamps by their points, and makes the last change among them.
+    fn take_all(
+        &mut self,
+        alloc: Global,
+        stamps: &'a [Stamp],
+        inodes: u64,
+    ) -> Result<(), NoMemory> {
+        for stamp in &by_point(alloc, stamps)? {
+            self.take(alloc, *stamp, inodes)?;
+        }
+        self.settle(alloc, inodes)
+    }
+
     /// The tree after all changes among some stamps.
     pub fn of(alloc: Global, stamps: &'a [Stamp], inodes: u64) -> Result<Replay<'a>, NoMemory> {
         let mut replay = Replay {
@@ -90,20 +103,22 @@ impl<'a> Replay<'a> {
             clock: 0,
             change: None,
         };
-        for stamp in &by_point(alloc, stamps)? {
-            replay.take(alloc, *stamp, inodes)?;
-        }
-        replay.settle(alloc, inodes)?;
+        replay.take_all(alloc, stamps, inodes)?;
         Ok(replay)
     }
 }
 
 /// Whether names lead to the same numbers in a directory of both.
 fn lead_alike(one: &SlabStore, other: &SlabStore, dir: u64, names: &[Vec<u8>]) -> bool {
-    names.iter().all(|name| match Name::new(name) {
-        Some(name) => one.find(dir, name) == other.find(dir, name),
-        None => false,
-    })
+    for name in names {
+        let Some(name) = Name::new(name) else {
+            return false;
+        };
+        if one.find(dir, name) != other.find(dir, name) {
+            return false;
+        }
+    }
+    true
 }
 
 /// Whether both have the same under a number, but for the names in it.
