@@ -83,6 +83,19 @@ impl<'a> Replay<'a> {
         Ok(())
     }
 
+    /// Takes some stamps by their points, and makes the last change among them.
+    fn take_all(
+        &mut self,
+        alloc: Global,
+        stamps: &'a [Stamp],
+        inodes: u64,
+    ) -> Result<(), NoMemory> {
+        for stamp in &by_point(alloc, stamps)? {
+            self.take(alloc, *stamp, inodes)?;
+        }
+        self.settle(alloc, inodes)
+    }
+
     /// The tree after all changes among some stamps.
     pub fn of(alloc: Global, stamps: &'a [Stamp], inodes: u64) -> Result<Replay<'a>, NoMemory> {
         let mut replay = Replay {
@@ -90,20 +103,30 @@ impl<'a> Replay<'a> {
             clock: 0,
             change: None,
         };
-        for stamp in by_point(alloc, stamps)? {
-            replay.take(alloc, stamp, inodes)?;
-        }
-        replay.settle(alloc, inodes)?;
+        replay.take_all(alloc, stamps, inodes)?;
         Ok(replay)
     }
 }
 
 /// Whether names lead to the same numbers in a directory of both.
 fn lead_alike(one: &SlabStore, other: &SlabStore, dir: u64, names: &[Vec<u8>]) -> bool {
-    names.iter().all(|name| match Name::new(name) {
-        Some(name) => one.find(dir, name) == other.find(dir, name),
-        None => false,
-    })
+    for name in names {
+        let Some(name) = Name::new(name) else {
+            return false;
+        };
+        if one.find(dir, name) != other.find(dir, name) {
+            return false;
+        }
+    }
+    true
+}
+
+/// Whether both have the same under a number, but for the names in it.
+fn agree_but_names(one: &SlabStore, other: &SlabStore, number: u64) -> bool {
+    one.kind(number) == other.kind(number)
+        && one.parent(number) == other.parent(number)
+        && one.text(number) == other.text(number)
+        && one.count(number) == other.count(number)
 }
 
 /// Whether both have the same under a number.
@@ -115,10 +138,7 @@ fn agree_at(
 ) -> Result<bool, NoMemory> {
     let names = one.list(alloc, number)?;
     Ok(
-        one.kind(number) == other.kind(number)
-            && one.parent(number) == other.parent(number)
-            && one.text(number) == other.text(number)
-            && one.count(number) == other.count(number)
+        agree_but_names(one, other, number)
             && names == other.list(alloc, number)?
             && lead_alike(one, other, number, &names),
     )

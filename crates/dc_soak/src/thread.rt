@@ -8,7 +8,7 @@ use crate::ways::{Way, answer, shrink};
 use dc_cache::{Dcache, Pass};
 use dc_check::Stamp;
 use dc_names::{Kind, NoMemory};
-use dc_plain::Reply;
+use dc_plain::{OwnCall, Reply, Stamped};
 use std::alloc::Global;
 use std::sync::Wait;
 
@@ -40,6 +40,22 @@ impl Thread {
         }
     }
 
+    /// Keeps what a call was answered.
+    fn keep(&mut self, call: OwnCall, answer: Stamped) -> Result<(), NoMemory> {
+        let Stamped { reply, at } = answer;
+        self.tally.count(&call, &reply);
+        if let Reply::Found(number, Kind::Dir) = reply {
+            self.draw.base = number;
+        }
+        self.stamps.push(Stamp {
+            session: self.session,
+            call,
+            reply,
+            at,
+        })?;
+        Ok(())
+    }
+
     /// Makes a call.
     fn call<R: Wait>(
         &mut self,
@@ -52,27 +68,9 @@ impl Thread {
         ensures { Fits cache.now pass.new }
     {
         let (call, way) = (self.draw.call()?, self.way());
-        let stamped = answer(
-            rt,
-            alloc,
-            cache,
-            pass,
-            &call.as_call(),
-            way,
-            &mut self.tally,
-        )?;
-        let (reply, at) = (stamped.reply, stamped.at);
-        self.tally.count(&call, &reply);
-        if let Reply::Found(number, Kind::Dir) = reply {
-            self.draw.base = number;
-        }
-        self.stamps.push(Stamp {
-            session: self.session,
-            call,
-            reply,
-            at,
-        })?;
-        Ok(())
+        let asked = call.as_call();
+        let stamped = answer(rt, alloc, cache, pass, &asked, way, &mut self.tally)?;
+        self.keep(call, stamped)
     }
 
     /// Makes calls by a pass that is split off and by its parent in turns, and takes it in again.

@@ -30,6 +30,36 @@ struct Asked<'a> {
     follow: Follow,
 }
 
+/// Looks a path up by the rows alone, and in one way by rows that are filled for it.
+fn look_by_rows<R: Wait>(
+    rt: &R,
+    alloc: Global,
+    cache: &Dcache,
+    pass: &mut Pass,
+    asked: Asked<'_>,
+    way: Way,
+    tally: &mut Tally,
+) -> Option<Stamped>
+    requires { Fits cache.now pass.old }
+    ensures { Fits cache.now pass.new }
+{
+    let Asked { base, path, follow } = asked;
+    let text = parse(path).ok()?;
+    match cache.look_fast(pass, base, text, follow) {
+        Fast::Done(found) => {
+            tally.count_hit();
+            return Some(found);
+        }
+        Fast::Again(why) => tally.count_cause(&why),
+    }
+    if let Way::Fills = way
+        && let Fast::Done(found) = cache.look_counted(rt, alloc, pass, base, text, follow)
+    {
+        return Some(found);
+    }
+    None
+}
+
 /// Looks a path up, by the rows alone if they answer.
 fn look<R: Wait>(
     rt: &R,
@@ -43,21 +73,10 @@ fn look<R: Wait>(
     requires { Fits cache.now pass.old }
     ensures { Fits cache.now pass.new }
 {
-    let Asked { base, path, follow } = asked;
-    if let Ok(text) = parse(path) {
-        match cache.look_fast(pass, base, text, follow) {
-            Fast::Done(found) => {
-                tally.count_hit();
-                return found;
-            }
-            Fast::Again(why) => tally.count_cause(&why),
-        }
-        if let Way::Fills = way
-            && let Fast::Done(found) = cache.look_counted(rt, alloc, pass, base, text, follow)
-        {
-            return found;
-        }
+    if let Some(found) = look_by_rows(rt, alloc, cache, pass, asked, way, tally) {
+        return found;
     }
+    let Asked { base, path, follow } = asked;
     if let Way::FillsPath = way {
         return cache.look_filled(rt, alloc, pass, base, path, follow);
     }

@@ -3,7 +3,7 @@
 use crate::fault::Fault;
 use crate::work::{ChangeTask, LookTask, Miss, RaceTask, Shape, Sort, Style, Task, Work};
 use clap::{Arg, ArgAction, ArgMatches, Command, Error, value_parser};
-use std::alloc::Global;
+use std::alloc::{AllocError, Global};
 use std::time::Duration;
 
 const ABOUT: &str =
@@ -115,7 +115,7 @@ struct Deed(
     &'static [Choice],
 );
 
-const DEEDS: [Deed; 4] = [
+static DEEDS: [Deed; 4] = [
     Deed("look", "Times look-ups by 1 to N threads", &LOOK, &SHAPE),
     Deed(
         "change",
@@ -137,78 +137,62 @@ const DEEDS: [Deed; 4] = [
     ),
 ];
 
-/// An option that is given a value.
-fn valued<'a>(alloc: Global, id: &'a str, value: &'a str, default: &'a str) -> Arg<'a> {
-    Arg::new(alloc, id)
-        .long(id)
-        .value_name(value)
-        .default_value(default)
+/// An option with a value, if it isn't given one.
+fn valued<'a>(arg: Arg<'a>, id: &'a str, value: &'a str, default: &'a str) -> Arg<'a> {
+    arg.long(id).value_name(value).default_value(default)
 }
 
-/// An option with a number from 1 to this.
-fn number<'a>(alloc: Global, id: &'a str, most: i64, default: &'a str) -> Arg<'a> {
-    valued(alloc, id, "N", default).value_parser(value_parser!(u64).range(1..=most))
-}
-
-/// An option with a number of seconds.
-fn seconds<'a>(alloc: Global, id: &'a str, default: &'a str) -> Arg<'a> {
-    valued(alloc, id, "S", default).value_parser(value_parser!(f64))
-}
-
-/// An option with a kind of work.
-fn work<'a>(alloc: Global, id: &'a str, default: &'a str) -> Arg<'a> {
-    valued(alloc, id, "WORK", default).value_parser(WORKS.as_slice())
-}
-
-/// A race, which stands without a name before it.
-fn race<'a>(alloc: Global, id: &'a str) -> Arg<'a> {
-    Arg::new(alloc, id)
-        .required(true)
-        .value_parser(RACES.as_slice())
-}
-
-/// An option without what it is for.
-fn bare<'a>(alloc: Global, id: &'a str, given: Given) -> Arg<'a> {
+/// An option of a command.
+fn arg_of<'a>(alloc: Global, choice: &Choice) -> Arg<'a> {
+    let Choice(id, given, help) = *choice;
+    let arg = Arg::new(alloc, id).help(help);
     match given {
-        Given::Nothing => Arg::new(alloc, id).long(id).action(ArgAction::SetTrue),
-        Given::File => Arg::new(alloc, id).long(id).value_name("FILE"),
-        Given::Number(most, default) => number(alloc, id, most, default),
-        Given::Seconds(default) => seconds(alloc, id, default),
-        Given::Work(default) => work(alloc, id, default),
-        Given::Race => race(alloc, id),
+        Given::Nothing => arg.long(id).action(ArgAction::SetTrue),
+        Given::File => arg.long(id).value_name("FILE"),
+        Given::Number(most, default) => {
+            valued(arg, id, "N", default).value_parser(value_parser!(u64).range(1..=most))
+        }
+        Given::Seconds(default) => valued(arg, id, "S", default).value_parser(value_parser!(f64)),
+        Given::Work(default) => valued(arg, id, "WORK", default).value_parser(WORKS.as_slice()),
+        Given::Race => arg.required(true).value_parser(RACES.as_slice()),
     }
 }
 
-/// A command with some options more.
-fn with<'a>(alloc: Global, command: Command<'a>, choices: &[Choice]) -> Result<Command<'a>, Error> {
-    let mut command = command;
+/// Adds some options.
+fn add_args<'a>(
+    alloc: Global,
+    args: &mut Vec<Arg<'a>>,
+    choices: &[Choice],
+) -> Result<(), AllocError> {
     for choice in choices {
-        let Choice(id, given, help) = *choice;
-        command = command.arg(bare(alloc, id, given).help(help))?;
+        args.push(arg_of(alloc, choice))?;
     }
-    Ok(command)
+    Ok(())
 }
 
-fn command_of<'a>(alloc: Global, deed: &Deed) -> Result<Command<'a>, Error> {
+fn command_of<'a>(alloc: Global, deed: &Deed) -> Result<Command<'a>, AllocError> {
     let Deed(name, about, own, shape) = *deed;
-    let command = with(alloc, Command::new(alloc, name).about(about), own)?;
-    with(alloc, command, shape)
+    let mut args = Vec::new(alloc);
+    add_args(alloc, &mut args, own)?;
+    add_args(alloc, &mut args, shape)?;
+    Command::new(alloc, name).about(about).args(args)
 }
 
-/// A command with these commands below it.
-fn with_deeds<'a>(alloc: Global, command: Command<'a>) -> Result<Command<'a>, Error> {
-    let mut command = command;
+/// The commands.
+fn commands<'a>(alloc: Global) -> Result<Vec<Command<'a>>, AllocError> {
+    let mut commands = Vec::new(alloc);
     for deed in &DEEDS {
-        command = command.subcommand(command_of(alloc, deed)?)?;
+        commands.push(command_of(alloc, deed)?)?;
     }
-    Ok(command)
+    Ok(commands)
 }
 
 fn matches_in<'a>(alloc: Global, words: &'a [String]) -> Result<ArgMatches<'a>, Error> {
-    let command = Command::new(alloc, "dcbench")
+    Command::new(alloc, "dcbench")
         .about(ABOUT)
-        .no_binary_name(true);
-    with_deeds(alloc, command)?.try_get_matches_from(words)
+        .no_binary_name(true)
+        .subcommands(commands(alloc)?)?
+        .try_get_matches_from(words)
 }
 
 /// The number of an option, which has a default.
@@ -293,6 +277,5 @@ fn task_in<'a>(matches: &ArgMatches<'a>) -> Task<'a> {
 
 /// What the words after the program's name ask for.
 pub fn task_of<'a>(alloc: Global, words: &'a [String]) -> Result<Task<'a>, Fault> {
-    let matches = matches_in(alloc, words)?;
-    Ok(task_in(&matches))
+    Ok(task_in(&matches_in(alloc, words)?))
 }

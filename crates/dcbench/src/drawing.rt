@@ -1,12 +1,11 @@
 //! Trees that are drawn: names of 1 to 20 bytes, and no bucket with more names than it has rows.
 
-use crate::fault::Fault;
 use crate::tree::with;
 use crate::work::{Shape, Work};
 use dc_names::{BUCKET_ROWS, hash};
 use rand_pcg::Pcg32;
 use rand_pcg::rand_core::Rng;
-use std::alloc::Global;
+use std::alloc::{AllocError, Global};
 
 const LETTERS: &[u8; 36] = b"abcdefghijklmnopqrstuvwxyz0123456789";
 
@@ -43,7 +42,7 @@ struct Drawing {
 }
 
 impl Drawing {
-    fn new(alloc: Global, shape: Shape) -> Result<Drawing, Fault> {
+    fn new(alloc: Global, shape: Shape) -> Result<Drawing, AllocError> {
         Ok(Drawing {
             alloc,
             shape,
@@ -68,7 +67,7 @@ impl Drawing {
 
     /// A name that begins with the letters of `index`. What follows them begins with a dash, which is no
     /// letter, so that no two names of one level are the same.
-    fn name(&mut self, index: u64) -> Result<Vec<u8>, Fault> {
+    fn name(&mut self, index: u64) -> Result<Vec<u8>, AllocError> {
         let length = self.below(20);
         let mut name = Vec::new(self.alloc);
         let (mut rest, mut is_spelled) = (index, false);
@@ -109,7 +108,7 @@ impl Drawing {
     }
 
     /// Whether a row is left for a name that is drawn, and for the absent one that is asked beside it.
-    fn fits(&self, parent: u64, name: &[u8]) -> Result<bool, Fault> {
+    fn fits(&self, parent: u64, name: &[u8]) -> Result<bool, AllocError> {
         Ok(
             self.has_row(parent, name)
                 && (!matches!(self.shape.work, Work::Absent)
@@ -118,7 +117,7 @@ impl Drawing {
     }
 
     /// A name in a directory whose row is taken.
-    fn fitting(&mut self, parent: u64, index: u64) -> Result<Vec<u8>, Fault> {
+    fn fitting(&mut self, parent: u64, index: u64) -> Result<Vec<u8>, AllocError> {
         let mut name = self.name(index)?;
         for _ in 0..DRAWS {
             if self.fits(parent, &name)? {
@@ -135,7 +134,7 @@ impl Drawing {
     }
 
     /// Writes a line of some parts.
-    fn line(&mut self, parts: &[&[u8]]) -> Result<(), Fault> {
+    fn line(&mut self, parts: &[&[u8]]) -> Result<(), AllocError> {
         for part in parts {
             self.lines.extend_from_slice(part)?;
         }
@@ -151,7 +150,7 @@ impl Drawing {
     }
 
     /// Makes something in a directory.
-    fn spot(&mut self, kind: &[u8], parent: &Spot, index: u64) -> Result<Spot, Fault> {
+    fn spot(&mut self, kind: &[u8], parent: &Spot, index: u64) -> Result<Spot, AllocError> {
         let name = self.fitting(parent.number, index)?;
         let mut path = Vec::from_slice(self.alloc, &parent.path)?;
         path.push(b'/')?;
@@ -164,7 +163,7 @@ impl Drawing {
     }
 
     /// Makes so many in the directories above, in turns.
-    fn level(&mut self, kind: &[u8], above: &[Spot], count: u64) -> Result<Vec<Spot>, Fault> {
+    fn level(&mut self, kind: &[u8], above: &[Spot], count: u64) -> Result<Vec<Spot>, AllocError> {
         let mut here = Vec::new(self.alloc);
         for i in 0..count {
             let at = (i as usize).checked_rem(above.len()).unwrap_or(0);
@@ -176,7 +175,7 @@ impl Drawing {
     }
 
     /// Makes a link in the root to each of these, which stand in the root.
-    fn link(&mut self, firsts: &[Spot]) -> Result<(), Fault> {
+    fn link(&mut self, firsts: &[Spot]) -> Result<(), AllocError> {
         for first in firsts {
             let text = first.path.get(1..).unwrap_or(b"");
             let name = with(self.alloc, text, LINK)?;
@@ -189,7 +188,7 @@ impl Drawing {
     }
 
     /// Asks for the paths that lead through the links.
-    fn ask_through_links(&mut self, files: &[Spot]) -> Result<(), Fault> {
+    fn ask_through_links(&mut self, files: &[Spot]) -> Result<(), AllocError> {
         for file in files {
             let path = file.path.get(1..).unwrap_or(b"");
             let end = path.iter().position(|b| *b == b'/');
@@ -200,7 +199,7 @@ impl Drawing {
     }
 
     /// Makes the directories, and answers those of the first level and those of the last.
-    fn directories(&mut self) -> Result<(Vec<Spot>, Vec<Spot>), Fault> {
+    fn directories(&mut self) -> Result<(Vec<Spot>, Vec<Spot>), AllocError> {
         let mut above = Vec::new(self.alloc);
         above.push(Spot {
             path: Vec::new(self.alloc),
@@ -220,7 +219,7 @@ impl Drawing {
     }
 
     /// Makes files that are asked through links, in the directories of the last level.
-    fn linked(&mut self, firsts: &[Spot], above: &[Spot]) -> Result<(), Fault> {
+    fn linked(&mut self, firsts: &[Spot], above: &[Spot]) -> Result<(), AllocError> {
         let Shape { depth, hot, .. } = self.shape;
         let files = self.level(b"c ", above, hot)?;
         self.link(match depth {
@@ -232,7 +231,7 @@ impl Drawing {
     }
 
     /// Makes the whole tree.
-    fn draw(&mut self) -> Result<(), Fault> {
+    fn draw(&mut self) -> Result<(), AllocError> {
         let (firsts, above) = self.directories()?;
         if let Work::Links = self.shape.work {
             return self.linked(&firsts, &above);
@@ -253,7 +252,7 @@ fn letters_of(number: u64) -> u64 {
 }
 
 /// The lines of a tree of this shape.
-pub fn draw(alloc: Global, shape: Shape) -> Result<Vec<u8>, Fault> {
+pub fn draw(alloc: Global, shape: Shape) -> Result<Vec<u8>, AllocError> {
     let mut drawing = Drawing::new(alloc, shape)?;
     drawing.draw()?;
     Ok(drawing.lines)

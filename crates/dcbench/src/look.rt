@@ -5,6 +5,7 @@ ghost use Rattle.dc_cache.specs.Passes.{Fits};
 use crate::gate::Gate;
 use crate::own::Own;
 use crate::tally::{Tally, a_second};
+use crate::tree::change;
 use crate::work::{Miss, Work};
 use dc_cache::{Dcache, Fast, Follow, Pass, PathText, ROOT, Reply, parse};
 use std::alloc::Global;
@@ -176,7 +177,7 @@ fn look_texts<R: Wait>(
 }
 
 /// Makes the thread's next change, and counts it if the tree was asked.
-fn change<R: Wait>(
+fn change_next<R: Wait>(
     rt: &R,
     alloc: Global,
     cache: &Dcache,
@@ -188,10 +189,7 @@ fn change<R: Wait>(
     ensures { Fits cache.now pass.new }
 {
     if let Some(call) = own.next() {
-        let made = cache.change(rt, alloc, pass, &call);
-        let right = made.is_ok_and(|made| !matches!(made.reply, Reply::Refused(_)));
-        tally.changes = tally.changes.saturating_add(1);
-        tally.wrong = tally.wrong.saturating_add(u64::from(!right));
+        change(rt, alloc, cache, pass, &call, tally);
     }
     own.step();
 }
@@ -214,7 +212,7 @@ fn look_and_change<R: Wait>(
     let mut found = 0u64;
     'parts: for part in paths.chunks(few.max(1)) {
         found = found.wrapping_add(look_each(rt, alloc, cache, pass, part, miss, tally));
-        change(rt, alloc, cache, pass, own, tally);
+        change_next(rt, alloc, cache, pass, own, tally);
     }
     found
 }
@@ -232,7 +230,7 @@ fn change_each<R: Wait>(
     ensures { Fits cache.now pass.new }
 {
     'changes: for _ in 0..TURN {
-        change(rt, alloc, cache, pass, own, tally);
+        change_next(rt, alloc, cache, pass, own, tally);
     }
 }
 

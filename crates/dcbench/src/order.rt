@@ -1,19 +1,18 @@
 //! Which paths are looked up, and in which order.
 
 use crate::drawing::ABSENT;
-use crate::fault::Fault;
 use crate::tree::extended;
 use crate::work::{Shape, Work};
 use dc_cache::PathText;
 use rand_pcg::Pcg32;
 use rand_pcg::rand_core::Rng;
-use std::alloc::Global;
+use std::alloc::{AllocError, Global};
 
 /// The fewest look-ups before a thread begins anew.
 const LEAST_ORDER: usize = 16_384;
 
 /// Some paths in a random order, four times as many or more, so that nearly each comes.
-fn shuffled<'a>(alloc: Global, paths: &[PathText<'a>]) -> Result<Vec<PathText<'a>>, Fault> {
+fn shuffled<'a>(alloc: Global, paths: &[PathText<'a>]) -> Result<Vec<PathText<'a>>, AllocError> {
     let mut order = Vec::new(alloc);
     let mut rng = Pcg32::new(1, 54);
     for _ in 0..LEAST_ORDER.max(paths.len().saturating_mul(4)) {
@@ -33,7 +32,7 @@ pub fn ordered<'a>(
     alloc: Global,
     work: Work,
     paths: &[PathText<'a>],
-) -> Result<Vec<PathText<'a>>, Fault> {
+) -> Result<Vec<PathText<'a>>, AllocError> {
     match work {
         Work::Miss => Ok(Vec::from_slice(alloc, paths)?),
         _ => shuffled(alloc, paths),
@@ -48,7 +47,7 @@ fn missing_to_a_file(shape: Shape, files: usize) -> u64 {
 }
 
 /// The texts that are looked up: those of the files, or of absent names beside them.
-pub fn texts_of(alloc: Global, shape: Shape, files: &[&[u8]]) -> Result<Vec<Vec<u8>>, Fault> {
+pub fn texts_of(alloc: Global, shape: Shape, files: &[&[u8]]) -> Result<Vec<Vec<u8>>, AllocError> {
     match shape.work {
         Work::Absent => extended(alloc, files, ABSENT, 1),
         Work::Miss => extended(alloc, files, ABSENT, missing_to_a_file(shape, files.len())),

@@ -3,11 +3,10 @@
 ghost use Rattle.std.specs.Prelude.{IfSome};
 ghost use Rattle.dc_cache.specs.Passes.{IsChange};
 
-use crate::fault::Fault;
 use crate::tree::with;
 use crate::work::Work;
 use dc_cache::{Call, Flags, ROOT};
-use std::alloc::Global;
+use std::alloc::{AllocError, Global};
 
 /// The most files of a thread that renames.
 const MOST_RENAMED: usize = 50;
@@ -42,13 +41,13 @@ fn rename<'a>(old: &'a [u8], new: &'a [u8]) -> Call<'a>
 }
 
 /// A path with some letters and the thread's number behind it.
-fn ending(alloc: Global, path: &[u8], letters: &str, thread: u64) -> Result<Vec<u8>, Fault> {
+fn ending(alloc: Global, path: &[u8], letters: &str, thread: u64) -> Result<Vec<u8>, AllocError> {
     with(alloc, path, &format!(in alloc; "{letters}{thread}")?)
 }
 
 impl Pair {
     /// The names of a file that is there and stays in its directory.
-    fn renamed(alloc: Global, path: &[u8], thread: u64) -> Result<Pair, Fault> {
+    fn renamed(alloc: Global, path: &[u8], thread: u64) -> Result<Pair, AllocError> {
         Ok(Pair {
             first: Vec::from_slice(alloc, path)?,
             second: ending(alloc, path, ".to", thread)?,
@@ -56,7 +55,7 @@ impl Pair {
     }
 
     /// The names of a file that is made and unlinked.
-    fn made(alloc: Global, path: &[u8], thread: u64) -> Result<Pair, Fault> {
+    fn made(alloc: Global, path: &[u8], thread: u64) -> Result<Pair, AllocError> {
         Ok(Pair {
             first: ending(alloc, path, ".of", thread)?,
             second: ending(alloc, path, ".to", thread)?,
@@ -72,7 +71,7 @@ impl Own {
         paths: &[&[u8]],
         thread: u64,
         threads: u64,
-    ) -> Result<Own, Fault> {
+    ) -> Result<Own, AllocError> {
         let mut own = Own {
             work,
             pairs: Vec::new(alloc),
@@ -92,7 +91,7 @@ impl Own {
         paths: &[&[u8]],
         thread: u64,
         threads: u64,
-    ) -> Result<(), Fault> {
+    ) -> Result<(), AllocError> {
         let step = usize::try_from(threads).unwrap_or(1).max(1);
         let skipped = usize::try_from(thread).unwrap_or(0);
         let (renames, most) = match self.work {

@@ -7,16 +7,15 @@
 //! always leads to it.
 
 ghost use Rattle.std.specs.Prelude.{◌≡◌};
-ghost use Rattle.dc_cache.specs.Passes.{Fits, IsChange};
+ghost use Rattle.dc_cache.specs.Passes.{Fits};
 
-use crate::fault::Fault;
 use crate::gate::Gate;
 use crate::look::look;
 use crate::tally::{Tally, a_second};
-use crate::tree::make;
+use crate::tree::change;
 use crate::work::{Miss, Sort};
 use dc_cache::{Call, Dcache, Flags, Follow, Pass, PathText, ROOT, Reply};
-use std::alloc::Global;
+use std::alloc::{AllocError, Global};
 use std::rt::Clock;
 use std::sync::Wait;
 use std::sync::atomic::{AtomicU64, Ordering};
@@ -34,7 +33,7 @@ pub struct Course {
 }
 
 /// A path below a directory: so many times `d`, and then the file.
-fn below(alloc: Global, top: &str, depth: u64) -> Result<Vec<u8>, Fault> {
+fn below(alloc: Global, top: &str, depth: u64) -> Result<Vec<u8>, AllocError> {
     let mut path = Vec::from_slice(alloc, top.as_bytes())?;
     for _ in 0..depth {
         path.extend_from_slice(b"/d")?;
@@ -44,7 +43,7 @@ fn below(alloc: Global, top: &str, depth: u64) -> Result<Vec<u8>, Fault> {
 }
 
 /// Adds the lines of a directory and of those below it.
-fn add_directories(lines: &mut Vec<u8>, top: &str, depth: u64) -> Result<(), Fault> {
+fn add_directories(lines: &mut Vec<u8>, top: &str, depth: u64) -> Result<(), AllocError> {
     'levels: for level in 0..=depth {
         lines.extend_from_slice(b"d ")?;
         lines.extend_from_slice(top.as_bytes())?;
@@ -57,7 +56,7 @@ fn add_directories(lines: &mut Vec<u8>, top: &str, depth: u64) -> Result<(), Fau
 }
 
 /// The lines of two directories that swap their names, and of the file below the second.
-fn exchange_lines(alloc: Global, depth: u64, made: &[u8]) -> Result<Vec<u8>, Fault> {
+fn exchange_lines(alloc: Global, depth: u64, made: &[u8]) -> Result<Vec<u8>, AllocError> {
     let mut lines = Vec::new(alloc);
     add_directories(&mut lines, "/a", depth)?;
     add_directories(&mut lines, "/b", depth)?;
@@ -69,14 +68,14 @@ fn exchange_lines(alloc: Global, depth: u64, made: &[u8]) -> Result<Vec<u8>, Fau
 
 impl Course {
     /// The course with so many directories between the one that is renamed and the file.
-    pub fn new(alloc: Global, sort: Sort, depth: u64) -> Result<Course, Fault> {
+    pub fn new(alloc: Global, sort: Sort, depth: u64) -> Result<Course, AllocError> {
         match sort {
             Sort::Rename => Course::of_rename(alloc, depth),
             Sort::Exchange => Course::of_exchange(alloc, depth),
         }
     }
 
-    fn of_rename(alloc: Global, depth: u64) -> Result<Course, Fault> {
+    fn of_rename(alloc: Global, depth: u64) -> Result<Course, AllocError> {
         let mut lines = Vec::new(alloc);
         add_directories(&mut lines, "/p", depth)?;
         Ok(Course {
@@ -86,7 +85,7 @@ impl Course {
         })
     }
 
-    fn of_exchange(alloc: Global, depth: u64) -> Result<Course, Fault> {
+    fn of_exchange(alloc: Global, depth: u64) -> Result<Course, AllocError> {
         let made = below(alloc, "/b", depth)?;
         Ok(Course {
             lines: exchange_lines(alloc, depth, &made)?,
@@ -113,22 +112,6 @@ pub struct Race<'a> {
     pub gate: &'a Gate,
 }
 
-/// A rename in the root.
-fn rename<'a>(old: &'a [u8], new: &'a [u8], exchange: bool) -> Call<'a>
-    ensures { IsChange result }
-{
-    let flags = Flags {
-        no_replace: false,
-        exchange,
-    };
-    Call::Rename {
-        base: ROOT,
-        old,
-        new,
-        flags,
-    }
-}
-
 impl<'a> Race<'a> {
     /// Looks up, and counts the answers that aren't right.
     fn look_on<R: Wait>(&self, rt: &R, cache: &Dcache, pass: &mut Pass, tally: &mut Tally)
@@ -151,22 +134,30 @@ impl<'a> Race<'a> {
         }
     }
 
-    /// Makes one change. A change that isn't made counts as a wrong answer.
-    fn step<R: Wait>(
+    /// Renames in the root.
+    fn rename<R: Wait>(
         &self,
         rt: &R,
         cache: &Dcache,
         pass: &mut Pass,
-        call: &Call<'_>,
+        old: &[u8],
+        new: &[u8],
         tally: &mut Tally,
     )
-        requires pass { Fits cache.now pass.old }
-        requires change { IsChange call.now }
+        requires { Fits cache.now pass.old }
         ensures { Fits cache.now pass.new }
     {
-        let made = make(rt, self.alloc, cache, pass, call).unwrap_or(false);
-        tally.changes = tally.changes.saturating_add(1);
-        tally.wrong = tally.wrong.saturating_add(u64::from(!made));
+        let flags = Flags {
+            no_replace: false,
+            exchange: matches!(self.sort, Sort::Exchange),
+        };
+        let call = Call::Rename {
+            base: ROOT,
+            old,
+            new,
+            flags,
+        };
+        change(rt, self.alloc, cache, pass, &call, tally);
     }
 
     /// Makes the changes of one round.
@@ -174,14 +165,14 @@ impl<'a> Race<'a> {
         requires { Fits cache.now pass.old }
         ensures { Fits cache.now pass.new }
     {
-        let (base, path) = (ROOT, self.made);
+        let (base, path, alloc) = (ROOT, self.made, self.alloc);
         match self.sort {
-            Sort::Exchange => self.step(rt, cache, pass, &rename(b"/a", b"/b", true), tally),
+            Sort::Exchange => self.rename(rt, cache, pass, b"/a", b"/b", tally),
             Sort::Rename => {
-                self.step(rt, cache, pass, &rename(b"/p", b"/q", false), tally);
-                self.step(rt, cache, pass, &Call::Create { base, path }, tally);
-                self.step(rt, cache, pass, &Call::Unlink { base, path }, tally);
-                self.step(rt, cache, pass, &rename(b"/q", b"/p", false), tally);
+                self.rename(rt, cache, pass, b"/p", b"/q", tally);
+                change(rt, alloc, cache, pass, &Call::Create { base, path }, tally);
+                change(rt, alloc, cache, pass, &Call::Unlink { base, path }, tally);
+                self.rename(rt, cache, pass, b"/q", b"/p", tally);
             }
         }
     }

@@ -96,6 +96,19 @@ impl fmt::Display for Nanoseconds {
     }
 }
 
+/// Writes the times of a call.
+fn write_times<W: fmt::Write>(f: &mut fmt::Formatter<W>, tally: &Tally) -> fmt::Result {
+    let (median, most) = (tally.quantile(50), tally.quantile(99));
+    write!(f, "   {} {}", Nanoseconds(median), Nanoseconds(most))?;
+    write!(f, " {:>13}", tally.rate)
+}
+
+/// Writes how look-ups were answered, and how often a row was missing.
+fn write_ways<W: fmt::Write>(f: &mut fmt::Formatter<W>, tally: &Tally) -> fmt::Result {
+    write!(f, " {:>13} {:>13}", tally.by_fast(), tally.by_rows)?;
+    write!(f, " {:>7} {:>11}", tally.by_lock, tally.causes.gone())
+}
+
 /// A row of a run of look-ups.
 #[derive(Drop)]
 pub struct LookRow {
@@ -159,7 +172,6 @@ work   names threads   median ns      99th     calls a s  without lock   filled 
 
 impl fmt::Display for LookRow {
     fn fmt<W: fmt::Write>(&self, f: &mut fmt::Formatter<W>) -> fmt::Result {
-        let tally = &self.tally;
         write!(
             f,
             "{:<6} {:>5} {:>7}",
@@ -167,27 +179,9 @@ impl fmt::Display for LookRow {
             self.shape.depth,
             self.threads
         )?;
-        write!(
-            f,
-            "   {} {}",
-            Nanoseconds(tally.quantile(50)),
-            Nanoseconds(tally.quantile(99))
-        )?;
-        write!(
-            f,
-            " {:>13} {:>13} {:>13}",
-            tally.rate,
-            tally.by_fast(),
-            tally.by_rows
-        )?;
-        write!(
-            f,
-            " {:>7} {:>11} {:>11} {:>12}",
-            tally.by_lock,
-            tally.causes.gone(),
-            self.evicted,
-            self.filled
-        )
+        write_times(f, &self.tally)?;
+        write_ways(f, &self.tally)?;
+        write!(f, " {:>11} {:>12}", self.evicted, self.filled)
     }
 }
 
@@ -212,15 +206,8 @@ pub const CHANGE_HEAD: &str = "change threads   median ns      99th   changes a 
 
 impl fmt::Display for ChangeRow {
     fn fmt<W: fmt::Write>(&self, f: &mut fmt::Formatter<W>) -> fmt::Result {
-        let tally = &self.tally;
         write!(f, "       {:>7}", self.threads)?;
-        write!(
-            f,
-            "   {} {}",
-            Nanoseconds(tally.quantile(50)),
-            Nanoseconds(tally.quantile(99))
-        )?;
-        write!(f, " {:>13}", tally.rate)
+        write_times(f, &self.tally)
     }
 }
 

@@ -11,7 +11,7 @@ use crate::report::{CHANGE_HEAD, LOOK_HEAD, RACE_HEAD, Row};
 use crate::rows::{Plan, change_row, look_row};
 use crate::tree::{asked_in, lines_in, parsed};
 use crate::work::{ChangeTask, LookTask, Miss, RaceTask, Shape, Sort, Style, Task, Work};
-use std::alloc::Global;
+use std::alloc::{AllocError, Global};
 use std::fs;
 use std::io::Write;
 use std::rt::{Clock, Files};
@@ -43,7 +43,7 @@ fn text_of<R: Files + AllocGlobal>(
 ) -> Result<Vec<u8>, Fault> {
     match task.tree {
         Some(path) => fs::read(rt, path).map_err(|_| Fault::Unread),
-        None => draw(alloc, task.shape),
+        None => Ok(draw(alloc, task.shape)?),
     }
 }
 
@@ -110,7 +110,7 @@ fn look_by<R: Threads + Wait + Clock + Sync + Print + Files + AllocGlobal>(
 }
 
 /// The numbers from 1 to this.
-fn up_to(alloc: Global, most: u64) -> Result<Vec<u64>, Fault> {
+fn up_to(alloc: Global, most: u64) -> Result<Vec<u64>, AllocError> {
     let mut all = Vec::new(alloc);
     for number in 0..most {
         all.push(number.saturating_add(1))?;
@@ -248,6 +248,23 @@ fn tree<R: Print>(rt: &R, alloc: Global, shape: Shape) -> Result<(), Fault> {
     Ok(())
 }
 
+/// Times look-ups by up to so many threads.
+fn look<R: Threads + Wait + Clock + Sync + Print + Eprint + Files + AllocGlobal>(
+    rt: &R,
+    alloc: Global,
+    task: &LookTask<'_>,
+) -> Result<(), Fault>
+    requires { IsSync R.row }
+{
+    head(rt, LOOK_HEAD, task.json)?;
+    let answers = look_by(rt, alloc, task, &up_to(alloc, task.threads)?)?;
+    // A line of JSON has them.
+    if !task.json {
+        explain(rt, &answers);
+    }
+    Ok(())
+}
+
 /// Does a task.
 pub fn perform<R: Threads + Wait + Clock + Sync + Print + Eprint + Files + AllocGlobal>(
     rt: &R,
@@ -258,15 +275,7 @@ pub fn perform<R: Threads + Wait + Clock + Sync + Print + Eprint + Files + Alloc
 {
     match task {
         Task::All => all(rt, alloc),
-        Task::Look(look) => {
-            head(rt, LOOK_HEAD, look.json)?;
-            let answers = look_by(rt, alloc, look, &up_to(alloc, look.threads)?)?;
-            // A line of JSON has them.
-            if !look.json {
-                explain(rt, &answers);
-            }
-            Ok(())
-        }
+        Task::Look(task) => look(rt, alloc, task),
         Task::Change(change) => {
             head(rt, CHANGE_HEAD, change.json)?;
             change_by(rt, alloc, change, &up_to(alloc, change.threads)?)

@@ -7,7 +7,8 @@ ghost use Rattle.std.specs.Prelude.{IfSome};
 ghost use Rattle.dc_cache.specs.Passes.{Fits, IsChange};
 
 use crate::fault::Fault;
-use dc_cache::{Call, Dcache, Follow, Pass, PathText, ROOT, Reply, parse};
+use crate::tally::Tally;
+use dc_cache::{Call, ChangeFault, Dcache, Follow, Pass, PathText, ROOT, Reply, parse};
 use std::alloc::{AllocError, Global};
 use std::sync::Wait;
 
@@ -43,19 +44,37 @@ fn asked_by(line: &[u8]) -> Option<&[u8]> {
 }
 
 /// Makes what a call makes, and says whether the tree took it.
-pub fn make<R: Wait>(
+fn make<R: Wait>(
     rt: &R,
     alloc: Global,
     cache: &Dcache,
     pass: &mut Pass,
     call: &Call<'_>,
-) -> Result<bool, Fault>
+) -> Result<bool, ChangeFault>
     requires pass { Fits cache.now pass.old }
     requires change { IsChange call.now }
     ensures { Fits cache.now pass.new }
 {
     let made = cache.change(rt, alloc, pass, call)?;
     Ok(!matches!(made.reply, Reply::Refused(_)))
+}
+
+/// Makes a change, and counts it. One that isn't made counts as a wrong answer.
+pub fn change<R: Wait>(
+    rt: &R,
+    alloc: Global,
+    cache: &Dcache,
+    pass: &mut Pass,
+    call: &Call<'_>,
+    tally: &mut Tally,
+)
+    requires pass { Fits cache.now pass.old }
+    requires change { IsChange call.now }
+    ensures { Fits cache.now pass.new }
+{
+    let is_made = make(rt, alloc, cache, pass, call).unwrap_or(false);
+    tally.changes = tally.changes.saturating_add(1);
+    tally.wrong = tally.wrong.saturating_add(u64::from(!is_made));
 }
 
 /// Makes what a line stands for. It fails if the line is none, or the tree refuses it.
@@ -120,14 +139,14 @@ pub fn asked_in<'a>(alloc: Global, lines: &[&'a [u8]]) -> Result<Vec<&'a [u8]>, 
 }
 
 /// A name or a path with something behind it.
-pub fn with(alloc: Global, path: &[u8], ending: &str) -> Result<Vec<u8>, Fault> {
+pub fn with(alloc: Global, path: &[u8], ending: &str) -> Result<Vec<u8>, AllocError> {
     let mut text = Vec::from_slice(alloc, path)?;
     text.extend_from_slice(ending.as_bytes())?;
     Ok(text)
 }
 
 /// A path with something behind it, and a number but for 0.
-fn ending_in(alloc: Global, path: &[u8], ending: &str, number: u64) -> Result<Vec<u8>, Fault> {
+fn ending_in(alloc: Global, path: &[u8], ending: &str, number: u64) -> Result<Vec<u8>, AllocError> {
     match number {
         0 => with(alloc, path, ending),
         _ => with(alloc, path, &format!(in alloc; "{ending}{number}")?),
@@ -140,7 +159,7 @@ pub fn extended(
     paths: &[&[u8]],
     ending: &str,
     count: u64,
-) -> Result<Vec<Vec<u8>>, Fault> {
+) -> Result<Vec<Vec<u8>>, AllocError> {
     let mut all = Vec::new(alloc);
     'counts: for i in 0..count {
         for path in paths {

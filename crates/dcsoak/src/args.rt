@@ -2,7 +2,7 @@
 
 use crate::fault::Fault;
 use clap::{Arg, ArgAction, ArgMatches, Command, Error, value_parser};
-use std::alloc::Global;
+use std::alloc::{AllocError, Global};
 use std::time::Duration;
 
 const ABOUT: &str =
@@ -27,7 +27,7 @@ pub struct Task {
 #[derive(Clone, Copy)]
 struct Number(&'static str, i64, i64, &'static str, &'static str);
 
-const NUMBERS: [Number; 3] = [
+static NUMBERS: [Number; 3] = [
     Number(
         "seconds",
         0,
@@ -61,18 +61,28 @@ fn option_of<'a>(alloc: Global, number: &Number) -> Arg<'a> {
         .default_value(default)
 }
 
-fn matches_in<'a>(alloc: Global, words: &'a [String]) -> Result<ArgMatches<'a>, Error> {
-    let mut command = Command::new(alloc, "dcsoak")
-        .about(ABOUT)
-        .no_binary_name(true);
-    for option in &NUMBERS {
-        command = command.arg(option_of(alloc, option))?;
+/// All options.
+fn args<'a>(alloc: Global) -> Result<Vec<Arg<'a>>, AllocError> {
+    let mut args = Vec::new(alloc);
+    for number in &NUMBERS {
+        args.push(option_of(alloc, number))?;
     }
     let brief = Arg::new(alloc, "brief")
         .long("brief")
-        .help("Prints the verdict alone")
-        .action(ArgAction::SetTrue);
-    command.arg(brief)?.try_get_matches_from(words)
+        .help("Prints the verdict alone");
+    args.push(brief.action(ArgAction::SetTrue))?;
+    Ok(args)
+}
+
+fn command<'a>(alloc: Global) -> Result<Command<'a>, AllocError> {
+    Command::new(alloc, "dcsoak")
+        .about(ABOUT)
+        .no_binary_name(true)
+        .args(args(alloc)?)
+}
+
+fn matches_in<'a>(alloc: Global, words: &'a [String]) -> Result<ArgMatches<'a>, Error> {
+    command(alloc)?.try_get_matches_from(words)
 }
 
 /// What the words after the program's name ask for.

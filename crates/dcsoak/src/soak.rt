@@ -30,7 +30,48 @@ fn tell<R: Print>(rt: &R, report: &Report, task: &Task) -> Result<(), Fault> {
     Ok(())
 }
 
-/// Plays rounds, the first of which is always played.
+/// Plays a round, and tells what is wrong about it, if anything is.
+fn play<R: Threads + Wait + Clock + Sync + Print>(
+    rt: &R,
+    alloc: Global,
+    task: &Task,
+    round: &Round,
+    report: &mut Report,
+) -> Result<(), Fault>
+    requires { IsSync R.row }
+{
+    let played = round.play(rt, alloc)?;
+    report.take_in(round.place, &played.tally);
+    if let Some(wrong) = &played.wrong {
+        tell(rt, report, task)?;
+        tell_wrong(rt, round, task.calls, wrong)?;
+        return Err(Fault::Wrong);
+    }
+    Ok(())
+}
+
+/// Plays rounds until the time is over. The first is always played.
+fn play_all<R: Threads + Wait + Clock + Sync + Print>(
+    rt: &R,
+    alloc: Global,
+    task: &Task,
+    report: &mut Report,
+) -> Result<(), Fault>
+    requires { IsSync R.row }
+{
+    let begin = Instant::now(rt).map_err(|_| Fault::NoClock)?;
+    for number in 0..u64::MAX {
+        let round = Round::of(task.seed.wrapping_add(number), task.calls);
+        play(rt, alloc, task, &round, report)?;
+        let took = begin.elapsed(rt).map_err(|_| Fault::NoClock)?;
+        if took >= task.time {
+            break;
+        }
+    }
+    Ok(())
+}
+
+/// Plays rounds, and tells what they come to.
 pub fn soak<R: Threads + Wait + Clock + Sync + Print>(
     rt: &R,
     alloc: Global,
@@ -38,22 +79,8 @@ pub fn soak<R: Threads + Wait + Clock + Sync + Print>(
 ) -> Result<(), Fault>
     requires { IsSync R.row }
 {
-    let begin = Instant::now(rt).map_err(|_| Fault::NoClock)?;
     let mut report = Report::default();
-    for number in 0..u64::MAX {
-        let round = Round::of(task.seed.wrapping_add(number), task.calls);
-        let played = round.play(rt, alloc)?;
-        report.take_in(round.place, &played.tally);
-        if let Some(wrong) = &played.wrong {
-            tell(rt, &report, task)?;
-            tell_wrong(rt, &round, task.calls, wrong)?;
-            return Err(Fault::Wrong);
-        }
-        let took = begin.elapsed(rt).map_err(|_| Fault::NoClock)?;
-        if took >= task.time {
-            break;
-        }
-    }
+    play_all(rt, alloc, task, &mut report)?;
     tell(rt, &report, task)?;
     println!(rt; "{LEGAL}")?;
     Ok(())
