@@ -1,12 +1,16 @@
 -- Some tests after others, and where among them want of memory may stand.
-use Rattle.std.proofs.Common.{◌≡◌, ◌⊎◌, ℕ, Bool, true, Option, Some, None, Result, Ok, Err, refl, ap, inl, inr}
+use Rattle.std.proofs.Common.{◌≡◌, ◌⊎◌, ℕ, Bool, true, false, true≢false, Option, Some, None, Result, Ok, Err, MatchResult, refl, sym, ap, ◌∙◌, subst, inl, inr}
 use Rattle.dc_plain.specs.Requests.{Request}
+use Rattle.dc_plain.specs.Runs.{alters}
 use Rattle.dc_core.specs.Machine.{State, actor_at, event_by}
-use Rattle.dc_core.specs.Machine.Act.{Open, Commit}
+use Rattle.dc_core.specs.Machine.Act.{Open, Commit, Give}
 use Rattle.dc_core.specs.Memory.{gives_way, MayLackMemory, RefusedBy, TestedBy, AnsweredAs}
-use Rattle.dc_core.specs.Refusals.{Refusal, Passes, Answers, WithCall, AtOddRow, MayBeMade, MayBeOpened}
+use Rattle.dc_core.specs.Refusals.{Refusal, Unless, Passes, Answers, WithCall, AtOddRow, IsOdd, MayBeMade, MayBeOpened}
+use Rattle.dc_core.specs.Refusals.Refusal.{NoCall, OddRow, Alters}
 use Rattle.dc_core.specs.declared.refused.Refused as rust_refused
+use Rattle.dc_core.specs.declared.refused.Refused.TheVariants as refusals
 use Rattle.dc_core.specs.Shown.{refusal_shown}
+use Rattle.dc_core.proofs.Commits.{passed_row}
 use Rattle.dc_core.proofs.Seats.{passed}
 use Rattle.dc_core.proofs.Stepped.{more_three, more_four, after_four}
 
@@ -55,3 +59,45 @@ module _ (s : State) (j : ℕ) where
 
   pub open_first : (row : ℕ) (o : Option Refusal) → RefusedBy (AtOddRow s j row Passes) ⊥ o → RefusedBy (Answers s (event_by j (Open row))) (MayLackMemory s (event_by j (Open row))) o
   open_first row o = refused_first (AtOddRow s j row Passes) (Answers s (event_by j (Open row))) (MayLackMemory s (event_by j (Open row))) (λ why t. more_four (MayBeOpened s row) (Some why) t (λ e. cc)) o
+
+  -- the tests of an answer after those of a give
+  abbrev flat : Option Refusal → Type 0
+  flat = Unless (alters s.limit s.tree call ≡ true) Alters Passes
+
+  abbrev idle_or : Option Refusal → Type 0
+  idle_or = Unless ((actor_at s j).walk.busy ≡ false) NoCall flat
+
+  more_given : (o : Option Refusal) → Answers s (event_by j (Give false)) o → (o ≡ None → idle_or o) → Answers s (event_by j (Give true)) o
+  more_given o (inl x) go = inl x
+  more_given o (inr (na, inl x)) go = inr (na, inl x)
+  more_given o (inr (na, inr (nb, inl x))) go = inr (na, inr (nb, inl x))
+  more_given o (inr (na, inr (nb, inr (none, e)))) go = inr (na, inr (nb, inr (none, go e)))
+
+  pub answer_first : (o : Option Refusal) → RefusedBy (Answers s (event_by j (Give false))) (MayLackMemory s (event_by j (Give false))) o → RefusedBy (Answers s (event_by j (Give true))) (MayLackMemory s (event_by j (Give true))) o
+  answer_first None lacks = absurd (true≢false (sym lacks.0))
+  answer_first (Some why) t = more_given (Some why) t (λ e. cc)
+
+  pub answer_after : (o : Option Refusal) → Answers s (event_by j (Give false)) None → idle_or o → Answers s (event_by j (Give true)) o
+  answer_after o t n = let p = passed t in let q = passed p.1 in let x = passed_row s.rows (IsOdd s) OddRow Passes q.1 in inr (p.0, inr (q.0, inr (x.0, n)))
+
+  idle_not : (actor_at s j).walk.busy ≡ true → (actor_at s j).walk.busy ≡ false → ⊥
+  idle_not busy idle = true≢false (sym busy ∙ idle)
+
+  flat_ways : (why : Refusal) → flat (Some why) → gives_way why ≡ true
+  flat_ways why (inl here) = ap way here.1
+  flat_ways why (inr (other, e)) = cc
+
+  answer_ways : Answers s (event_by j (Give false)) None → (actor_at s j).walk.busy ≡ true → (why : Refusal) → Answers s (event_by j (Give true)) (Some why) → gives_way why ≡ true
+  answer_ways t busy why (inl here) = absurd ((passed t).0 here.0)
+  answer_ways t busy why (inr (na, inl here)) = absurd ((passed (passed t).1).0 here.0)
+  answer_ways t busy why (inr (na, inr (nb, inl here))) = absurd ((passed_row s.rows (IsOdd s) OddRow Passes (passed (passed t).1).1).0 here.0 here.1 here.2)
+  answer_ways t busy why (inr (na, inr (nb, inr (none, inl here)))) = absurd (idle_not busy here.0)
+  answer_ways t busy why (inr (na, inr (nb, inr (none, inr (nd, rest))))) = flat_ways why rest
+
+  pub answer_lacks : {A : Type 0} (r : Result A rust_refused.Refused) → r ≡ Err refusals.NoMemory → Answers s (event_by j (Give false)) None → (actor_at s j).walk.busy ≡ true → AnsweredAs s (event_by j (Give true)) r
+  answer_lacks {A} r is t busy = subst (λ (r : Result A rust_refused.Refused). AnsweredAs s (event_by j (Give true)) r) (sym is) (refl, answer_ways t busy)
+
+  pub answer_last : {A : Type 0} (r : Result A rust_refused.Refused) (b : Bool) → Answers s (event_by j (Give false)) None → (actor_at s j).walk.busy ≡ true → b ≡ alters s.limit s.tree call
+      → MatchResult r (λ _. b ≡ false) (λ x. (b ≡ true) × (x ≡ refusals.Alters)) → AnsweredAs s (event_by j (Give true)) r
+  answer_last (Ok value) b t busy is e = answer_after None t (inr (idle_not busy, inr (λ a. true≢false (sym a ∙ sym is ∙ e), refl)))
+  answer_last (Err x) b t busy is e = subst (RefusedBy (Answers s (event_by j (Give true))) (MayLackMemory s (event_by j (Give true)))) (sym (ap refusal_shown e.1)) (answer_after (Some Alters) t (inr (idle_not busy, inl (sym is ∙ e.0, refl))))

@@ -18,6 +18,7 @@ pub mod Acted
 pub mod Rowed
 pub mod Stepped
 pub mod Lacking
+pub mod Tests
 pub mod Spelled
 pub mod Recorded
 pub mod NotesRead

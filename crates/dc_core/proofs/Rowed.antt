@@ -10,9 +10,10 @@ use Rattle.dc_plain.specs.Facts.{key_of}
 use Rattle.dc_plain.specs.Requests.{Request}
 use Rattle.dc_plain.specs.Runs.{Touches}
 use Rattle.dc_row.specs.Spelling.{Spells, TellsRow}
-use Rattle.dc_events.specs.Rows.{count, row_words, words_from}
+use Rattle.dc_plain.specs.Trees.{Holds}
+use Rattle.dc_events.specs.Rows.{count, row_words, words_from, IfFact}
 use Rattle.dc_core.specs.Machine.{State}
-use Rattle.dc_core.specs.Refusals.{IsEven, IsTouched}
+use Rattle.dc_core.specs.Refusals.{IsEven, IsTouched, IsTrueRow}
 
 same_fact : (ws : List ℕ) (o : Option (Option Fact)) (told : Option Fact) → o ≡ Some told → TellsRow ws o → (fact : Option Fact) → Spells ws fact → told ≡ fact
 same_fact ws o told is tells fact s = inside (sym is ∙ tells fact s)
@@ -52,6 +53,14 @@ module _ (s : State) (call : Request) (row : ℕ) (words : List ℕ) (o : Option
 
   pub without_fact : row_shown r ≡ None → IsTrue false ↔ IsTouched s call row
   without_fact none = (λ t. absurd (true≢false (sym t)), λ h. absurd (touched_none s call row (option_map row_shown o) (row_shown r) (ap (option_map row_shown) some) (subst (λ l. TellsRow l (option_map row_shown o)) is tells) none h))
+
+-- a row with a fact is true where the fact is
+pub with_true : (s : State) (row : ℕ) (words : List ℕ) (o : Option Row) (r : Row) → words ≡ row_words s.words row → o ≡ Some r → TellsRow words (option_map row_shown o) → (f : Fact) → Spells words (row_shown r) → Some f ≡ row_shown r
+    → (b : Bool) → (IsTrue b ↔ Holds s.tree f) → IsTrue b ↔ IsTrueRow s row
+with_true s row words o r is some tells f spells fact b so = (
+  λ t. record { fact = Some f; spells = subst (λ l. Spells l (Some f)) is (subst (Spells words) (sym fact) spells); holds = so.0 t },
+  λ h. so.1 (subst (IfFact s.tree) (sym (fact ∙ same_fact words (option_map row_shown o) (row_shown r) (ap (option_map row_shown) some) tells h.fact (subst (λ l. Spells l h.fact) (sym is) h.spells))) h.holds),
+)
 
 pub if_ok : {A E : Type 0} (r : Result A E) (P Q : A → Type 0) → ((a : A) → P a → Q a) → IfOk r P → IfOk r Q
 if_ok (Ok a) P Q f p = f a p

@@ -75,32 +75,33 @@ impl From<AllocError> for Refused {
 
 impl fmt::Display for Refused {
     fn fmt<W: fmt::Write>(&self, f: &mut fmt::Formatter<W>) -> fmt::Result {
-        match self {
-            Refused::Actor => f.write_str("no such actor"),
-            Refused::Holder => f.write_str("the actor has the lock"),
-            Refused::Unfinished => f.write_str("the actor has an unanswered call"),
-            Refused::Held => f.write_str("the lock is held"),
-            Refused::NotHolder => f.write_str("the actor does not have the lock"),
-            Refused::NoRow => f.write_str("no such row"),
-            Refused::Odd => f.write_str("the row is odd"),
-            Refused::Even => f.write_str("the row is even"),
-            Refused::Spent => f.write_str("the row has no count left"),
-            Refused::NoWord => f.write_str("no such word"),
-            Refused::Untrue => f.write_str("the words are not true of the tree"),
-            Refused::NoCall => f.write_str("the actor has no unanswered call"),
-            Refused::Unaltered => f.write_str("the call leaves the tree as it is"),
-            Refused::Full => f.write_str("the clock has its last value"),
-            Refused::Touched(row) => write!(f, "row {row} has a key that the call touches"),
-            Refused::OddRow(row) => write!(f, "row {row} is odd"),
-            Refused::Alters => f.write_str("the call alters the tree"),
-            Refused::Late => f.write_str("the pivot is made"),
-            Refused::Early => f.write_str("there is no pivot"),
-            Refused::NoNote => f.write_str("no such note"),
+        let said = match self {
+            Refused::Actor => "no such actor",
+            Refused::Holder => "the actor has the lock",
+            Refused::Unfinished => "the actor has an unanswered call",
+            Refused::Held => "the lock is held",
+            Refused::NotHolder => "the actor does not have the lock",
+            Refused::NoRow => "no such row",
+            Refused::Odd => "the row is odd",
+            Refused::Even => "the row is even",
+            Refused::Spent => "the row has no count left",
+            Refused::NoWord => "no such word",
+            Refused::Untrue => "the words are not true of the tree",
+            Refused::NoCall => "the actor has no unanswered call",
+            Refused::Unaltered => "the call leaves the tree as it is",
+            Refused::Full => "the clock has its last value",
+            Refused::Touched(row) => return write!(f, "row {row} has a key that the call touches"),
+            Refused::OddRow(row) => return write!(f, "row {row} is odd"),
+            Refused::Alters => "the call alters the tree",
+            Refused::Late => "the pivot is made",
+            Refused::Early => "there is no pivot",
+            Refused::NoNote => "no such note",
             Refused::Changed(row, noted, found) => {
-                write!(f, "row {row} had count {noted} and has {found}")
+                return write!(f, "row {row} had count {noted} and has {found}");
             }
-            Refused::NoMemory => f.write_str("no memory"),
-        }
+            Refused::NoMemory => "no memory",
+        };
+        f.write_str(said)
     }
 }
 

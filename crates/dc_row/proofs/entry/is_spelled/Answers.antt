@@ -1,9 +1,18 @@
-use Rattle.std.proofs.Common.{◌+◌, ◌-◌, inl, inr, sym, ◌∙◌, arith}
+use Rattle.std.proofs.Common.{◌≡◌, ◌+◌, ◌-◌, inl, inr, get_or, sym, subst, ◌∙◌, arith}
 use Rattle.std.proofs.lemmas.Bool.{cases_lt}
 use Rattle.dc_row.proofs.Firsts.{zero_from}
 use Rattle.dc_row.proofs.Written.{spelled_by, word_at-text, word_past}
-use Rattle.dc_row.specs.Spelling.{fields}
+use Rattle.dc_row.specs.Spelling.{fields, text_word}
 use Rattle.dc_row.proofs.entry.is_spelled.Goals as goal
+
+pub text-init : goal.text-init
+text-init c j some less = absurd (omega arith)
+
+pub text-preserved : goal.text-preserved
+text-preserved c j some less = let words = c.args.words.now in let text = c.args.text.now in elim (cases_lt j c.text.i) [
+  | inl l ↦ c.text.invariant j some l
+  | inr past ↦ (let here : c.text.i ≡ j = omega arith in subst (λ k. get_or words k 0 ≡ text_word text (k - 4)) here (sym c.word.ensures ∙ c.if-word-text_word.false ∙ c.text_word.ensures))
+]
 
 pub returns-clause-is : goal.returns-clause-is
 returns-clause-is c = let text = c.args.text.now in let words = c.args.words.now in let end = 4 + c.div_ceil-end.result in

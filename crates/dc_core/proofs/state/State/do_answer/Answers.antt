@@ -8,6 +8,7 @@ use Rattle.dc_core.proofs.Acted.{room, this_one}
 use Rattle.dc_core.proofs.Gives.{answer_flat, unaltered}
 use Rattle.dc_core.proofs.Kept.{number}
 use Rattle.dc_core.proofs.Recorded.{made}
+use Rattle.dc_core.proofs.Tests.{busy_here, answer_busy}
 use Rattle.dc_core.proofs.state.State.do_answer.Goals as goal
 
 pub returns-clause-done : goal.returns-clause-done
@@ -17,3 +18,9 @@ returns-clause-done c = let s = c.args.self.now in let j = c.args.actor in let S
     let all = made S s.actors.items j one less c.index_mut-2.ensures.value c.release-call.new.self (λ a. record a { walk = no_walk; seen = clock_of S; holds = false }) s.finished.items c.reserve.new.self.items c.push_reserved.new.self.items record { actor = j; call = c.release-call.result; reply = c.in_ok-reply.reply; at = c.index-clock.result.now } _ (clock_of S)
     (c.release-call.ensures.shown ∙ ap (λ n. record (actor_shown one) { walk = no_walk; seen = n; holds = false }) clock) c.in_ok-reserve.ensures.items c.push_reserved.ensures.items (λ i. record { actor = j; call = c.release-call.ensures.call i; reply = reply i; at = clock i }) in
     λ i. record (all i) { limit = c.in_ok-reply.ensures.limit i; words = set s.words.items 1 0; tree = (c.in_ok-reply.ensures.tree ∙ ap (λ (b : Actor). tree_after S.limit S.tree b.walk.call) before ∙ same_tree) i }
+
+pub apply-requires : goal.apply-requires
+apply-requires c = let s = c.args.self.now in let j = c.args.actor in busy_here s j c.index.result.now (room s j (Give true) c.requires.may) c.index.ensures (answer_busy (state_of s) j c.requires.may)
+
+pub release-call-requires : goal.release-call-requires
+release-call-requires c = let s = c.args.self.now in let j = c.args.actor in busy_here s j c.index_mut-2.result.now (room s j (Give true) c.requires.may) c.index_mut-2.ensures.value (answer_busy (state_of s) j c.requires.may)

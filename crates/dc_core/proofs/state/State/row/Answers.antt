@@ -1,6 +1,6 @@
-use Rattle.std.proofs.Common.{◌≡◌, ℕ, List, ◌+◌, ◌-◌, ◌≤◌, take, drop, length, ap, subst, ◌∙◌, sym, arith}
+use Rattle.std.proofs.Common.{◌≡◌, ℕ, List, ◌+◌, ◌-◌, ◌≤◌, take, drop, length, ap, ◌∙◌, arith}
 use Rattle.dc_row.specs.declared.TheConstants.{ROW_WORDS}
-use Rattle.dc_events.specs.Rows.{base_of, words_from}
+use Rattle.dc_events.specs.Rows.{base_of}
 use Rattle.dc_core.proofs.Rowed.{words_between}
 use Rattle.dc_core.proofs.state.State.row.Goals as goal
 

@@ -1,0 +1,146 @@
+-- The tests of an event one after another, as the program makes them.
+use Rattle.std.proofs.Common.{◌≡◌, ◌⊎◌, ◌≢◌, ◌%◌, ◌<◌, ◌≤◌, ℕ, Bool, not, true, false, true≢false, eqb, leb, List, length, map, Option, Some, Result, Ok, Err, MatchResult, IsTrue, ◌↔◌, refl, sym, ap, ap₂, ◌∙◌, subst, inl, inr, arith, get_or, is_some, None}
+use Rattle.std.proofs.lemmas.Bool.Decides.{nat_tests}
+use Rattle.dc_row.specs.declared.TheConstants.{ROW_WORDS}
+use Rattle.dc_events.specs.Rows.{count, most}
+use Rattle.dc_events.specs.Views.{Note as Noted}
+use Rattle.dc_events.specs.Walks.{note_of}
+use Rattle.dc_core.specs.Machine.{State, Actor, Event, actor_at, event_by}
+use Rattle.dc_core.specs.Machine.Act.{Shut, Write, Note, Check, Commit, Give}
+use Rattle.dc_core.specs.Memory.{MayLackMemory, RefusedBy, TestedBy, AnsweredAs}
+use Rattle.dc_core.specs.Refusals.{Refusal, Unless, Passes, Answers, IsOdd, IsEven, IsUncheckable}
+use Rattle.dc_core.specs.Refusals.Refusal.{NotHolder, NoRow, NoWord, Odd, Even, Spent, NoNote, Changed, OddRow, NoCall, Alters}
+use Rattle.dc_core.specs.Shown.{state_of, act_shown, actor_shown, refusal_shown}
+use Rattle.dc_core.specs.Steps.{Steps}
+use Rattle.dc_plain.specs.Runs.{alters}
+use Rattle.dc_core.specs.declared.actor.Actor as rust_actor
+use Rattle.dc_core.specs.declared.event.Act as rust_act
+use Rattle.dc_core.specs.declared.state.State as rust_state
+use Rattle.dc_core.specs.declared.refused.Refused as rust_refused
+use Rattle.dc_core.specs.declared.refused.Refused.TheVariants as refusals
+use Rattle.dc_core.proofs.Acted.{this_one}
+use Rattle.dc_core.proofs.Commits.{passed_row}
+use Rattle.dc_core.proofs.Seats.{passed, held_so}
+use Rattle.dc_core.proofs.Lacking.{tested_map}
+use Rattle.dc_core.proofs.Stepped.{not_false}
+use Rattle.dc_core.proofs.Shown.{map_length}
+
+below_if : (m n : ℕ) → leb m n ≡ false → n < m
+below_if m n e = grind (arith, nat_tests)
+
+same_if : (m n : ℕ) → not (eqb m n) ≡ false → m ≡ n
+same_if m n e = grind (arith, nat_tests)
+
+other_if : (m n : ℕ) → not (eqb m n) ≡ true → m ≡ n → ⊥
+other_if m n e same = grind (arith, nat_tests)
+
+-- an actor that is there
+pub seat : (us : List rust_actor.Actor) (j n : ℕ) → n ≡ length us → leb n j ≡ false → j < length us
+seat us j n is e = let less = below_if n j e in omega arith
+
+pub seated : (us : List rust_actor.Actor) (j : ℕ) → j < length us → length (map actor_shown us) ≤ j → ⊥
+seated us j less past = let len = map_length actor_shown us in omega arith
+
+pub room_if : (rows row : ℕ) → leb rows row ≡ false → rows ≤ row → ⊥
+room_if rows row e past = let less = below_if rows row e in omega arith
+
+-- a field that has something, at the actor of the table
+pub has : (x y b : Bool) → x ≡ y → x ≡ not b → b ≡ false → y ≡ false → ⊥
+has x y b same is off none = true≢false (sym (is ∙ ap not off) ∙ same ∙ none)
+
+pub has_not : (x y b : Bool) → x ≡ y → b ≡ x → b ≡ false → y ≡ true → ⊥
+has_not x y b same is off some = true≢false (sym some ∙ sym same ∙ sym is ∙ off)
+
+pub checkable : (P Q : Type 0) (b : Bool) → (Q → P) → (IsTrue b ↔ P) → b ≡ false → Q → ⊥
+checkable P Q b to so off q = true≢false (sym (so.1 (to q)) ∙ off)
+
+-- what a test of the program refuses
+pub refused_for : {A : Type 0} (s : State) (e : Event) (r : Result A rust_refused.Refused) (because : rust_refused.Refused) (named : Refusal) → r ≡ Err because → refusal_shown because ≡ Some named → Answers s e (Some named) → AnsweredAs s e r
+refused_for {A} s e r because named is name how = subst (λ (r : Result A rust_refused.Refused). AnsweredAs s e r) (sym is) (subst (RefusedBy (Answers s e) (MayLackMemory s e)) (sym name) how)
+
+-- an event whose act is known
+pub by_act : {A : Type 0} (s s' : State) (j : ℕ) (act known : rust_act.Act) (r : Result A rust_refused.Refused) → act ≡ known → Steps s (event_by j (act_shown known)) r s' → Steps s (event_by j (act_shown act)) r s'
+by_act s s' j act known r is step = subst (λ a. Steps s (event_by j (act_shown a)) r s') (sym is) step
+
+-- an actor without a call makes and answers none
+pub busy_here : (s : rust_state.State) (j : ℕ) (one : rust_actor.Actor) → j < length s.actors.items → one ≡ get_or s.actors.items j one → (actor_at (state_of s) j).walk.busy ≡ true → is_some one.call ≡ true
+busy_here s j one less is busy = ap (λ (a : Actor). a.walk.busy) (this_one s.actors.items j one less is) ∙ busy
+
+pub commit_busy : (s : State) (j : ℕ) → Answers s (event_by j Commit) None → (actor_at s j).walk.busy ≡ true
+commit_busy s j t = held_so (actor_at s j).walk.busy (passed (passed (passed t).1).1).0
+
+pub answer_busy : (s : State) (j : ℕ) → Answers s (event_by j (Give true)) None → (actor_at s j).walk.busy ≡ true
+answer_busy s j t = let a : Actor = actor_at s j in
+    let x = passed_row s.rows (IsOdd s) OddRow (Unless (a.walk.busy ≡ false) NoCall (Unless (alters s.limit s.tree a.walk.call ≡ true) Alters Passes)) (passed (passed t).1).1 in held_so a.walk.busy (passed x.1).0
+
+-- the last of the tests
+pub last_or : {A : Type 0} (M P : Type 0) (b : Bool) (because : rust_refused.Refused) (named : Refusal) (r : Result A rust_refused.Refused) → refusal_shown because ≡ Some named → (b ≡ true → P) → (b ≡ false → P → ⊥)
+    → MatchResult r (λ _. b ≡ false) (λ x. (b ≡ true) × (x ≡ because)) → TestedBy (Unless P named Passes) M r
+last_or M P b because named (Ok value) name to from e = inr (from e, refl)
+last_or M P b because named (Err x) name to from e = subst (RefusedBy (Unless P named Passes) M) (sym (ap refusal_shown e.1 ∙ name)) (inl (to e.0, refl))
+
+pub eq_true : (k d m : ℕ) → k ≡ m → eqb k d ≡ true → m ≡ d
+eq_true k d m is e = grind (arith, nat_tests)
+
+pub eq_false : (k d m : ℕ) → k ≡ m → eqb k d ≡ false → m ≡ d → ⊥
+eq_false k d m is e same = grind (arith, nat_tests)
+
+-- a bool field at the actor of the table
+pub has_field : (x y : Bool) → x ≡ y → not x ≡ false → y ≡ false → ⊥
+has_field x y same off none = true≢false (sym (not_false x off) ∙ same ∙ none)
+
+pub no_word : (word : ℕ) (b : Bool) → b ≡ false → (word ≡ 0 → ⊥) → b ≡ leb ROW_WORDS word → (word ≡ 0) ⊎ (ROW_WORDS ≤ word) → ⊥
+no_word word b off some is (inl zero) = some zero
+no_word word b off some is (inr past) = let less = below_if ROW_WORDS word (sym is ∙ off) in omega arith
+
+abbrev changed : State → Noted → Option Refusal → Type 0
+changed s x = Unless (count s.words x.row ≢ x.count) (Changed x.row x.count (count s.words x.row)) Passes
+
+changed_or : {A : Type 0} (M : Type 0) (s : State) (x : Noted) (found noted told : ℕ) (r : Result A rust_refused.Refused) → found ≡ count s.words x.row → noted ≡ x.count → told ≡ x.count
+    → MatchResult r (λ _. not (eqb found noted) ≡ false) (λ y. (not (eqb found noted) ≡ true) × (y ≡ refusals.Changed x.row told found)) → TestedBy (changed s x) M r
+changed_or M s x found noted told (Ok value) f n t e = inr ((λ ne. ne (sym f ∙ same_if found noted e ∙ n)), refl)
+changed_or M s x found noted told (Err y) f n t e = subst (RefusedBy (changed s x) M) (sym (ap refusal_shown e.1)) (inl ((λ same. other_if found noted e.0 (f ∙ same ∙ sym n)), ap₂ (λ c k. Some (Changed x.row c k)) t f))
+
+module _ (s : State) (j : ℕ) (there : length s.actors ≤ j → ⊥) (busy : (actor_at s j).walk.busy ≡ false → ⊥) where
+  pub note_lost : (row : ℕ) → ((actor_at s j).walk.pivoted ≡ true → ⊥) → s.rows ≤ row → Answers s (event_by j (Note row)) (Some NoRow)
+  note_lost row early past = inr (there, inr (busy, inr (early, inl (past, refl))))
+
+  pub note_last : {A : Type 0} (row n : ℕ) (r : Result A rust_refused.Refused) → ((actor_at s j).walk.pivoted ≡ true → ⊥) → (s.rows ≤ row → ⊥) → n ≡ count s.words row
+      → MatchResult r (λ _. eqb (n % 2) 1 ≡ false) (λ x. (eqb (n % 2) 1 ≡ true) × (x ≡ refusals.Odd)) → AnsweredAs s (event_by j (Note row)) r
+  note_last row n r early room is e = let M : Type 0 = MayLackMemory s (event_by j (Note row)) in
+      tested_map (Unless (count s.words row % 2 ≡ 1) Odd Passes) (Answers s (event_by j (Note row))) M M (λ o t. inr (there, inr (busy, inr (early, inr (room, t))))) (λ m. m) r
+      (last_or M (count s.words row % 2 ≡ 1) (eqb (n % 2) 1) refusals.Odd Odd r refl (eq_true (n % 2) 1 (count s.words row % 2) (ap (λ k. k % 2) is)) (eq_false (n % 2) 1 (count s.words row % 2) (ap (λ k. k % 2) is)) e)
+
+  pub check_lost : (i : ℕ) → ((actor_at s j).walk.pivoted ≡ false → ⊥) → IsUncheckable (actor_at s j).walk i → Answers s (event_by j (Check i)) (Some NoNote)
+  check_lost i late lost = inr (there, inr (busy, inr (late, inl (lost, refl))))
+
+  pub check_last : {A : Type 0} (i : ℕ) (x : Noted) (found noted told : ℕ) (r : Result A rust_refused.Refused) → ((actor_at s j).walk.pivoted ≡ false → ⊥) → (IsUncheckable (actor_at s j).walk i → ⊥)
+      → x ≡ note_of (actor_at s j).walk i → found ≡ count s.words x.row → noted ≡ x.count → told ≡ x.count
+      → MatchResult r (λ _. not (eqb found noted) ≡ false) (λ y. (not (eqb found noted) ≡ true) × (y ≡ refusals.Changed x.row told found)) → AnsweredAs s (event_by j (Check i)) r
+  check_last i x found noted told r late ready here f n t e = let M : Type 0 = MayLackMemory s (event_by j (Check i)) in
+      tested_map (changed s (note_of (actor_at s j).walk i)) (Answers s (event_by j (Check i))) M M (λ o t. inr (there, inr (busy, inr (late, inr (ready, t))))) (λ m. m) r
+      (subst (λ x. TestedBy (changed s x) M r) here (changed_or M s x found noted told r f n t e))
+
+module _ (s : State) (j row : ℕ) (there : length s.actors ≤ j → ⊥) (holds : (actor_at s j).holds ≡ false → ⊥) (room : s.rows ≤ row → ⊥) where
+  -- the tests of a holder at a row
+  pub held_tested : {A : Type 0} (next : Option Refusal → Type 0) (M : Type 0) (r : Result A rust_refused.Refused) → TestedBy next M r
+      → TestedBy (Unless (length s.actors ≤ j) Refusal.Actor (Unless ((actor_at s j).holds ≡ false) NotHolder (Unless (s.rows ≤ row) NoRow next))) M r
+  held_tested next M r t = tested_map next (Unless (length s.actors ≤ j) Refusal.Actor (Unless ((actor_at s j).holds ≡ false) NotHolder (Unless (s.rows ≤ row) NoRow next))) M M (λ o t. inr (there, inr (holds, inr (room, t)))) (λ m. m) r t
+
+  -- that a row is even, or that it is odd and spent
+  pub even_tested : {A : Type 0} (M : Type 0) (n : ℕ) (r : Result A rust_refused.Refused) → n ≡ count s.words row → MatchResult r (λ _. eqb (n % 2) 0 ≡ false) (λ x. (eqb (n % 2) 0 ≡ true) × (x ≡ refusals.Even)) → TestedBy (Unless (IsEven s row) Even Passes) M r
+  even_tested M n r is e = let same = ap (λ k. k % 2) is in
+      last_or M (IsEven s row) (eqb (n % 2) 0) refusals.Even Even r refl (eq_true (n % 2) 0 (count s.words row % 2) same) (eq_false (n % 2) 0 (count s.words row % 2) same) e
+
+  pub write_last : {A : Type 0} (word value n : ℕ) (r : Result A rust_refused.Refused) → ((word ≡ 0) ⊎ (ROW_WORDS ≤ word) → ⊥) → n ≡ count s.words row
+      → MatchResult r (λ _. eqb (n % 2) 0 ≡ false) (λ x. (eqb (n % 2) 0 ≡ true) × (x ≡ refusals.Even)) → AnsweredAs s (event_by j (Write row word value)) r
+  write_last word value n r fits is e = let M : Type 0 = MayLackMemory s (event_by j (Write row word value)) in
+      held_tested (Unless ((word ≡ 0) ⊎ (ROW_WORDS ≤ word)) NoWord (Unless (IsEven s row) Even Passes)) M r
+      (tested_map (Unless (IsEven s row) Even Passes) (Unless ((word ≡ 0) ⊎ (ROW_WORDS ≤ word)) NoWord (Unless (IsEven s row) Even Passes)) M M (λ o t. inr (fits, t)) (λ m. m) r (even_tested M n r is e))
+
+  pub shut_last : {A : Type 0} (n : ℕ) (r : Result A rust_refused.Refused) → n ≡ count s.words row → eqb (n % 2) 1 ≡ false
+      → MatchResult r (λ _. eqb n most ≡ false) (λ x. (eqb n most ≡ true) × (x ≡ refusals.Spent)) → AnsweredAs s (event_by j (Shut row)) r
+  shut_last n r is even e = let M : Type 0 = MayLackMemory s (event_by j (Shut row)) in let odd = eq_false (n % 2) 1 (count s.words row % 2) (ap (λ k. k % 2) is) even in
+      held_tested (Unless (IsOdd s row) Odd (Unless (count s.words row ≡ most) Spent Passes)) M r
+      (tested_map (Unless (count s.words row ≡ most) Spent Passes) (Unless (IsOdd s row) Odd (Unless (count s.words row ≡ most) Spent Passes)) M M (λ o t. inr (odd, t)) (λ m. m) r
+      (last_or M (count s.words row ≡ most) (eqb n most) refusals.Spent Spent r refl (eq_true n most (count s.words row) is) (eq_false n most (count s.words row) is) e))
