@@ -7,8 +7,7 @@ use Rattle.dc_serve.proofs.phase.end.Goals as goal
 
 pub take_in-requires-clause-pass : goal.take_in-requires-clause-pass
 take_in-requires-clause-pass g c =
-    let started = c.args.started in let back = c.match-started.back in
-    let gives : Gives started back = elim c.match-started.branch [
+    let started = c.args.started in let back = c.match-started.back in let gives : Gives started back = elim c.match-started.branch [
       | in-Ok w ↦ let kept : Returns w.in-Ok.handle.promise w.join-back.result = search rules in by_thread started back w.in-Ok.handle w.join-back.result w.in-Ok.is w.back-is kept
       | in-Err w ↦ at_once started back w.in-Err.back w.in-Err.is w.back-is
     ] in
@@ -16,8 +15,7 @@ take_in-requires-clause-pass g c =
 
 pub returns : goal.returns
 returns g c =
-    let started = c.args.started in let back = c.match-started.back in
-    let gives : Gives started back = elim c.match-started.branch [
+    let started = c.args.started in let back = c.match-started.back in let gives : Gives started back = elim c.match-started.branch [
       | in-Ok w ↦ let kept : Returns w.in-Ok.handle.promise w.join-back.result = search rules in by_thread started back w.in-Ok.handle w.join-back.result w.in-Ok.is w.back-is kept
       | in-Err w ↦ at_once started back w.in-Err.back w.in-Err.is w.back-is
     ] in

@@ -18,9 +18,7 @@ redirect-requires-2-clause-there c =
 
 pub returns-clause-tree : goal.returns-clause-tree
 returns-clause-tree c =
-    let view = c.self.view_is in
-    let entries = both_put c.args.self.now.tree (spot_shown c.args.from) (spot_shown c.args.to) c.args.moved.0 c.args.there.0 c.redirect-2.ensures c.redirect.ensures c.bytes.ensures.bytes c.bytes-2.ensures.bytes (λ i. (view i).tree.entries) in
-    λ i. record { entries = entries i; inodes = (view i).tree.inodes; next = (view i).tree.next }
+    let view = c.self.view_is in let entries = both_put c.args.self.now.tree (spot_shown c.args.from) (spot_shown c.args.to) c.args.moved.0 c.args.there.0 c.redirect-2.ensures c.redirect.ensures c.bytes.ensures.bytes c.bytes-2.ensures.bytes (λ i. (view i).tree.entries) in λ i. record { entries = entries i; inodes = (view i).tree.inodes; next = (view i).tree.next }
 
 pub invariant_of-self : goal.invariant_of-self
 invariant_of-self c = sound_after c.parts_are_names_or_dots.ensures c.self.inside _ _ _ c.self.invariant c.self.view_is c.requires.made (returns-clause-tree c) refl
