@@ -47,6 +47,8 @@ def functions(path):
         line = lines[at]
         if line.startswith("impl"):
             owner = re.sub(r"^impl(<[^>]*>)?\s*", "", line).strip(" {")
+        elif line.startswith("pub trait "):
+            owner = line.strip(" {").removeprefix("pub ")
         elif line == "}":
             owner = ""
         head = HEAD.match(line)
@@ -65,11 +67,14 @@ def functions(path):
             if clause is not None:
                 clause += " " + line.strip()
                 if "{" in clause and clause.count("{") == clause.count("}"):
-                    clauses.append(clause.strip())
-                    clause = None
+                    clauses.append(clause.strip(" ;"))
+                    # A method of a trait has no body: its last clause ends it.
+                    ended, clause = clause.endswith(";"), None
+                    if ended:
+                        break
                 line = ""
         end = end_of_body(lines, at, indent) if line.endswith("{") or lines[at : at + 1] == [indent + "{"] else at
-        is_public = public == "pub " or " for " in owner
+        is_public = public == "pub " or " for " in owner or owner.startswith("trait ")
         yield (f"{owner}::{name}" if owner else name), is_public, clauses, end - at - 1
 
 
