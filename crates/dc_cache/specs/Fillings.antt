@@ -1,17 +1,20 @@
 -- What one who fills rows makes of the guard.
-use Rattle.std.specs.Prelude.{◌≡◌}
+use Rattle.std.specs.Prelude.{◌≡◌, true}
 use Rattle.std.proofs.Common.{refl, ap, ◌∙◌}
 use Rattle.dc_plain.specs.Tellers.{Extends}
 use Rattle.dc_plain.specs.Trees.{told_of}
 use Rattle.dc_ops.specs.Same.{same_tells}
 use Rattle.dc_rows.specs.Guards.{Keeps, seat_of, kept_by}
 use Rattle.dc_table.specs.Changes.{with_words, words_of}
+use Rattle.dc_walk.specs.Placing.{AreTrue}
 use Rattle.dc_cache.specs.declared.filler.Filler.{Filler}
 
--- it has written words of rows, and has the same pass
+-- it has written words of rows, has the same pass, and knows the same
 pub record Fills (f g : Filler) : Type 0 where
   pub pass : g.guard.holder.pass.ghost_name ≡ f.guard.holder.pass.ghost_name
   pub keeps : Keeps f.guard g.guard
+  pub room : g.room ≡ f.room
+  pub known : g.is_known ≡ f.is_known
 
 pub fills_none : (f : Filler) → Fills f f
 fills_none f = record {
@@ -20,6 +23,8 @@ fills_none f = record {
     only = record { same = record { table = refl; id = refl; same_share = refl }; untried = record { tries = refl; got = refl; left = refl; past = refl }; holder = f.guard.holder.has_lock; only = refl };
     tree = record { tree = refl; clock = refl; same_limit = refl };
   };
+  room = refl;
+  known = refl;
 }
 
 pub fills_more : (f g h : Filler) → Fills f g → Fills g h → Fills f h
@@ -34,7 +39,13 @@ fills_more f g h a b = record {
     };
     tree = record { tree = b.keeps.tree.tree ∙ a.keeps.tree.tree; clock = b.keeps.tree.clock ∙ a.keeps.tree.clock; same_limit = b.keeps.tree.same_limit ∙ a.keeps.tree.same_limit };
   };
+  room = b.room ∙ a.room;
+  known = b.known ∙ a.known;
 }
 
 pub fills_keep : (f g : Filler) → Fills f g → Extends (told_of (kept_by f.guard).store) (told_of (kept_by g.guard).store)
 fills_keep f g p = same_tells (kept_by f.guard).store (kept_by g.guard).store p.keeps.tree.tree
+
+-- what the rows tell that it answers by is true of the tree
+abbrev pub KnowsTruth : Filler → Type 0
+KnowsTruth f = f.is_known ≡ true → AreTrue (kept_by f.guard).store f.room.now

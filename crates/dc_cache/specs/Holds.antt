@@ -14,8 +14,11 @@ abbrev pub HandsBack : Guard → MutBor Pass → Type 0
 HandsBack g back = (back.ghost_name ≡ g.holder.pass.ghost_name) × IsSamePass (seat_of g) back.now × IsIdle back.now
 
 -- it recorded this call alone, with this reply at this point
+abbrev pub Records : Pass → Pass → Request → Stamped → Type 0
+Records p q call stamped = Recorded (view p) (view q) call (answer_of stamped.reply) stamped.at
+
 abbrev pub RecordsOne : Guard → MutBor Pass → Request → Stamped → Type 0
-RecordsOne g back call stamped = Recorded (view (seat_of g)) (view back.now) call (answer_of stamped.reply) stamped.at
+RecordsOne g back call stamped = Records (seat_of g) back.now call stamped
 
 -- so it did, or memory for the answer was refused
 abbrev pub TellsOne : {E : Type 0} → Guard → MutBor Pass → Request → Result Stamped E → Type 0

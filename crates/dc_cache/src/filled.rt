@@ -6,11 +6,10 @@ ghost use Rattle.dc_cache.specs.Passes.{share, Fits};
 ghost use Rattle.dc_plain.specs.Requests.Request.{Look};
 
 use crate::cache::{Dcache, Pass};
-use crate::held::look_held;
+use crate::held::look_further;
+use crate::tries;
 use dc_names::{PathText, parse};
 use dc_plain::{Follow, Stamped};
-use dc_rows::Guard;
-use dc_walk::Fast;
 use std::alloc::Global;
 use std::sync::Wait;
 
@@ -35,15 +34,28 @@ impl Dcache {
             Ok(text) => text,
             Err(fault) => return self.refuse(pass, base, path, follow, fault),
         };
-        if let Fast::Done(stamped) = self.look_fast(pass, base, text, follow) {
+        if let Some(stamped) = tries::look_briefly(&self.shared, pass, base, text, follow) {
             return stamped;
         }
-        self.look_missed(rt, alloc, pass, base, text, follow)
+        let look = dc_walk::Look {
+            base,
+            path: text,
+            follow,
+        };
+        look_further(
+            &self.shared,
+            rt,
+            alloc,
+            &mut pass.seat,
+            &pass.room,
+            true,
+            look,
+        )
     }
 
     /// Where a path leads, always answered, for a caller whose `look_fast` has just given up: it goes on as
-    /// `look_filled` does, without a second walk by rows that would give up too. It asks the tree, and fills
-    /// the rows of the path under the same hold of the lock.
+    /// `look_filled` does, without a second walk by rows that would give up too. It asks the tree for the
+    /// whole path, and fills its rows under the same hold of the lock.
     pub fn look_missed<R: Wait>(
         &self,
         rt: &R,
@@ -57,11 +69,15 @@ impl Dcache {
         ensures same { Fits self.now pass.new × (share pass.new ≡ share pass.old) }
         ensures answered { Answered pass.old pass.new (Look base path.entry.bytes.now follow) result }
     {
-        let guard = Guard::lock(&self.shared, rt, &mut pass.seat);
-        let (back, found) = look_held(guard, alloc, base, path, follow);
-        // For the proof: the seat is back as it is bound.
-        let _seat = back;
-        self.shared.wake();
-        found
+        let look = dc_walk::Look { base, path, follow };
+        look_further(
+            &self.shared,
+            rt,
+            alloc,
+            &mut pass.seat,
+            &pass.room,
+            false,
+            look,
+        )
     }
 }

@@ -1,7 +1,8 @@
 //! Fills the rows of a path, by the questions of a look-up.
 
-ghost use Rattle.std.specs.Prelude.{◌≡◌};
-ghost use Rattle.dc_cache.specs.Fillings.{Fills, fills_none, fills_more, fills_keep};
+ghost use Rattle.std.specs.Prelude.{◌≡◌, ◌≢◌, Some, IfSome};
+ghost use Rattle.dc_cache.specs.Fillings.{Fills, KnowsTruth, fills_none, fills_more, fills_keep};
+ghost use Rattle.dc_plain.specs.Facts.Label.{Text};
 ghost use Rattle.dc_plain.specs.KeysShown.{key_shown};
 ghost use Rattle.dc_plain.specs.Trees.{told_of};
 ghost use Rattle.dc_rows.specs.Guards.{kept_by};
@@ -13,6 +14,7 @@ use dc_plain::{Key, Label, Target};
 use dc_resolve::{Bytes, Finder, Stop};
 use dc_row::RowText;
 use dc_rows::Guard;
+use dc_walk::Room;
 use std::alloc::Global;
 
 /// The text of a link, by value, as far as a row has room for it.
@@ -30,14 +32,38 @@ impl Bytes for ShortText {
 }
 
 /// Answers the questions of a look-up from the tree, and fills the row of each. It stops at a link
-/// whose text has no room in a row, since no look-up without the lock gets past that.
+/// whose text has no room in a row, since no look-up without the lock gets past that. Where a walk by rows
+/// has just given up, the rows in its room answer its questions again, in their order, if what they tell
+/// is known to be true: the tree isn't asked for these then, nor are their rows filled.
 pub(crate) struct Filler<'t> {
     pub guard: Guard<'t>,
     pub alloc: Global,
+    pub room: &'t Room,
+    pub is_known: bool,
+    /// The row that answers the next question.
+    pub next: usize,
     pub stopped: bool,
 }
 
 impl Filler<'_> {
+    /// Where a key's entry leads, by the next row, if this is known and tells of it.
+    fn told(&mut self, key: Key<'_>) -> Option<Option<Target>>
+        requires known { KnowsTruth self.old }
+        requires entry { (key_shown key).label ≢ Text }
+        ensures fills { Fills self.old self.new }
+        ensures stopped { self.new.stopped ≡ self.old.stopped }
+        ensures told { IfSome result (λ target. let key = key_shown key.entry in
+            (told_of (kept_by self.old.guard).store).entry key.number key.label ≡ Some target) }
+    {
+        if !self.is_known {
+            return None;
+        }
+        let target = self.room.told_at(self.next, key);
+        // Each question has its row, in their order, up to a key that is asked for twice.
+        self.next = self.next.saturating_add(1);
+        target
+    }
+
     /// Fills the row of a key, if one can be had.
     fn fill(&mut self, key: &Key<'_>)
         ensures fills { Fills self.old self.new }
@@ -66,7 +92,7 @@ impl Finder for Filler<'_> {
 
     ghost becomes = { Fills };
 
-    ghost may_ask = { λ f number label. Unit {0} };
+    ghost may_ask = { λ f number label. KnowsTruth f };
 
     ghost may_spend = { λ f n. Unit {0} };
 
@@ -79,6 +105,13 @@ impl Finder for Filler<'_> {
             // A walk stays where it is at a dot, and asks nothing: `is_asked` says so.
             Part::Dot => unreachable!(),
         };
+        let key = Key { number: dir, label };
+        // Of a dot-dot no row says that it leads to a directory: the tree does.
+        if let Some(target) = self.told(key)
+            && let Part::Normal(_) = part
+        {
+            return Ok(target);
+        }
         let mut finder = StoreFinder {
             store: self.guard.store(),
         };
@@ -86,7 +119,7 @@ impl Finder for Filler<'_> {
         let StoreFinder { store: _ } = finder;
         // A store has an answer to each question, so its finder never stops.
         let Ok(target) = found else { unreachable!() };
-        self.fill_entry(&Key { number: dir, label }, target);
+        self.fill_entry(&key, target);
         Ok(target)
     }
 

@@ -1,22 +1,26 @@
 //! What is done under one hold of the lock. Each hands the pass back as the lock is given back.
 
-ghost use Rattle.std.specs.Prelude.{ℕ};
-ghost use Rattle.dc_cache.specs.Holds.{HandsBack, RecordsOne, TellsOne};
+ghost use Rattle.std.specs.Prelude.{◌≡◌, ℕ, true, IfSome, IfNone};
+ghost use Rattle.dc_cache.specs.Holds.{HandsBack, Records, RecordsOne, TellsOne};
 ghost use Rattle.dc_ops.specs.Asked.{IsSought, IsToldAtLength};
 ghost use Rattle.dc_ops.specs.Settled.{DeclinesCall};
 ghost use Rattle.dc_plain.specs.Requests.{request_of};
-ghost use Rattle.dc_plain.specs.Requests.Request.{Look};
 ghost use Rattle.dc_rows.specs.Guards.{seat_of, kept_by};
-ghost use Rattle.dc_table.specs.Changes.{IsTaken};
-ghost use Rattle.dc_table.specs.Passes.{view};
+ghost use Rattle.dc_table.specs.Changes.{IsTaken, NothingNew};
+ghost use Rattle.dc_table.specs.Passes.{view, share, IsIdle, IsSamePass};
+ghost use Rattle.dc_walk.specs.Findings.{CanWalk};
+ghost use Rattle.dc_walk.specs.Looks.{look_shown};
+ghost use Rattle.dc_walk.specs.Placing.{AreNoted};
 
 use crate::filler::Filler;
-use dc_names::{NoMemory, PathText};
+use dc_names::NoMemory;
 use dc_ops::{ask, look_by, seek};
-use dc_plain::{Call, Follow, Reply, Stamped};
+use dc_plain::{Call, Reply, Stamped};
 use dc_rows::Guard;
-use dc_table::Pass as Seat;
+use dc_table::{Pass as Seat, Shared};
+use dc_walk::{Room, are_as_noted};
 use std::alloc::Global;
+use std::sync::Wait;
 
 /// Answers a call that alters nothing, whose reply is known.
 fn answer_held<'t>(guard: Guard<'t>, call: &Call<'_>, reply: Reply) -> (&'t mut Seat, Stamped)
@@ -58,39 +62,91 @@ pub(crate) fn ask_held<'t>(
     }
 }
 
-/// Answers a look-up of a path from the tree, and fills the rows that it asks for, as far as they can be
-/// had.
+/// Answers a look-up of a path, and fills the rows that it asks the tree for, as far as they can be had. If
+/// a walk by rows has just `noted` those in the room, it goes on from these where they stand still.
 pub(crate) fn look_held<'t>(
-    guard: Guard<'t>,
+    mut guard: Guard<'t>,
     alloc: Global,
-    base: u64,
-    path: PathText<'_>,
-    follow: Follow,
+    room: &'t Room,
+    noted: bool,
+    look: dc_walk::Look<'_>,
 ) -> (&'t mut Seat, Stamped)
     requires taken { IsTaken (view (seat_of guard)) }
+    requires noted { noted ≡ true
+        → (let p = seat_of guard in AreNoted (view p) (share p).rows room.now) }
     ensures same { HandsBack guard.entry result.0 }
-    ensures recorded { RecordsOne guard.entry result.0
-        (Look base path.entry.bytes.now follow) result.1 }
+    ensures recorded { RecordsOne guard.entry result.0 (look_shown look.entry) result.1 }
 {
+    let is_known = noted && are_as_noted(&mut guard, room);
     let mut filler = Filler {
         guard,
         alloc,
+        room,
+        is_known,
+        next: 0,
         stopped: false,
     };
-    let reply = look_by(&mut filler, base, path, follow);
+    let reply = look_by(&mut filler, look.base, look.path, look.follow);
     let Filler {
         guard,
         alloc: _,
+        room: _,
+        is_known: _,
+        next: _,
         stopped: _,
     } = filler;
-    let call = Call::Look {
-        base,
-        path: path.bytes(),
-        follow,
-    };
+    let call = look.call();
     match reply {
         Some(reply) => answer_held(guard, &call, reply),
         // It stopped at a text that no row has room for. The tree knows where that leads.
         None => seek_held(guard, &call),
+    }
+}
+
+/// Answers a look-up as `look_held`, under a hold that it waits for.
+pub(crate) fn look_further<R: Wait>(
+    shared: &Shared,
+    rt: &R,
+    alloc: Global,
+    seat: &mut Seat,
+    room: &Room,
+    noted: bool,
+    look: dc_walk::Look<'_>,
+) -> Stamped
+    requires can { CanWalk shared.now seat.old }
+    requires noted { noted ≡ true → AreNoted (view seat.old) (share seat.old).rows room.now }
+    ensures same { IsSamePass seat.old seat.new × IsIdle seat.new }
+    ensures recorded { Records seat.old seat.new (look_shown look.entry) result }
+{
+    let guard = Guard::lock(shared, rt, seat);
+    let (back, found) = look_held(guard, alloc, room, noted, look);
+    // For the proof, here and below: the seat is back as it is bound.
+    let _seat = back;
+    shared.wake();
+    found
+}
+
+/// Answers a look-up as `look_held`, for a pass whose walk by rows has just given up. `None` if another pass
+/// has the lock.
+pub(crate) fn try_further(
+    shared: &Shared,
+    alloc: Global,
+    seat: &mut Seat,
+    room: &Room,
+    look: dc_walk::Look<'_>,
+) -> Option<Stamped>
+    requires can { CanWalk shared.now seat.old }
+    requires noted { AreNoted (view seat.old) (share seat.old).rows room.now }
+    ensures same { IsSamePass seat.old seat.new × IsIdle seat.new }
+    ensures recorded { IfSome result (Records seat.old seat.new (look_shown look.entry)) }
+    ensures held { IfNone result (NothingNew (view seat.old) (view seat.new)) }
+{
+    match Guard::try_lock(shared, seat) {
+        Ok(guard) => {
+            let (back, found) = look_held(guard, alloc, room, true, look);
+            let _seat = back;
+            Some(found)
+        }
+        Err(_seat) => None,
     }
 }

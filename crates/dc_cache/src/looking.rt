@@ -86,7 +86,7 @@ impl Dcache {
             Ok(text) => text,
             Err(fault) => return self.refuse(pass, base, path, follow, fault),
         };
-        if let Fast::Done(stamped) = self.look_fast(pass, base, text, follow) {
+        if let Some(stamped) = tries::look_briefly(&self.shared, pass, base, text, follow) {
             return stamped;
         }
         let again = self.look_counted(rt, alloc, pass, base, text, follow);

@@ -171,8 +171,9 @@ impl Sleepless {
                 return Some(found);
             }
         };
-        if let Fast::Done(stamped) = self.look_fast(pass, base, text, follow) {
-            return Some(stamped);
+        let found = tries::look_briefly(&self.shared, pass, base, text, follow);
+        if found.is_some() {
+            return found;
         }
         tries::try_fill(&self.shared, alloc, pass, base, text, follow)
     }

@@ -12,15 +12,17 @@ ghost use Rattle.dc_plain.specs.Requests.{request_of};
 ghost use Rattle.dc_plain.specs.Requests.Request.{Look};
 ghost use Rattle.dc_table.specs.Changes.{NothingNew};
 ghost use Rattle.dc_table.specs.Shares.{HasNotTried};
+ghost use Rattle.dc_walk.specs.Placing.{AreNoted};
 ghost use Rattle.dc_walk.specs.declared.TheConstants.{MOST_LOADS};
 
 use crate::cache::Pass;
 use crate::gone::{Gone, going};
-use crate::held::{ask_held, look_held, seek_held};
+use crate::held::{ask_held, seek_held, try_further};
 use dc_names::{NoMemory, PathText, TextFault};
 use dc_plain::{Call, Follow, Reply, Stamped};
 use dc_rows::{ChangeFault, Guard};
 use dc_table::Shared;
+use dc_walk::walk_briefly;
 use std::alloc::Global;
 
 /// Answers a look-up whose text is refused, which asks no question.
@@ -47,10 +49,10 @@ pub(crate) fn refuse(
     }
 }
 
-/// Asks the tree where a path leads, and fills the rows of the path.
-pub(crate) fn try_fill(
+/// Where a path leads, by the rows alone, which takes no lock. `None` doesn't say why, for calls that ask
+/// the tree next.
+pub(crate) fn look_briefly(
     shared: &Shared,
-    alloc: Global,
     pass: &mut Pass,
     base: u64,
     path: PathText<'_>,
@@ -60,17 +62,32 @@ pub(crate) fn try_fill(
     ensures same { FitsTable shared.now pass.new × (share pass.new ≡ share pass.old) }
     ensures answered { IfSome result (Answered pass.old pass.new
         (Look base path.entry.bytes.now follow)) }
+    ensures nothing { IfNone result (NothingNew (view pass.old) (view pass.new)) }
+    ensures noted { IfNone result (AreNoted (view pass.new) (share pass.new).rows pass.new.room) }
+{
+    let look = dc_walk::Look { base, path, follow };
+    walk_briefly(shared.reader(), &mut pass.seat, &mut pass.room, look)
+}
+
+/// Where a path leads, for a pass whose walk by rows has just given up: by the rows in its room, as far as
+/// they lead, and by the tree, whose answers fill rows.
+pub(crate) fn try_fill(
+    shared: &Shared,
+    alloc: Global,
+    pass: &mut Pass,
+    base: u64,
+    path: PathText<'_>,
+    follow: Follow,
+) -> Option<Stamped>
+    requires pass { FitsTable shared.now pass.old }
+    requires noted { AreNoted (view pass.old) (share pass.old).rows pass.old.room }
+    ensures same { FitsTable shared.now pass.new × (share pass.new ≡ share pass.old) }
+    ensures answered { IfSome result (Answered pass.old pass.new
+        (Look base path.entry.bytes.now follow)) }
     ensures held { IfNone result (NothingNew (view pass.old) (view pass.new)) }
 {
-    match Guard::try_lock(shared, &mut pass.seat) {
-        Ok(guard) => {
-            let (back, found) = look_held(guard, alloc, base, path, follow);
-            // For the proof, here and below: the seat is back as it is bound.
-            let _seat = back;
-            Some(found)
-        }
-        Err(_seat) => None,
-    }
+    let look = dc_walk::Look { base, path, follow };
+    try_further(shared, alloc, &mut pass.seat, &pass.room, look)
 }
 
 /// Makes a change.

@@ -14,7 +14,6 @@ use crate::tries;
 use dc_names::{NoMemory, parse};
 use dc_plain::{Call, Follow, Stamped};
 use dc_rows::ChangeFault;
-use dc_walk::Fast;
 use std::alloc::Global;
 
 impl Dcache {
@@ -50,8 +49,9 @@ impl Dcache {
             Ok(text) => text,
             Err(fault) => return Some(self.refuse(pass, base, path, follow, fault)),
         };
-        if let Fast::Done(stamped) = self.look_fast(pass, base, text, follow) {
-            return Some(stamped);
+        let found = tries::look_briefly(&self.shared, pass, base, text, follow);
+        if found.is_some() {
+            return found;
         }
         self.woken(tries::try_fill(&self.shared, alloc, pass, base, text, follow))
     }

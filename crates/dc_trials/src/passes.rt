@@ -280,3 +280,24 @@ fn a_path_is_filled_under_one_hold(rt: HostRuntime) -> Result<(), Fail> {
     assert!(rt; cache.counts().evictions == 1 && cache.counts().sleeps == 0);
     play(&rt, rt.alloc(), &cache, &mut p, &NO_LONGER)
 }
+
+static FILLED_FURTHER: [Step<'static>; 11] = [
+    Step::Change(Act::Mkdir(b"/a"), Want::Done(2), 0),
+    Step::Change(Act::Mkdir(b"/a/b"), Want::Done(3), 1),
+    Step::Filled(b"/a/b", Want::Found(3, Kind::Dir), 2),
+    Step::Change(Act::Create(b"/a/b/f"), Want::Done(4), 2),
+    Step::Change(Act::Symlink(b"b", b"/a/l"), Want::Done(5), 3),
+    Step::Filled(b"/a/b/f", Want::Found(4, Kind::File), 4),
+    Step::Fast(b"/a/b/f", Want::Found(4, Kind::File), 4),
+    Step::Filled(b"/a/b/../l/f", Want::Found(4, Kind::File), 4),
+    Step::Fast(b"/a/b/../l/f", Want::Found(4, Kind::File), 4),
+    Step::Filled(b"/a/b/g", Want::Refused(2), 4),
+    Step::Fast(b"/a/b/g", Want::Refused(2), 4),
+];
+
+/// A look-up that goes on where the rows end, also behind a dot-dot, a link and a key that comes up twice.
+#[test]
+fn a_path_is_filled_from_where_its_rows_end(rt: HostRuntime) -> Result<(), Fail> {
+    let (cache, mut p) = Dcache::new(rt.alloc(), 16, 16).expect(&rt, "memory");
+    play(&rt, rt.alloc(), &cache, &mut p, &FILLED_FURTHER)
+}

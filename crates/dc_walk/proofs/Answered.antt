@@ -1,5 +1,5 @@
 -- What a walk promises once it has made its checks, or given up before them.
-use Rattle.std.proofs.Common.{◌≡◌, ℕ, ◌++◌, ◌∷◌, [], List, Bool, true, false, Option, length, ap, sym, ◌∙◌, arith}
+use Rattle.std.proofs.Common.{◌≡◌, ℕ, ◌++◌, ◌∷◌, [], List, Bool, true, false, Option, length, refl, ap, sym, ◌∙◌, arith}
 use Rattle.dc_plain.specs.Facts.{Teller}
 use Rattle.dc_plain.specs.Resolution.{Outcome}
 use Rattle.dc_plain.specs.Requests.{Request, Answer, answer_of as reply_shown}
@@ -75,10 +75,10 @@ module _ (locks : Bool) (look : Look) (buckets : ℕ) (v w : View) where
       }
 
   -- it gave up before
-  pub gave_up : (why : rust_why.Why) → Stopped locks look buckets v w why → Walks locks look buckets v w (fasts.Again why)
-  gave_up why stopped = record {
+  pub gave_up : (uses : List Use) (why : rust_why.Why) → Stopped locks false look buckets v w uses why → Walks locks look buckets v w (fasts.Again why)
+  gave_up uses why stopped = record {
     tried = stopped.nothing;
-    free = λ unlocked. let gave = stopped.gave_up unlocked in record { keeps = gave; asks = stopped.asks; loads = gave.loads };
+    free = λ unlocked. let gave = stopped.gave_up unlocked refl in record { keeps = gave; asks = stopped.asks; loads = gave.loads };
   }
 
 -- what was tried stays so while another has the lock and gives it back

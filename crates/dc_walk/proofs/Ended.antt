@@ -15,7 +15,7 @@ use Rattle.dc_events.specs.Effects.{begins, begun}
 use Rattle.dc_table.specs.Holders.{table_of}
 use Rattle.dc_table.specs.Passes.{Pass, view, share, IsSamePass, IsIdle}
 use Rattle.dc_table.specs.Shares.{Share}
-use Rattle.dc_walk.specs.Uses.{Use, facts_of}
+use Rattle.dc_walk.specs.Uses.{Use, Marked, facts_of}
 use Rattle.dc_walk.specs.Asking.{IsWalk}
 use Rattle.dc_walk.specs.Causes.{HasCause}
 use Rattle.dc_walk.specs.Becomings.{Becomes, Between, IsGood, MayAskRows}
@@ -49,6 +49,11 @@ by_begun outcome buckets false v call whys.Long cause = let none : length cause.
 by_begun outcome buckets false v call whys.Link cause = let other = cause.2.rows 0 (omega arith) in absurd (none_there other.note other.noted)
 by_begun outcome buckets false v call whys.Memory cause = absurd cause
 
+-- the notes that are used are those of a walk that was begun
+noted_by : (b : Bool) (v : View) (call : Request) (uses : List Use) → 0 < length uses → Marked 0 0 (begins (not b) v call).walk.notes uses → Marked 0 0 v.walk.notes uses
+noted_by true v call uses some marked = marked
+noted_by false v call uses some marked = let none : length uses ≡ 0 = ap length marked in absurd (omega arith)
+
 -- a walk that checks each row that it used is within its loads
 loads_within : (slow : Bool) (n : ℕ) → n ≤ MOST_USED → (slow ≡ true → n < MOST_USED) → ROW_WORDS * (BUCKET_ROWS * n + (if slow then BUCKET_ROWS else 0)) + n < MOST_LOADS
 loads_within false n few room = omega arith
@@ -78,7 +83,7 @@ module _ (locks : Bool) (f : Rows) where
     };
     few = within_full f (subst (λ (us : List Used). length us ≤ MOST_USED) (sym none) (omega arith));
     goes = λ fresh. record { none = refl; room = λ slow. subst (λ (us : List Used). length us < MOST_USED) (sym none) (omega arith) };
-    cause = λ free. subst (λ o. IfSome o (HasCause (outcome_in f) (buckets_of f.pass.now) (now_in f))) (sym fresh) tt;
+    cause = λ free tells. subst (λ o. IfSome o (HasCause (outcome_in f) (buckets_of f.pass.now) (now_in f))) (sym fresh) tt;
     asks = subst (λ o. IfSome o (λ why. outcome_in f (told_by []) ≡ None)) (sym fresh) tt;
   }
 
@@ -111,10 +116,10 @@ module _ (locks : Bool) (f : Rows) where
       few = subst (λ (n : ℕ). ROW_WORDS * (BUCKET_ROWS * n + spent g) + n < MOST_LOADS) (ap (λ (us : List Used). length us) (sym same_used) ∙ sym (length-map us use_shown)) (loads_within g.slow (length g.used.now.items) (b.good good).finding.few ((b.good good).goes fresh).room);
     }
 
-    gave_so : locks ≡ false → (why : rust_why.Why) → g.why ≡ Some why → outcome_in f (told_by []) ≡ None → NothingNew v (view p) → GaveUp (outcome_in f) (buckets_of f.pass.now) v (view p) why
-    gave_so free why is asks nothing =
+    gave_so : locks ≡ false → f.brief ≡ false → (why : rust_why.Why) → g.why ≡ Some why → outcome_in f (told_by []) ≡ None → NothingNew v (view p) → GaveUp (outcome_in f) (buckets_of f.pass.now) v (view p) why
+    gave_so free tells why is asks nothing =
         let good_now = b.good good in
-        let cause : HasCause (outcome_in g) (buckets_of g.pass.now) (now_in g) why = subst (λ o. IfSome o (HasCause (outcome_in g) (buckets_of g.pass.now) (now_in g))) is (good_now.cause free) in
+        let cause : HasCause (outcome_in g) (buckets_of g.pass.now) (now_in g) why = subst (λ o. IfSome o (HasCause (outcome_in g) (buckets_of g.pass.now) (now_in g))) is (good_now.cause free (b.same.brief ∙ tells)) in
         let buckets : buckets_of g.pass.now ≡ buckets_of f.pass.now = ap (λ (x : Share). x.rows / BUCKET_ROWS) b.same.same_pass.same_share in
         let cause_now = subst (λ (z : (Teller → Option Outcome) × ℕ × View). HasCause z.0 z.1 z.2 why) (λ i. (outcome_same b.same i, buckets i, now_is i)) cause in
         let begun_is = by_begun (outcome_in f) (buckets_of f.pass.now) g.begun (view p) (request_in f) why cause_now in
@@ -129,7 +134,7 @@ module _ (locks : Bool) (f : Rows) where
           loads = omega (arith, length-map g.used.now.items use_shown);
         }
 
-    pub stopped_so : (why : rust_why.Why) → g.why ≡ Some why → Stopped locks f.look (buckets_of f.pass.now) v (view p) why
+    pub stopped_so : (why : rust_why.Why) → g.why ≡ Some why → Stopped locks f.brief f.look (buckets_of f.pass.now) v (view p) (map use_shown us) why
     stopped_so why is =
         let book : (view_in g.begun p f.look).book ≡ (view p).book = begins_book (not g.begun) (view p) (request_in f) in
         let seen = ap (λ (b : Book). b.seen) book in let new = between_so.nothing in let later = new.later in
@@ -138,7 +143,9 @@ module _ (locks : Bool) (f : Rows) where
         let asks : outcome_in f (told_by []) ≡ None = sym (λ i. outcome_same b.same i (told_by [])) ∙ subst (λ o. IfSome o (λ why. outcome_in g (told_by []) ≡ None)) is good_now.asks in record {
           nothing = nothing;
           asks = asks;
-          gave_up = λ free. gave_so free why is asks nothing;
+          noted = λ some. noted_by g.begun (view p) (request_in f) (map use_shown us) some
+              (subst (λ (z : View × List Used). Marked 0 0 z.0.walk.notes (map use_shown z.1)) (λ i. (now_is i, sym same_used i)) good_now.finding.walk.marked);
+          gave_up = λ free tells. gave_so free tells why is asks nothing;
         }
 
 -- what a walk needs may be asked

@@ -110,9 +110,9 @@ within_two f looks room few = omega arith
 
 -- a question without an answer is the last
 module _ (locks : Bool) {f g : Rows} (s : SameRows f g) (used : g.used.now.items ≡ f.used.now.items) (b : Between locks (now_in f) (now_in g)) (k : ℕ) (is : IsFinding g k) (few : IsWithin (length g.used.now.items) (spent g + k)) (now : outcome_in f (said_in f) ≡ None) where
-  pub stops : IsUntried locks f.pass.now g.pass.now → (why : rust_why.Why) (spare : Option ℕ) → (locks ≡ false → HasCause (outcome_in g) (buckets_of g.pass.now) (now_in g) why) → Becomes locks f (record g { spare = spare; why = Some why })
+  pub stops : IsUntried locks f.pass.now g.pass.now → (why : rust_why.Why) (spare : Option ℕ) → (locks ≡ false → g.brief ≡ false → HasCause (outcome_in g) (buckets_of g.pass.now) (now_in g) why) → Becomes locks f (record g { spare = spare; why = Some why })
   stops untried why spare cause = record {
-    same = record { reader = s.reader; pass = s.pass; used = s.used; look = s.look; same_pass = s.same_pass };
+    same = record { reader = s.reader; pass = s.pass; used = s.used; look = s.look; brief = s.brief; same_pass = s.same_pass };
     told = same_told f g used;
     walk = b;
     untried = untried;
@@ -161,7 +161,7 @@ answered_becomes locks {f = f} {g = g} s row at key untried on a why room = reco
     finding = a.finding;
     few = within_full g a.finding.few;
     goes = λ fresh. record { none = refl; room = room };
-    cause = λ free. subst (λ o. IfSome o (HasCause (outcome_in g) (buckets_of g.pass.now) (now_in g))) (sym why) tt;
+    cause = λ free tells. subst (λ o. IfSome o (HasCause (outcome_in g) (buckets_of g.pass.now) (now_in g))) (sym why) tt;
     asks = subst (λ o. IfSome o (λ why. outcome_in g (told_by []) ≡ None)) (sym why) tt;
   };
 }
@@ -169,7 +169,7 @@ answered_becomes locks {f = f} {g = g} s row at key untried on a why room = reco
 -- a row more than could be checked answers, after two looks for one: the walk ends with it
 pub filled_becomes : (locks : Bool) {f g : Rows} (s : SameRows f g) (row at : ℕ) (key : Key) → HasNotTried (known f.pass.now) (known g.pass.now) → GoesOn (now_in f) (now_in g) → Answers f key g row 0 at → outcome_in f (said_in f) ≡ None → length g.used.now.items ≡ MOST_USED → Becomes locks f (record g { why = Some whys.Long })
 filled_becomes locks {f = f} {g = g} s row at key untried on a now full = record {
-  same = record { reader = s.reader; pass = s.pass; used = s.used; look = s.look; same_pass = s.same_pass };
+  same = record { reader = s.reader; pass = s.pass; used = s.used; look = s.look; brief = s.brief; same_pass = s.same_pass };
   told = subst (λ facts. Extends (said_in f) (told_by facts)) (sym (ap facts_of a.uses ∙ map-append (λ u. u.fact) (uses_in f) (a.use_of ∷ []))) (told_more (facts_of (uses_in f)) a.use_of.fact);
   walk = same_between on.same;
   untried = λ free. untried;
@@ -178,7 +178,7 @@ filled_becomes locks {f = f} {g = g} s row at key untried on a now full = record
     finding = record { can = is.can; walk = is.walk; made = is.made; call = is.call; spelled = is.spelled; inside = is.inside; held = is.held; few = is.few };
     few = within_full g is.few;
     goes = λ fresh. absurd cc;
-    cause = λ free. record { uses = uses_in g; marked = is.walk.marked; many = length-map g.used.now.items use_shown ∙ full; distinct = is.walk.distinct };
+    cause = λ free tells. record { uses = uses_in g; marked = is.walk.marked; many = length-map g.used.now.items use_shown ∙ full; distinct = is.walk.distinct };
     asks = asks_first s good.finding.walk.needed now;
   };
 }

@@ -140,7 +140,7 @@ pub fault_on : {v w : View} {fault : Fault} → GoesOn v w → Contains v.faults
 fault_on {v = v} {fault = fault} on c = subst (λ (xs : List Fault). Contains xs fault) (sym on.faults) (Contains-append_left v.faults on.more fault c)
 
 pub same_still : (f : Rows) → SameRows f f
-same_still f = record { reader = refl; pass = refl; used = refl; look = refl; same_pass = same_pass f.pass.now }
+same_still f = record { reader = refl; pass = refl; used = refl; look = refl; brief = refl; same_pass = same_pass f.pass.now }
 
 pub can_still : {t u : Shared} {p q : Pass} → u ≡ t → IsSamePass p q → IsIdle q → CanWalk t p → CanWalk u q
 can_still {p = p} {q = q} e same idle c = subst (λ x. CanWalk x q) (sym e) (record {

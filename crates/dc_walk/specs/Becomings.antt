@@ -28,13 +28,13 @@ pub record MayGoOn (f : Rows) (looks : ℕ) : Type 0 where
   pub none : looks ≡ 0
   pub room : f.slow ≡ true → length f.used.now.items < MOST_USED
 
--- a walk without the lock gave up for a cause that its pass has seen
+-- a walk without the lock gave up for a cause that its pass has seen, if it needs one
 pub record IsGood (locks : Bool) (f : Rows) : Type 0 where
   pub looks : ℕ
   pub finding : IsFinding f looks
   pub few : BUCKET_ROWS * length f.used.now.items + (spent f + looks) ≤ BUCKET_ROWS * (MOST_USED + 1)
   pub goes : f.why ≡ None → MayGoOn f looks
-  pub cause : locks ≡ false → IfSome f.why (HasCause (outcome_in f) (buckets_of f.pass.now) (now_in f))
+  pub cause : locks ≡ false → f.brief ≡ false → IfSome f.why (HasCause (outcome_in f) (buckets_of f.pass.now) (now_in f))
   pub asks : IfSome f.why (λ why. outcome_in f (told_by []) ≡ None)
 
 pub record Becomes (locks : Bool) (f g : Rows) : Type 0 where
@@ -91,7 +91,7 @@ between_again a b = record {
 
 pub stays_so : (locks : Bool) (f : Rows) → Becomes locks f f
 stays_so locks f = record {
-  same = record { reader = refl; pass = refl; used = refl; look = refl; same_pass = record { table = refl; id = refl; same_share = refl } };
+  same = record { reader = refl; pass = refl; used = refl; look = refl; brief = refl; same_pass = record { table = refl; id = refl; same_share = refl } };
   told = record { entry = λ d label found told. told; text = λ n bytes told. told };
   walk = record { call = refl; first_load = refl; nothing = nothing_still (now_in f); book = λ free. refl };
   untried = λ free. record { tries = refl; got = refl; left = refl; past = refl };
@@ -104,6 +104,7 @@ same_again p q = record {
   pass = q.pass ∙ p.pass;
   used = q.used ∙ p.used;
   look = q.look ∙ p.look;
+  brief = q.brief ∙ p.brief;
   same_pass = record { table = q.same_pass.table ∙ p.same_pass.table; id = q.same_pass.id ∙ p.same_pass.id; same_share = q.same_pass.same_share ∙ p.same_pass.same_share };
 }
 

@@ -1,5 +1,5 @@
 -- What a look-up by rows promises.
-use Rattle.std.specs.Prelude.{◌≡◌, ℕ, ◌+◌, ◌≤◌, List, [], Option, None}
+use Rattle.std.specs.Prelude.{◌≡◌, ℕ, ◌+◌, ◌≤◌, List, [], Option, Some, None}
 use Rattle.dc_plain.specs.declared.call.Follow.{Follow}
 use Rattle.dc_plain.specs.declared.call.Stamped.{Stamped}
 use Rattle.dc_plain.specs.Facts.{Teller, told_by}
@@ -50,3 +50,8 @@ pub record RecordedWithin (call : Request) (before now : View) (stamped : Stampe
 abbrev pub Tried : Request → (before now : View) → rust_fast.Fast → Type 0
 Tried call before now (fasts.Done stamped) = RecordedWithin call before now stamped
 Tried call before now (fasts.Again why) = NothingNew before now
+
+-- so too for who needs no cause
+abbrev pub TriedBriefly : Request → (before now : View) → Option Stamped → Type 0
+TriedBriefly call before now (Some stamped) = RecordedWithin call before now stamped
+TriedBriefly call before now None = NothingNew before now

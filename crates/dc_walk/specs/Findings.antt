@@ -46,6 +46,7 @@ pub record SameRows (f g : Rows) : Type 0 where
   pub pass : g.pass.ghost_name ≡ f.pass.ghost_name
   pub used : g.used.ghost_name ≡ f.used.ghost_name
   pub look : g.look ≡ f.look
+  pub brief : g.brief ≡ f.brief
   pub same_pass : IsSamePass f.pass.now g.pass.now
 
 -- the view, once the walk of a question is begun

@@ -10,7 +10,7 @@ use Rattle.dc_table.specs.Passes.{Pass, view}
 use Rattle.dc_walk.specs.Findings.{buckets_of, view_in}
 use Rattle.dc_walk.specs.Finds.{use_shown}
 use Rattle.dc_walk.specs.Rooms.{Kept}
-use Rattle.dc_walk.specs.Uses.{Use}
+use Rattle.dc_walk.specs.Uses.{Use, Marked}
 use Rattle.dc_walk.specs.Becomings.{Between}
 use Rattle.dc_walk.specs.Fasts.{GaveUp, Keeps, IfAgain, Tried}
 use Rattle.dc_walk.specs.Looks.{look_shown, outcome_of}
@@ -28,11 +28,12 @@ pub record Went (locks : Bool) (look : Look) (before now : View) (uses : List Us
   pub walk : Between locks (begun before (look_shown look)) now
   pub few : ROW_WORDS * (BUCKET_ROWS * length uses + came.spent) + length uses < MOST_LOADS
 
--- it gave up, one without the lock for a cause that it has seen
-pub record Stopped (locks : Bool) (look : Look) (buckets : ℕ) (before now : View) (why : Why) : Type 0 where
+-- it gave up, by the notes that it used so far: one without the lock for a cause that it has seen, unless it is brief
+pub record Stopped (locks brief : Bool) (look : Look) (buckets : ℕ) (before now : View) (uses : List Use) (why : Why) : Type 0 where
   pub nothing : NothingNew before now
   pub asks : outcome_of look (told_by []) ≡ None
-  pub gave_up : locks ≡ false → GaveUp (outcome_of look) buckets before now why
+  pub noted : 0 < length uses → Marked 0 0 now.walk.notes uses
+  pub gave_up : locks ≡ false → brief ≡ false → GaveUp (outcome_of look) buckets before now why
 
 -- the walk with this room came to a reply
 abbrev pub CameTo : Look → View → Kept → Reply → Type 0
@@ -43,8 +44,8 @@ abbrev pub WentTo : Bool → Look → Pass → Pass → Bool → Kept → Reply 
 WentTo locks look p q begun room reply = Went locks look (view p) (view_in begun q look) (map use_shown room.items) (answer_of reply)
 
 -- the walk of this pass gave up
-abbrev pub StoppedAt : Bool → Look → Pass → Pass → Why → Type 0
-StoppedAt locks look p q why = Stopped locks look (buckets_of p) (view p) (view q) why
+abbrev pub StoppedAt : (locks brief : Bool) → Look → Pass → Pass → Kept → Why → Type 0
+StoppedAt locks brief look p q room why = Stopped locks brief look (buckets_of p) (view p) (view q) (map use_shown room.items) why
 
 -- its pivot was made, and so many rows were checked; before that the view was this
 pub record Settles (look : Look) (used : ℕ) (before now : View) (fast : Fast) : Type 0 where

@@ -1,6 +1,6 @@
 //! The rows that may tell of a key, one after another.
 
-ghost use Rattle.std.specs.Prelude.{◌≡◌, ◌≤◌, ◌<◌, ◌+◌, ◌^◌, None, length, IfOk, IfErr, OnErr};
+ghost use Rattle.std.specs.Prelude.{◌≡◌, ◌≤◌, ◌<◌, ◌+◌, ◌^◌, None, false, length, IfOk, IfErr, OnErr};
 ghost use Rattle.dc_plain.specs.KeysShown.{key_shown};
 ghost use Rattle.dc_resolve.specs.Needs.{IsUntold};
 ghost use Rattle.dc_table.specs.Passes.{known, share};
@@ -104,7 +104,7 @@ fn look_whole(
 
 /// Asks rows for a key: first those whose head and number are the key's, then each of them whole. A walk
 /// that found a key by the second look alone, as a change meanwhile wrote its row, makes no second look
-/// again: else it would load more than it may.
+/// again: else it would load more than it may. One that needn't say why it gives up makes none at all.
 #[inline(always)]
 pub(crate) fn seek_row(
     rows: &mut Rows<'_>,
@@ -128,7 +128,7 @@ pub(crate) fn seek_row(
     ensures on { GoesOn (now_in rows.old) (now_in rows.new) }
     ensures tells { IfOk result (AnswersIn rows.old (key_shown key.entry) rows.new lane 0) }
     ensures fails { OnErr result (GivesUp rows.old rows.new) }
-    ensures looked { IfErr result (λ odd.
+    ensures looked { rows.old.brief ≡ false → IfErr result (λ odd.
         Looked (now_in rows.new) lane.first (key_shown key.entry) odd lane.many) }
 {
     if rows.slow {
@@ -136,6 +136,7 @@ pub(crate) fn seek_row(
     }
     match ask_rows(rows, lane, key, hash, Extent::Head, 0) {
         Ok(at) => Ok(at),
+        Err(odd) if rows.brief => Err(odd),
         Err(_) => look_whole(rows, lane, key, hash, lane.many),
     }
 }

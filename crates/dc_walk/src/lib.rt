@@ -32,8 +32,8 @@ use dc_names::{BUCKET_ROWS, MOST_LINKS, PATH_MAX};
 use dc_row::{ROW_TEXT, ROW_WORDS};
 pub use locked::walk_locked;
 pub use look::Look;
-pub use placing::change_by_rows;
-pub use unlocked::walk_fast;
+pub use placing::{are_as_noted, change_by_rows};
+pub use unlocked::{walk_briefly, walk_fast};
 pub use used::Room;
 pub use why::Why;
 

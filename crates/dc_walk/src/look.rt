@@ -19,7 +19,7 @@ impl<'a> Look<'a> {
 
     /// The call that asks it.
     #[inline(always)]
-    pub(crate) fn call(self) -> Call<'a>
+    pub fn call(self) -> Call<'a>
         ensures { request_of result ≡ look_shown self.entry }
     {
         Call::Look {

@@ -10,7 +10,7 @@ ghost use Rattle.dc_table.specs.Changes.{IsTaken, NothingNew};
 ghost use Rattle.dc_table.specs.Holders.{table_of};
 ghost use Rattle.dc_table.specs.Passes.{view, share, IsIdle, IsSamePass, StaysOut};
 ghost use Rattle.dc_walk.specs.Findings.{CanWalk};
-ghost use Rattle.dc_walk.specs.Placing.{IsFoundBy};
+ghost use Rattle.dc_walk.specs.Placing.{AreNoted, AreTrue, IsFoundBy};
 
 use crate::look::Look;
 use crate::source::Bucket;
@@ -80,20 +80,19 @@ fn find_front<'a>(
     };
     // Rows of an earlier walk would be taken for this one's.
     room.clear();
-    match walk_rows(&Bucket, reader, pass, room, look) {
+    match walk_rows(&Bucket, reader, pass, room, look, true) {
         Ok((Reply::Found(dir, Kind::Dir), true)) => Some(Known { base, front, dir }),
         _ => None,
     }
 }
 
-/// Whether what was found still holds, for the pass that has got the lock since: whether each row that
-/// the walk used is as it was. Then the path leads there on the tree, and nobody else can change that.
-fn is_known(guard: &mut Guard<'_>, room: &Room, known: Known<'_>) -> bool
-    requires found { let p = seat_of guard.old in IsFoundBy (view p) (share p).rows room.now known }
+/// Whether each row that a walk used before is as it was, for the pass that has got the lock since. Then
+/// what they tell is true of the tree, and nobody else can change that.
+pub fn are_as_noted(guard: &mut Guard<'_>, room: &Room) -> bool
+    requires noted { let p = seat_of guard.old in AreNoted (view p) (share p).rows room.now }
     ensures same { IsStill guard.old guard.new }
-    ensures known { result ≡ true → IsKnownOn (kept_by guard.old).store known.entry }
+    ensures told { result ≡ true → AreTrue (kept_by guard.old).store room.now }
 {
-    answers_from_true_facts_are_replies();
     words_have_the_fact_they_spell();
     for c in 0..room.many() {
         if !guard.is_as_noted(room.place_at(c), room.row_at(c), room.count_at(c)) {
@@ -101,6 +100,17 @@ fn is_known(guard: &mut Guard<'_>, room: &Room, known: Known<'_>) -> bool
         }
     }
     true
+}
+
+/// Whether what was found still holds, for the pass that has got the lock since. Then the path leads there
+/// on the tree.
+fn is_known(guard: &mut Guard<'_>, room: &Room, known: Known<'_>) -> bool
+    requires found { let p = seat_of guard.old in IsFoundBy (view p) (share p).rows room.now known }
+    ensures same { IsStill guard.old guard.new }
+    ensures known { result ≡ true → IsKnownOn (kept_by guard.old).store known.entry }
+{
+    answers_from_true_facts_are_replies();
+    are_as_noted(guard, room)
 }
 
 /// Makes a change under the lock, by what was found before.

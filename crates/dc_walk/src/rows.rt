@@ -14,7 +14,8 @@ use dc_table::{Pass, Reader};
 
 /// A walk over rows: its question, the rows that it used, whether a step was made, how many rows were
 /// noted, which keys the used rows may tell of, and why it gave up. `spare` is the row that was had for
-/// its last question, where that row didn't tell of the key. Once `slow`, it reads each row whole.
+/// its last question, where that row didn't tell of the key. Once `slow`, it reads each row whole. Where
+/// it is `brief`, it needn't say why it gave up, and reads no row for that.
 #[derive(Drop)]
 pub(crate) struct Rows<'a> {
     pub reader: Reader<'a>,
@@ -26,6 +27,7 @@ pub(crate) struct Rows<'a> {
     pub filter: KeyFilter,
     pub spare: Option<u64>,
     pub slow: bool,
+    pub brief: bool,
     pub why: Option<Why>,
 }
 

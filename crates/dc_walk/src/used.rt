@@ -1,7 +1,9 @@
 //! The rows whose answers a walk rests on.
 
-ghost use Rattle.std.specs.Prelude.{◌≡◌, ◌<◌, ◌≤◌, ◌+◌, ◌*◌, ◌==◌, ◌∷◌, ◌++◌, ◌↔◌, [], Some, length, slice_index, take, IfSome, IfNone, IsTrue};
+ghost use Rattle.std.specs.Prelude.{◌≡◌, ◌≢◌, ◌<◌, ◌≤◌, ◌+◌, ◌*◌, ◌==◌, ◌∷◌, ◌++◌, ◌↔◌, [], Some, length, slice_index, take, IfSome, IfNone, IsTrue};
+ghost use Rattle.dc_plain.specs.Facts.Label.{Text};
 ghost use Rattle.dc_plain.specs.KeysShown.{key_shown};
+ghost use Rattle.dc_plain.specs.Trees.{told_of, Tree};
 ghost use Rattle.dc_resolve.specs.Needs.{IsUntold};
 ghost use Rattle.dc_row.specs.Narrow.{widened};
 ghost use Rattle.dc_row.specs.Spelling.{SpellsText, TellsOf, TellsTarget, TellsText};
@@ -9,6 +11,7 @@ ghost use Rattle.dc_row.specs.declared.TheConstants.{ROW_WORDS};
 ghost use Rattle.dc_table.specs.Holders.{table_of};
 ghost use Rattle.dc_table.specs.Passes.{view, share, Fits, IsIdle, StaysOut};
 ghost use Rattle.dc_walk.specs.Finds.{told_in, AllSpelled, StandsAt};
+ghost use Rattle.dc_walk.specs.Placing.{AreTrue};
 ghost use Rattle.dc_walk.specs.Probes.{IsReading, ReadsRest};
 ghost use Rattle.dc_walk.specs.Rooms.{used_at};
 ghost use Rattle.dc_walk.specs.declared.TheConstants.{MOST_USED, MOST_BYTES};
@@ -162,6 +165,20 @@ impl Room {
         ensures { TellsText (used_at self.now.items at).words (Some result.text) }
     {
         LinkText::of(self.words_at(at))
+    }
+
+    /// Where a key's entry leads, if there is a row at a place that tells of it.
+    pub fn told_at(&self, at: usize, key: Key<'_>) -> Option<Option<(u64, Kind)>>
+        requires entry { (key_shown key).label ≢ Text }
+        ensures { (t : Tree) → AreTrue t self.now → IfSome result (λ target.
+            (told_of t).entry (key_shown key.entry).number (key_shown key.entry).label ≡ Some target) }
+    {
+        words_have_the_fact_they_spell();
+        if at < self.many() && self.tells_at(at, key) {
+            Some(self.target_at(at))
+        } else {
+            None
+        }
     }
 
     /// Whether a row that was kept tells of a key.

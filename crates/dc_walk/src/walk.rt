@@ -23,13 +23,14 @@ use dc_resolve::{Walked, walk};
 use dc_table::{Pass, Reader};
 
 /// Walks by rows. It answers the reply, and whether a step was made; or why there is none, and a row
-/// that was had and isn't used.
+/// that was had and isn't used. Where it is `brief`, it reads no row for the cause, and may answer another.
 pub(crate) fn walk_rows<'x, S: Source>(
     source: &'x S,
     reader: Reader<'x>,
     pass: &'x mut Pass,
     used: &'x mut Room,
     look: Look<'x>,
+    brief: bool,
 ) -> Result<(Reply, bool), (Why, Option<u64>)>
     requires serves { S.serves source.now (table_of reader) }
     requires can { CanWalk (table_of reader) pass.old }
@@ -38,7 +39,8 @@ pub(crate) fn walk_rows<'x, S: Source>(
     ensures untried { IsUntried S.locks pass.old pass.new }
     ensures rows { AllInside (share pass.old).rows used.new.items }
     ensures went { IfOk result (λ r. WentTo S.locks look.entry pass.old pass.new r.1 used.new r.0) }
-    ensures stopped { IfErr result (λ e. StoppedAt S.locks look.entry pass.old pass.new e.0) }
+    ensures stopped { IfErr result (λ e.
+        StoppedAt S.locks brief look.entry pass.old pass.new used.new e.0) }
     ensures pins { PinsUsed S.locks pass.old pass.new used.new (spare_of result) }
 {
     let rows = Rows {
@@ -51,6 +53,7 @@ pub(crate) fn walk_rows<'x, S: Source>(
         filter: KeyFilter::new(),
         spare: None,
         slow: false,
+        brief,
         why: None,
     };
     let mut walker = Walker { source, rows };
@@ -85,7 +88,7 @@ pub(crate) fn walk_by<S: Source>(
 {
     // Rows of an earlier walk would be taken for this one's, and their pins back.
     used.clear();
-    match walk_rows(source, reader, pass, used, look) {
+    match walk_rows(source, reader, pass, used, look, false) {
         Ok((reply, begun)) => (settle(reader, pass, used, look, reply, begun), None),
         Err((why, spare)) => (Fast::Again(why), spare),
     }

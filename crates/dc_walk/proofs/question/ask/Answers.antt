@@ -15,7 +15,7 @@ pub returns-in_default-clause-becomes : goal.returns-in_default-clause-becomes
 returns-in_default-clause-becomes g c =
     let had = c.have.ensures.had in let may = c.requires.may in let is = unlooked c.have.new.rows (had.why ∙ c.requires.fresh) (had.becomes.good may.good) in
     stops g.S.Source.locks had.becomes.same had.used had.becomes.walk 0 is (within_full c.have.new.rows is.few)
-    (needed_now (outcome_in c.args.rows.now) (said_in c.args.rows.now) (key_shown c.args.key) may.needed may.untold) had.becomes.untried _ _ (λ free. let locks = c.in_default.ensures.refused in absurd cc)
+    (needed_now (outcome_in c.args.rows.now) (said_in c.args.rows.now) (key_shown c.args.key) may.needed may.untold) had.becomes.untried _ _ (λ free tells. let locks = c.in_default.ensures.refused in absurd cc)
 
 pub returns-in-Ok-seek_row-clause-becomes : goal.returns-in-Ok-seek_row-clause-becomes
 returns-in-Ok-seek_row-clause-becomes g c =
@@ -42,7 +42,7 @@ returns-in-Err-clause-becomes g c =
     let room = subst (λ (us : List Used). length us < MOST_USED) (sym (e.fails.used ∙ had.used)) (is_below _ _ (sym c.is_full.ensures.full ∙ c.if-is_full.false) c.is_full.ensures.fits) in
     goes_so g.S.Source.locks _ _ _ had.becomes (stops g.S.Source.locks e.same e.fails.used (same_between e.on.same) e.fails.looks e.fails.finding (within_two c.seek_row.new.rows e.fails.looks room e.fails.few)
     (needed_now (outcome_in f) (said_in f) key needed untold) (λ free. e.untried) _ _
-    (λ free. looked_cause e.same c.in-Ok.lane key c.in-Err.odd c.why_of.result e.fails.looks (sym e.fails.used) (lane.bucket free) e.looked c.why_of.ensures e.fails.finding needed untold))
+    (λ free tells. looked_cause e.same c.in-Ok.lane key c.in-Err.odd c.why_of.result e.fails.looks (sym e.fails.used) (lane.bucket free) (e.looked (sym e.same.brief ∙ tells)) c.why_of.ensures e.fails.finding needed untold))
 
 pub returns-in_default-clause-pins : goal.returns-in_default-clause-pins
 returns-in_default-clause-pins g c = λ locks before is. let had = c.have.ensures.had in let lane = c.in_default.ensures.pins locks in

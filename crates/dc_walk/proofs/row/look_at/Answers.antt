@@ -58,14 +58,14 @@ returns-in_default-clause-on c = let f = c.args.rows.now in
 pub returns-in_default-clause-saw : goal.returns-in_default-clause-saw
 returns-in_default-clause-saw c = let f = c.args.rows.now in let e = c.in_default.ensures in let same = e.same in
     failed_odd c.args.row (key_shown c.args.key) c.args.earlier c.args.before
-    (record { reader = refl; pass = refl; used = refl; look = refl; same_pass = same.same }) refl (can_still refl same.same same.idle c.requires.finding.can) c.requires.finding refl refl refl refl
+    (record { reader = refl; pass = refl; used = refl; look = refl; brief = refl; same_pass = same.same }) refl (can_still refl same.same same.idle c.requires.finding.can) c.requires.finding refl refl refl refl
     (e.odd ∙ ap (λ q. faulted (begins (not f.begun) (view f.pass.now) q) (Busy c.args.row)) c.call-call.ensures)
 
 pub returns-in-Head-clause-saw : goal.returns-in-Head-clause-saw
 returns-in-Head-clause-saw c = let f = c.args.rows.now in let same = c.in-Some.ensures.same in let top = c.in-Some.top in
     let h : ReadsTop (now_in f) (view c.read_top.new.pass) c.args.row top = subst (λ q. ReadsTop (begins (not f.begun) (view f.pass.now) q) (view c.read_top.new.pass) c.args.row top) c.call-call.ensures c.in-Some.ensures.read in (
       failed_read c.args.row (key_shown c.args.key) c.args.earlier c.args.before
-          (record { reader = refl; pass = refl; used = refl; look = refl; same_pass = same.same }) refl (can_still refl same.same same.idle c.requires.finding.can) c.requires.finding
+          (record { reader = refl; pass = refl; used = refl; look = refl; brief = refl; same_pass = same.same }) refl (can_still refl same.same same.idle c.requires.finding.can) c.requires.finding
           top.count (top.head ∷ top.number ∷ []) refl h refl refl refl (omega arith),
       λ whole. absurd (not_whole c.in-Head.is whole),
     )
@@ -76,7 +76,7 @@ returns-in-None-clause-saw c = let f = c.args.rows.now in let same = stays_again
     let taken = c.in-None.ensures.takes (now_in f) h in let words = taken.0 in let whole = taken.1 in
     let size = rest_size words whole.size in (
       failed_read c.args.row (key_shown c.args.key) c.args.earlier c.args.before
-          (record { reader = refl; pass = refl; used = refl; look = refl; same_pass = same.same }) refl (can_still refl same.same same.idle c.requires.finding.can) c.requires.finding
+          (record { reader = refl; pass = refl; used = refl; look = refl; brief = refl; same_pass = same.same }) refl (can_still refl same.same same.idle c.requires.finding.can) c.requires.finding
           (get_or words 0 0) (drop 1 words) refl whole.read taken.3 taken.4 refl (omega arith),
       λ all. other_so _ (view c.take_in.new.pass) c.args.row (get_or words 0 0) (drop 1 words) (key_shown c.args.key) whole.read size
           (λ tells. taken.2 (subst (λ ws. TellsOf ws (key_shown c.args.key)) (count_first words whole.size) tells)),
@@ -92,7 +92,7 @@ returns-in-Some-take_in-clause-saw c = let f = c.args.rows.now in let e = c.in-S
     let new : Used = record { row = c.args.row; place = f.made; words = words } in
     let spells = subst (λ fact. Spells words (Some fact)) (sym shown) tells.spelled in
     answers_so c.args.row key c.args.earlier c.args.before
-    (record { reader = refl; pass = refl; used = refl; look = refl; same_pass = same.same }) refl (can_still refl same.same same.idle c.requires.finding.can) c.requires.finding
+    (record { reader = refl; pass = refl; used = refl; look = refl; brief = refl; same_pass = same.same }) refl (can_still refl same.same same.idle c.requires.finding.can) c.requires.finding
     (get_or words 0 0) (drop 1 words) refl whole.read
     c.in-Some-take_in.at tells.fact (use_shown new) (ap (map use_shown) items ∙ map-append use_shown f.used.now.items _)
     (subst AllSpelled (sym items) (spelled_more f.used.now.items new c.requires.finding.spelled spells))

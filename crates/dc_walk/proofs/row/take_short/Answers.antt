@@ -1,8 +1,8 @@
-use Rattle.std.proofs.Common.{◌≡◌, ℕ, ◌+◌, ◌<◌, ◌≤◌, List, [], ◌∷◌, ◌++◌, take, length, get_or, refl, ap, ap₂, sym, ◌∙◌, subst, arith}
+use Rattle.std.proofs.Common.{◌≡◌, ℕ, ◌+◌, ◌≤◌, List, [], ◌∷◌, ◌++◌, take, length, refl, ap, ap₂, sym, ◌∙◌, arith}
 use Rattle.dc_plain.specs.Facts.{label_bytes}
 use Rattle.dc_plain.specs.KeysShown.{key_shown}
 use Rattle.dc_row.specs.Narrow.{told_words, widened}
-use Rattle.dc_row.specs.Spelling.{TellsOf, text_word}
+use Rattle.dc_row.specs.Spelling.{TellsOf}
 use Rattle.dc_walk.specs.Probes.{row_of}
 use Rattle.dc_walk.specs.Rooms.{Used}
 use Rattle.dc_walk.proofs.Rooms.{short_take}

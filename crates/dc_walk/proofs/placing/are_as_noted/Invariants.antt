@@ -1,7 +1,7 @@
 use Rattle.std.proofs.Common.{ℕ, ◌<◌}
 use Rattle.dc_rows.specs.Guards.{kept_by, IsStill}
 use Rattle.dc_walk.proofs.Fronts.{IsTrueAt}
-use Rattle.dc_walk.proofs.placing.is_known.Given as goal
+use Rattle.dc_walk.proofs.placing.are_as_noted.Given as goal
 
 abbrev pub invariant-loop-c : goal.invariant-loop-c
 invariant-loop-c l = record {
