@@ -31,8 +31,8 @@ pub struct Looks<'a> {
     pub gate: &'a Gate,
 }
 
-/// Looks a path up after the rows gave up: under the lock, which fills the rows of the path, or by rows
-/// that are filled for it one by one, else as `look` goes on.
+/// Looks a path up after the rows gave up: by rows that are filled for it one by one, else as `look` goes
+/// on.
 #[cold]
 #[inline(never)]
 fn look_slowly<R: Wait>(
@@ -41,18 +41,11 @@ fn look_slowly<R: Wait>(
     cache: &Dcache,
     pass: &mut Pass,
     path: PathText<'_>,
-    miss: Miss,
     tally: &mut Tally,
 ) -> Reply
     requires { Fits cache.now pass.old }
     ensures { Fits cache.now pass.new }
 {
-    if let Miss::OneHold = miss {
-        tally.by_lock = tally.by_lock.saturating_add(1);
-        return cache
-            .look_missed(rt, alloc, pass, ROOT, path, Follow::Yes)
-            .reply;
-    }
     if let Fast::Done(found) = cache.look_counted(rt, alloc, pass, ROOT, path, Follow::Yes) {
         tally.by_rows = tally.by_rows.saturating_add(1);
         return found.reply;
@@ -75,7 +68,6 @@ pub fn look<R: Wait>(
     cache: &Dcache,
     pass: &mut Pass,
     path: PathText<'_>,
-    miss: Miss,
     tally: &mut Tally,
 ) -> Reply
     requires { Fits cache.now pass.old }
@@ -85,13 +77,14 @@ pub fn look<R: Wait>(
         Fast::Done(found) => found.reply,
         Fast::Again(why) => {
             tally.causes.count(&why);
-            look_slowly(rt, alloc, cache, pass, path, miss, tally)
+            look_slowly(rt, alloc, cache, pass, path, tally)
         }
     }
 }
 
-/// Whether a path leads somewhere, counted as `look` counts. The reply is read where it stands: to move
-/// it is the benchmark's time and not the cache's.
+/// Whether a path leads somewhere, counted as `look` counts; but for `look_filled`, which doesn't tell
+/// whether it took the lock. The reply is read where it stands: to move it is the benchmark's time and not
+/// the cache's.
 #[inline(always)]
 fn finds<R: Wait>(
     rt: &R,
@@ -105,11 +98,16 @@ fn finds<R: Wait>(
     requires { Fits cache.now pass.old }
     ensures { Fits cache.now pass.new }
 {
+    if let Miss::OneHold = miss {
+        tally.untold = tally.untold.saturating_add(1);
+        let found = cache.look_filled(rt, alloc, pass, ROOT, path.bytes(), Follow::Yes);
+        return is_found(&found.reply);
+    }
     match &cache.look_fast(pass, ROOT, path, Follow::Yes) {
         Fast::Done(found) => is_found(&found.reply),
         Fast::Again(why) => {
             tally.causes.count(why);
-            is_found(&look_slowly(rt, alloc, cache, pass, path, miss, tally))
+            is_found(&look_slowly(rt, alloc, cache, pass, path, tally))
         }
     }
 }

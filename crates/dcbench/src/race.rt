@@ -13,7 +13,7 @@ use crate::gate::Gate;
 use crate::look::look;
 use crate::tally::{Tally, a_second};
 use crate::tree::change;
-use crate::work::{Miss, Sort};
+use crate::work::Sort;
 use dc_cache::{Call, Dcache, Flags, Follow, Pass, PathText, ROOT, Reply};
 use std::alloc::{AllocError, Global};
 use std::rt::Clock;
@@ -119,15 +119,7 @@ impl<'a> Race<'a> {
         ensures { Fits cache.now pass.new }
     {
         'looks: for _ in 0..self.looks {
-            let reply = look(
-                rt,
-                self.alloc,
-                cache,
-                pass,
-                self.asked,
-                Miss::NameByName,
-                tally,
-            );
+            let reply = look(rt, self.alloc, cache, pass, self.asked, tally);
             tally.looks = tally.looks.saturating_add(1);
             let wrong = reply != *self.right;
             tally.wrong = tally.wrong.saturating_add(u64::from(wrong));

@@ -63,6 +63,7 @@ impl Members {
             ("without_lock", tally.by_fast()),
             ("by_filled_rows", tally.by_rows),
             ("under_lock", tally.by_lock),
+            ("untold", tally.untold),
         ])
     }
 

@@ -25,6 +25,8 @@ pub struct Tally {
     /// Look-ups that were answered by rows that were filled for them, and those that weren't.
     pub by_rows: u64,
     pub by_lock: u64,
+    /// Look-ups by a call that doesn't tell how it was answered.
+    pub untold: u64,
     /// Calls a second, of all threads.
     pub rate: u64,
     /// Picoseconds of a call, by turn.
@@ -64,6 +66,7 @@ impl Tally {
             causes: Causes::default(),
             by_rows: 0,
             by_lock: 0,
+            untold: 0,
             rate: 0,
             turns: Vec::with_capacity(alloc, FIRST_TURNS).unwrap_or(Vec::new(alloc)),
         }
@@ -78,6 +81,7 @@ impl Tally {
         self.looks
             .saturating_sub(self.by_rows)
             .saturating_sub(self.by_lock)
+            .saturating_sub(self.untold)
     }
 
     /// Keeps the time of a turn of so many calls, as far as there is memory for it.
@@ -96,6 +100,7 @@ impl Tally {
         self.causes.take_in(&other.causes);
         self.by_rows = self.by_rows.saturating_add(other.by_rows);
         self.by_lock = self.by_lock.saturating_add(other.by_lock);
+        self.untold = self.untold.saturating_add(other.untold);
         self.rate = self.rate.saturating_add(other.rate);
         let _ = self.turns.extend_from_slice(&other.turns);
     }
