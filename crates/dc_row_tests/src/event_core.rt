@@ -142,26 +142,21 @@ fn goes(core: &mut Core, alloc: Global, it: &Step) -> bool {
     }
 }
 
-/// The first step, counted from 0, that goes otherwise, or as many as there are.
-fn first_other(core: &mut Core, alloc: Global, steps: &[Step]) -> usize {
+/// Takes the steps, and fails where one goes otherwise.
+fn play(core: &mut Core, alloc: Global, steps: &[Step]) -> Result<(), Fail> {
     for (i, it) in steps.iter().enumerate() {
         if !goes(core, alloc, it) {
-            return i;
+            return Err(Fail::from(("step", i)));
         }
     }
-    steps.len()
+    Ok(())
 }
 
-/// The first of a core's steps that goes otherwise, where it has so many actors. The steps come in two lists.
-fn first_of_two(
-    alloc: Global,
-    actors: u64,
-    first: &[Step],
-    then: &[Step],
-) -> Result<(usize, usize), MakeFault> {
-    let mut core = Core::new(alloc, 1, actors, 16)?;
-    let found = first_other(&mut core, alloc, first);
-    Ok((found, first_other(&mut core, alloc, then)))
+/// The same of a core of two actors. The steps come in two lists.
+fn play_two(alloc: Global, first: &[Step], then: &[Step]) -> Result<(), Fail> {
+    let mut core = Core::new(alloc, 1, 2, 16)?;
+    play(&mut core, alloc, first)?;
+    play(&mut core, alloc, then)
 }
 
 const MAKE_A: Call<'static> = Call::Mkdir {
@@ -243,9 +238,7 @@ static NEVER_WAS: [Step; 16] = [
 
 #[test]
 fn a_path_that_never_was_is_not_answered(rt: HostRuntime) -> Result<(), Fail> {
-    let found = first_of_two(rt.alloc(), 2, &HALF_WALKED, &NEVER_WAS)?;
-    assert_eq!(rt; found, (HALF_WALKED.len(), NEVER_WAS.len()));
-    Ok(())
+    play_two(rt.alloc(), &HALF_WALKED, &NEVER_WAS)
 }
 
 /// A body that checks each parent as it goes would pass the row before this one, and fail here.
@@ -279,9 +272,7 @@ static GRANDPARENT: [Step; 9] = [
 
 #[test]
 fn a_grandparent_is_checked_after_the_pivot(rt: HostRuntime) -> Result<(), Fail> {
-    let found = first_of_two(rt.alloc(), 2, &HALF_WALKED, &GRANDPARENT)?;
-    assert_eq!(rt; found, (HALF_WALKED.len(), GRANDPARENT.len()));
-    Ok(())
+    play_two(rt.alloc(), &HALF_WALKED, &GRANDPARENT)
 }
 
 static READ_ONCE: [Step; 6] = [
@@ -303,9 +294,7 @@ static REFILLED: [Step; 5] = [
 
 #[test]
 fn a_row_that_was_refilled_is_another(rt: HostRuntime) -> Result<(), Fail> {
-    let found = first_of_two(rt.alloc(), 2, &READ_ONCE, &REFILLED)?;
-    assert_eq!(rt; found, (READ_ONCE.len(), REFILLED.len()));
-    Ok(())
+    play_two(rt.alloc(), &READ_ONCE, &REFILLED)
 }
 
 /// The first events of a core of one actor, and the change that they make.
@@ -362,8 +351,7 @@ static TOUCHED: [Step; 12] = [
 fn a_change_shuts_what_it_touches(rt: HostRuntime) -> Result<(), Fail> {
     let mut core = Core::new(rt.alloc(), 1, 1, 16)?;
     assert!(rt; core.run(rt.alloc(), &FIRST).is_ok());
-    assert_eq!(rt; first_other(&mut core, rt.alloc(), &TOUCHED), TOUCHED.len());
-    Ok(())
+    play(&mut core, rt.alloc(), &TOUCHED)
 }
 
 /// What the first events come to from a place on.
@@ -371,13 +359,20 @@ fn first_from(core: &mut Core, alloc: Global, place: usize) -> Result<(), (u64, 
     core.run(alloc, FIRST.get(place..).unwrap_or(&FIRST))
 }
 
+/// Places of the first events, one after the other, and what they come to from there on.
+static STOPS: [(usize, Result<(), (u64, Refused)>); 4] = [
+    (0, Ok(())),
+    (0, Err((0, Refused::Holder))),
+    (2, Ok(())),
+    (3, Err((0, Refused::Even))),
+];
+
 #[test]
 fn a_list_stops_at_the_first_refusal(rt: HostRuntime) -> Result<(), Fail> {
     let mut core = Core::new(rt.alloc(), 1, 1, 16)?;
-    assert!(rt; first_from(&mut core, rt.alloc(), 0) == Ok(()));
-    assert!(rt; first_from(&mut core, rt.alloc(), 0) == Err((0, Refused::Holder)));
-    assert!(rt; first_from(&mut core, rt.alloc(), 2) == Ok(()));
-    assert!(rt; first_from(&mut core, rt.alloc(), 3) == Err((0, Refused::Even)));
+    for (place, want) in STOPS.iter() {
+        assert!(rt; first_from(&mut core, rt.alloc(), *place) == *want);
+    }
     assert!(rt; core.rows() == 4 && core.count(0) == 4);
     assert!(rt; core.count(4) == 0 && core.count(u64::MAX) == 0);
     Ok(())

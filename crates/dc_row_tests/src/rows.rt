@@ -34,17 +34,38 @@ fn is_made<R: Wait>(
     }
 }
 
+/// Whether a new table makes and removes a directory, and refuses what no rule lets it do.
+fn are_made<R: Wait>(rt: &R, alloc: Global, shared: &Shared, pass: &mut Pass) -> bool
+    requires { Fits shared.now pass.old × IsIdle pass.old }
+    ensures { Fits shared.now pass.new × IsIdle pass.new }
+{
+    let done = is_made(rt, alloc, shared, pass, &mkdir(b"/a"), &Reply::Done(2), 0);
+    let there = is_made(
+        rt,
+        alloc,
+        shared,
+        pass,
+        &mkdir(b"/a"),
+        &Reply::Refused(17),
+        1,
+    );
+    let no_file = is_made(
+        rt,
+        alloc,
+        shared,
+        pass,
+        &unlink(b"/a"),
+        &Reply::Refused(1),
+        1,
+    );
+    let gone = is_made(rt, alloc, shared, pass, &rmdir(b"/a"), &Reply::Unit, 1);
+    done && there && no_file && gone
+}
+
 #[test]
 fn changes_are_answered_at_their_points(rt: HostRuntime) -> Result<(), Fail> {
-    let alloc = rt.alloc();
-    let (shared, mut p) = Shared::new(alloc, 1, 16).expect(&rt, "memory");
-    let done = Reply::Done(2);
-    assert!(rt; is_made(&rt, alloc, &shared, &mut p, &mkdir(b"/a"), &done, 0));
-    let there = Reply::Refused(17);
-    assert!(rt; is_made(&rt, alloc, &shared, &mut p, &mkdir(b"/a"), &there, 1));
-    let no_file = Reply::Refused(1);
-    assert!(rt; is_made(&rt, alloc, &shared, &mut p, &unlink(b"/a"), &no_file, 1));
-    assert!(rt; is_made(&rt, alloc, &shared, &mut p, &rmdir(b"/a"), &Reply::Unit, 1));
+    let (shared, mut p) = Shared::new(rt.alloc(), 1, 16).expect(&rt, "memory");
+    assert!(rt; are_made(&rt, rt.alloc(), &shared, &mut p));
     let q = shared.split(&mut p);
     shared.join(&mut p, q);
     let value = shared.close(p).expect(&rt, "the lock is free");

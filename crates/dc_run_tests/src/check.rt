@@ -16,7 +16,7 @@ const INPUT: &str = "0 mkdir /a\n0 cd /a\nsync\n1 rmdir /a\nsync\n0 look .\n";
 const OUTPUT: &str = "0 ok 2 @0\n0 is 2 dir @1\n1 ok @1\n0 no 2 @2\n";
 
 /// The sessions, calls and points of its stamps.
-const STAMPS: [(u64, Call<'static>, u64); 4] = [
+static STAMPS: [(u64, Call<'static>, u64); 4] = [
     (
         0,
         Call::Mkdir {
@@ -58,14 +58,18 @@ fn is(stamp: &Stamp, session: u64, call: &Call<'_>, at: u64) -> bool {
     stamp.session == session && stamp.call.as_call() == *call && stamp.at == at
 }
 
-#[test]
-fn pairs_an_input_with_its_output(rt: HostRuntime) -> Result<(), Fail> {
-    let alloc = rt.alloc();
-    let stamps = record_of(alloc, INPUT.as_bytes(), OUTPUT.as_bytes())?;
-    assert_eq!(rt; stamps.len(), STAMPS.len());
+/// Whether stamps are those of the input, but for their replies.
+fn are_stamps(stamps: &[Stamp]) -> bool {
     for (stamp, (session, call, at)) in stamps.iter().zip(STAMPS.iter()) {
-        assert!(rt; is(stamp, *session, call, *at), "{stamp:?}");
+        if !is(stamp, *session, call, *at) {
+            return false;
+        }
     }
+    stamps.len() == STAMPS.len()
+}
+
+/// Whether stamps have the replies of the output.
+fn have_replies(stamps: &[Stamp]) -> bool {
     let replies = [
         Reply::Done(2),
         Reply::Found(2, Kind::Dir),
@@ -73,8 +77,14 @@ fn pairs_an_input_with_its_output(rt: HostRuntime) -> Result<(), Fail> {
         Reply::Refused(2),
     ];
     let found = stamps.iter().map(|stamp| &stamp.reply);
-    assert!(rt; found.eq(replies.iter()));
-    assert_eq!(rt; check(alloc, INODES, &stamps)?, Verdict::Legal);
+    found.eq(replies.iter())
+}
+
+#[test]
+fn pairs_an_input_with_its_output(rt: HostRuntime) -> Result<(), Fail> {
+    let stamps = record_of(rt.alloc(), INPUT.as_bytes(), OUTPUT.as_bytes())?;
+    assert!(rt; are_stamps(&stamps) && have_replies(&stamps), "{stamps:?}");
+    assert_eq!(rt; check(rt.alloc(), INODES, &stamps)?, Verdict::Legal);
     Ok(())
 }
 

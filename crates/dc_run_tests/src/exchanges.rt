@@ -1,11 +1,13 @@
 //! Sessions that exchange two directories while others look up through both, judged by the checker and,
 //! look-up by look-up, by how many exchanges came before.
 
-use crate::sessions::{judged, record};
-use dc_check::{PhasedVerdict, Stamp};
+use crate::sessions::legal_record;
+use dc_check::Stamp;
 use dc_plain::{Call, Reply};
 use std::alloc::{AllocError, Global};
+use std::sync::Wait;
 use std::test::Fail;
+use std::thread::Threads;
 
 const SESSIONS: u64 = 8;
 
@@ -25,7 +27,7 @@ const MADE: &[u8] =
 
 /// Paths, and the numbers that they lead to at even and at odd points. The relative ones start in the
 /// directory that was made as `/a/d`.
-const LOOKS: [(&str, u64, u64); 10] = [
+static LOOKS: [(&str, u64, u64); 10] = [
     ("/a/d", 4, 5),
     ("/b/d", 5, 4),
     ("/a/d/x", 6, 7),
@@ -85,21 +87,28 @@ fn is_whole(stamp: &Stamp) -> bool {
     })
 }
 
-#[test]
-fn no_look_up_sees_half_an_exchange(rt: HostRuntime) -> Result<(), Fail> {
-    let alloc = rt.alloc();
-    let input = lines(alloc)?;
-    for buckets in [1, 16] {
-        let stamps = record(&rt, alloc, buckets, &input)?;
-        assert_eq!(rt;
-            stamps.len() as u64,
-            6 + SESSIONS + PHASES * LINES * SESSIONS
-        );
-        let verdict = judged(alloc, &input, &stamps)?;
-        assert!(rt; verdict == PhasedVerdict::Legal, "{verdict:?}");
-        for stamp in &stamps {
-            assert!(rt; is_whole(stamp), "{stamp:?}");
+/// How many answers there are to all phases.
+const ANSWERS: u64 = 6 + SESSIONS + PHASES * LINES * SESSIONS;
+
+/// Runs the lines with so many buckets, and fails where the record isn't legal, or a look-up found what no
+/// path leads to after whole exchanges.
+fn run_whole<R: Threads + Wait + Sync>(
+    rt: &R,
+    alloc: Global,
+    buckets: u64,
+    input: &[u8],
+) -> Result<(), Fail> {
+    for stamp in legal_record(rt, alloc, buckets, input, ANSWERS)? {
+        if !is_whole(&stamp) {
+            return Err(Fail::from(stamp));
         }
     }
     Ok(())
+}
+
+#[test]
+fn no_look_up_sees_half_an_exchange(rt: HostRuntime) -> Result<(), Fail> {
+    let input = lines(rt.alloc())?;
+    run_whole(&rt, rt.alloc(), 1, &input)?;
+    run_whole(&rt, rt.alloc(), 16, &input)
 }

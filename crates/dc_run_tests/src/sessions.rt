@@ -19,7 +19,7 @@ const PHASES: u64 = 5;
 /// How many lines a session has in a phase.
 const LINES: u64 = 10;
 
-const VERBS: [&str; 13] = [
+static VERBS: [&str; 13] = [
     "link", "symlink", "rename", "look", "llook", "cd", "readlink", "stat", "list", "mkdir",
     "create", "unlink", "rmdir",
 ];
@@ -27,7 +27,7 @@ const VERBS: [&str; 13] = [
 /// The verbs with two paths come first.
 const TWO_PATHS: usize = 3;
 
-const PATHS: [&str; 8] = ["/a", "/b", "/a/x", "/b/y", "/a/x/z", "x", "..", "/b/./"];
+static PATHS: [&str; 8] = ["/a", "/b", "/a/x", "/b/y", "/a/x/z", "x", "..", "/b/./"];
 
 /// One of the paths.
 fn path(seed: u64) -> &'static str {
@@ -46,7 +46,7 @@ fn line(alloc: Global, session: u64, seed: u64) -> Result<String, AllocError> {
 
 /// Commands that make links anew, remove them and rename over them, and look through one and two of
 /// them.
-const LINKED: [&str; 16] = [
+static LINKED: [&str; 16] = [
     "mkdir /d",
     "create /d/x",
     "symlink d /l",
@@ -116,45 +116,57 @@ pub fn judged(alloc: Global, input: &[u8], stamps: &[Stamp]) -> Result<PhasedVer
     phased_verdict(alloc, INODES, input, stamps)
 }
 
-/// Runs an input, and tells how many answers there are and what the checker says of them, by phases too.
-fn run_and_judge<R: Threads + Wait + Sync>(
+/// Runs an input, and answers its record. It fails where there are not so many answers, or where the checker
+/// doesn't find them legal, by phases too.
+pub fn legal_record<R: Threads + Wait + Sync>(
     rt: &R,
     alloc: Global,
     buckets: u64,
     input: &[u8],
-) -> Result<(u64, PhasedVerdict), Fail> {
+    answers: u64,
+) -> Result<Vec<Stamp>, Fail> {
     let stamps = record(rt, alloc, buckets, input)?;
     let verdict = judged(alloc, input, &stamps)?;
-    Ok((stamps.len() as u64, verdict))
+    if stamps.len() as u64 == answers && verdict == PhasedVerdict::Legal {
+        Ok(stamps)
+    } else {
+        Err(Fail::from((stamps.len(), verdict)))
+    }
 }
 
-/// Runs all phases with so many buckets, and tells how many answers there are and what the checker says.
-fn judge<R: Threads + Wait + Sync>(
+/// The same where nobody asks for the record.
+fn run_legally<R: Threads + Wait + Sync>(
     rt: &R,
     alloc: Global,
     buckets: u64,
-    linked: bool,
-) -> Result<(u64, PhasedVerdict), Fail> {
+    input: &[u8],
+    answers: u64,
+) -> Result<(), Fail> {
+    legal_record(rt, alloc, buckets, input, answers)?;
+    Ok(())
+}
+
+/// The lines of all phases.
+fn lines(alloc: Global, linked: bool) -> Result<Vec<u8>, AllocError> {
     let mut input = Vec::new(alloc);
     let mut seed = 1;
     for _ in 0..PHASES {
         seed = add_phase(alloc, &mut input, seed, linked)?;
     }
-    run_and_judge(rt, alloc, buckets, &input)
+    Ok(input)
 }
+
+/// How many lines there are in all phases.
+const ALL_LINES: u64 = SESSIONS * PHASES * LINES;
 
 #[test]
 fn eight_sessions_are_legal(rt: HostRuntime) -> Result<(), Fail> {
-    for (buckets, linked) in [(1, false), (8, true)] {
-        let (answers, verdict) = judge(&rt, rt.alloc(), buckets, linked)?;
-        assert_eq!(rt; answers, SESSIONS * PHASES * LINES);
-        assert!(rt; verdict == PhasedVerdict::Legal, "{verdict:?}");
-    }
-    Ok(())
+    run_legally(&rt, rt.alloc(), 1, &lines(rt.alloc(), false)?, ALL_LINES)?;
+    run_legally(&rt, rt.alloc(), 8, &lines(rt.alloc(), true)?, ALL_LINES)
 }
 
 /// Inputs in which a phase has several sessions.
-const THREADED: [(&str, u64); 6] = [
+static THREADED: [(&str, u64); 6] = [
     ("1 look /\n0 look /\n", 2),
     ("0 look /\n1 look /\n", 2),
     (
@@ -175,32 +187,37 @@ const THREADED: [(&str, u64); 6] = [
 
 #[test]
 fn threaded_inputs_are_legal(rt: HostRuntime) -> Result<(), Fail> {
-    for (input, answers) in THREADED {
-        let (found, verdict) = run_and_judge(&rt, rt.alloc(), 1, input.as_bytes())?;
-        assert_eq!(rt; found, answers, "{input}");
-        assert!(rt; verdict == PhasedVerdict::Legal, "{input}: {verdict:?}");
+    for (input, answers) in THREADED.iter() {
+        run_legally(&rt, rt.alloc(), 1, input.as_bytes(), *answers)?;
     }
     Ok(())
 }
 
-/// All sessions at once, each in a directory of its own.
-#[test]
-fn sixteen_sessions_are_legal(rt: HostRuntime) -> Result<(), Fail> {
-    let alloc = rt.alloc();
+/// Adds a line of each of sixteen sessions, which all say the same of a name of their own.
+fn add_sixteen(alloc: Global, input: &mut Vec<u8>, verb: &str) -> Result<(), AllocError> {
+    input.extend_from_slice(b"sync\n")?;
+    for session in 0..16u64 {
+        let line = format!(in alloc; "{session} {verb}{session}\n")?;
+        input.extend_from_slice(line.as_bytes())?;
+    }
+    Ok(())
+}
+
+/// The lines of sixteen sessions, each in a directory of its own.
+fn sixteen(alloc: Global) -> Result<Vec<u8>, AllocError> {
     let mut input = Vec::new(alloc);
     for session in 0..16u64 {
         let line = format!(in alloc; "7 mkdir /{session}\n")?;
         input.extend_from_slice(line.as_bytes())?;
     }
-    for verb in ["cd /", "mkdir ", "rename /7 "] {
-        input.extend_from_slice(b"sync\n")?;
-        for session in 0..16u64 {
-            let line = format!(in alloc; "{session} {verb}{session}\n")?;
-            input.extend_from_slice(line.as_bytes())?;
-        }
-    }
-    let (answers, verdict) = run_and_judge(&rt, alloc, 4, &input)?;
-    assert_eq!(rt; answers, 64);
-    assert!(rt; verdict == PhasedVerdict::Legal, "{verdict:?}");
-    Ok(())
+    add_sixteen(alloc, &mut input, "cd /")?;
+    add_sixteen(alloc, &mut input, "mkdir ")?;
+    add_sixteen(alloc, &mut input, "rename /7 ")?;
+    Ok(input)
+}
+
+/// All sessions at once.
+#[test]
+fn sixteen_sessions_are_legal(rt: HostRuntime) -> Result<(), Fail> {
+    run_legally(&rt, rt.alloc(), 4, &sixteen(rt.alloc())?, 64)
 }

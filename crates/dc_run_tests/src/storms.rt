@@ -17,7 +17,7 @@ const PHASES: u64 = 4;
 const LINES: u64 = 50;
 
 /// The directories are made, renamed, exchanged and removed while others look through them.
-const COMMANDS: [&str; 32] = [
+static COMMANDS: [&str; 32] = [
     "mkdir /p",
     "mkdir /q",
     "mkdir /p/d",
@@ -93,38 +93,35 @@ fn storm<R: Threads + Wait + Sync>(
     Ok((answered && alone && phased, later))
 }
 
-/// Runs so many storms, and tells which one, counted from 0, wasn't legal, or `None` where each was.
-fn first_bad<R: Threads + Wait + Sync>(
+/// Runs so many storms, and fails where one, counted from 0, isn't legal.
+fn run_storms<R: Threads + Wait + Sync>(
     rt: &R,
     alloc: Global,
     buckets: u64,
     runs: u64,
     mut seed: u64,
-) -> Result<Option<u64>, Fail> {
+) -> Result<(), Fail> {
     for run in 0..runs {
         let (legal, later) = storm(rt, alloc, buckets, seed)?;
         if !legal {
-            return Ok(Some(run));
+            return Err(Fail::from(("storm", run)));
         }
         seed = later;
     }
-    Ok(None)
+    Ok(())
 }
 
 #[test]
 fn storms_on_one_bucket_are_legal(rt: HostRuntime) -> Result<(), Fail> {
-    assert_eq!(rt; first_bad(&rt, rt.alloc(), 1, 34, 1)?, None);
-    Ok(())
+    run_storms(&rt, rt.alloc(), 1, 34, 1)
 }
 
 #[test]
 fn storms_on_sixteen_buckets_are_legal(rt: HostRuntime) -> Result<(), Fail> {
-    assert_eq!(rt; first_bad(&rt, rt.alloc(), 16, 33, 2)?, None);
-    Ok(())
+    run_storms(&rt, rt.alloc(), 16, 33, 2)
 }
 
 #[test]
 fn storms_on_many_buckets_are_legal(rt: HostRuntime) -> Result<(), Fail> {
-    assert_eq!(rt; first_bad(&rt, rt.alloc(), 256, 33, 3)?, None);
-    Ok(())
+    run_storms(&rt, rt.alloc(), 256, 33, 3)
 }

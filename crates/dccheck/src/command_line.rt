@@ -2,7 +2,7 @@
 
 use crate::faults::Fault;
 use clap::{Arg, ArgAction, ArgMatches, Command, Error};
-use std::alloc::Global;
+use std::alloc::{AllocError, Global};
 
 /// What is judged, by the paths of files. A dash is standard input.
 #[derive(Clone, Copy)]
@@ -42,7 +42,7 @@ enum Given {
 #[derive(Clone, Copy)]
 struct Choice(&'static str, Given, &'static str);
 
-const CHOICES: [Choice; 6] = [
+static CHOICES: [Choice; 6] = [
     Choice(
         "inodes",
         Given::Number("65536"),
@@ -71,46 +71,35 @@ const CHOICES: [Choice; 6] = [
     ),
 ];
 
-/// A file of a record, where there is no trace.
-fn file<'a>(alloc: Global, id: &'a str) -> Result<Arg<'a>, Error> {
-    Ok(
-        Arg::new(alloc, id)
-            .required_unless_present("trace")?
-            .conflicts_with("trace")?,
-    )
-}
-
-/// An option with a value.
-fn valued<'a>(alloc: Global, id: &'a str, value: &'a str) -> Arg<'a> {
-    Arg::new(alloc, id).long(id).value_name(value)
-}
-
-/// An option without what it is for.
-fn bare<'a>(alloc: Global, id: &'a str, given: Given) -> Result<Arg<'a>, Error> {
-    match given {
-        Given::Nothing => Ok(Arg::new(alloc, id).long(id).action(ArgAction::SetTrue)),
-        Given::Number(default) => Ok(valued(alloc, id, "N").default_value(default)),
-        Given::Trace => Ok(valued(alloc, id, "FILE")),
-        Given::Record => file(alloc, id),
-    }
-}
-
-/// A command with an option more.
-fn with<'a>(alloc: Global, command: Command<'a>, choice: &Choice) -> Result<Command<'a>, Error> {
+/// An option or a file.
+fn arg_of<'a>(alloc: Global, choice: &Choice) -> Result<Arg<'a>, AllocError> {
     let Choice(id, given, help) = *choice;
-    let arg = bare(alloc, id, given)?;
-    Ok(command.arg(arg.help(help))?)
+    let arg = Arg::new(alloc, id).help(help);
+    match given {
+        Given::Nothing => Ok(arg.long(id).action(ArgAction::SetTrue)),
+        Given::Number(default) => Ok(arg.long(id).value_name("N").default_value(default)),
+        Given::Trace => Ok(arg.long(id).value_name("FILE")),
+        Given::Record => arg
+            .required_unless_present("trace")?
+            .conflicts_with("trace"),
+    }
 }
 
-/// The command with all options.
-fn command<'a>(alloc: Global) -> Result<Command<'a>, Error> {
-    let mut command = Command::new(alloc, "dccheck")
-        .about("Says whether stamped replies are what one plain tree answers")
-        .no_binary_name(true);
+/// The options and the files.
+fn args<'a>(alloc: Global) -> Result<Vec<Arg<'a>>, AllocError> {
+    let mut args = Vec::new(alloc);
     for choice in &CHOICES {
-        command = with(alloc, command, choice)?;
+        args.push(arg_of(alloc, choice)?)?;
     }
-    Ok(command)
+    Ok(args)
+}
+
+/// The command with all of them.
+fn command<'a>(alloc: Global) -> Result<Command<'a>, AllocError> {
+    Command::new(alloc, "dccheck")
+        .about("Says whether stamped replies are what one plain tree answers")
+        .no_binary_name(true)
+        .args(args(alloc)?)
 }
 
 fn matches_in<'a>(alloc: Global, words: &'a [String]) -> Result<ArgMatches<'a>, Error> {

@@ -222,23 +222,23 @@ fn afterwards() -> [&'static [Case]; 3] {
     [&REFILLED, &READ_WHOLE, &CHANGED]
 }
 
-/// The first list, counted from 0, and its first case that went otherwise, or `None` if none did.
-fn first_wrong(core: &mut Core, alloc: Global, lists: &[&[Case]]) -> Option<(usize, usize)> {
+/// Takes the lists one after the other, and fails where a case goes otherwise.
+fn take(core: &mut Core, alloc: Global, lists: &[&[Case]]) -> Result<(), Fail> {
     for (i, cases) in lists.iter().enumerate() {
         let found = first_other(core, alloc, cases);
         if found != cases.len() {
-            return Some((i, found));
+            return Err(Fail::from(("list and case", i, found)));
         }
     }
-    None
+    Ok(())
 }
 
 #[test]
 fn each_act_is_refused_for_each_reason(rt: HostRuntime) -> Result<(), Fail> {
     let mut core = Core::new(rt.alloc(), 1, 2, 16)?;
-    assert_eq!(rt; first_wrong(&mut core, rt.alloc(), &before()), None);
+    take(&mut core, rt.alloc(), &before())?;
     assert!(rt; fill(&mut core, rt.alloc(), 0, 0, &A_IS_2).is_ok());
-    assert_eq!(rt; first_wrong(&mut core, rt.alloc(), &afterwards()), None);
+    take(&mut core, rt.alloc(), &afterwards())?;
     assert!(rt; core.finished().len() == 2 && core.clock() == 1);
     Ok(())
 }

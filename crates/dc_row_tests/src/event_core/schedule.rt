@@ -295,24 +295,22 @@ fn play(alloc: Global) -> Result<Three, Fail> {
     Ok(three)
 }
 
-/// The first point whose records are not the slow machine's replies, or `None` if there is none.
-fn first_wrong(alloc: Global, core: &Core) -> Result<Option<u64>, NoMemory> {
+/// Fails where the records of a point are not the slow machine's replies.
+fn compare(alloc: Global, core: &Core) -> Result<(), Fail> {
     let clock = core.clock();
     let mut tree = PlainTree::new(alloc, 16)?;
     for at in 0..clock.saturating_add(1) {
         if !are_replies(alloc, &mut tree, core.finished(), at, at < clock)? {
-            return Ok(Some(at));
+            return Err(Fail::from(("at", at)));
         }
     }
-    Ok(None)
+    Ok(())
 }
 
 #[test]
 fn schedules_are_one_tree(rt: HostRuntime) -> Result<(), Fail> {
-    let alloc = rt.alloc();
-    let three = play(alloc)?;
-    let wrong = first_wrong(alloc, &three.core)?;
-    assert!(rt; wrong.is_none(), "at {wrong:?}");
+    let three = play(rt.alloc())?;
+    compare(rt.alloc(), &three.core)?;
     let (found, refused) = look_ups(three.core.finished());
     assert!(rt; three.done >= 5000 && three.evictions >= 20 && three.core.clock() >= 20);
     assert!(rt; found >= 20 && refused >= 4);

@@ -36,6 +36,11 @@ fn is_refused(alloc: Global, input: &[u8], output: &[u8]) -> bool {
     )
 }
 
+/// Whether a line is no record, be it an input or an output.
+fn is_no_line(alloc: Global, line: &[u8]) -> bool {
+    is_refused(alloc, line, b"") && is_refused(alloc, b"0 look /\n", line)
+}
+
 /// Each line alone, as an input and as an output, and all of them behind good ones.
 #[test]
 fn random_bytes_are_no_record(rt: HostRuntime) -> Result<(), Fail> {
@@ -45,8 +50,7 @@ fn random_bytes_are_no_record(rt: HostRuntime) -> Result<(), Fail> {
     for _ in 0..100_000 {
         let (line, later) = random_line(alloc, seed)?;
         seed = later;
-        assert!(rt; is_refused(alloc, &line, b""), "{line:?}");
-        assert!(rt; is_refused(alloc, b"0 look /\n", &line), "{line:?}");
+        assert!(rt; is_no_line(alloc, &line), "{line:?}");
         all.extend_from_slice(&line)?;
     }
     assert!(rt; matches!(record_of(alloc, &all, &all), Err(RecordFault::BadLine(4))));
@@ -77,21 +81,30 @@ fn judged(alloc: Global, output: &[u8]) -> Result<Option<Verdict>, Fail> {
     }
 }
 
+/// The output with this byte in a place.
+fn with_byte(alloc: Global, place: usize, byte: u8) -> Result<Vec<u8>, AllocError> {
+    let mut output = copies(alloc, OUTPUT.as_bytes(), 1)?;
+    if let Some(changed) = output.get_mut(place) {
+        *changed = byte;
+    }
+    Ok(output)
+}
+
+/// Whether the output with this byte in a place is legal just where it is the same.
+fn is_judged(alloc: Global, place: usize, byte: u8) -> Result<bool, Fail> {
+    let output = with_byte(alloc, place, byte)?;
+    let same = output.as_slice() == OUTPUT.as_bytes();
+    Ok(same == (judged(alloc, &output)? == Some(Verdict::Legal)))
+}
+
 /// An output with one byte that is another is no legal record of the same input.
 #[test]
 fn records_with_one_byte_changed(rt: HostRuntime) -> Result<(), Fail> {
     let alloc = rt.alloc();
-    let right = OUTPUT.as_bytes();
-    assert!(rt; judged(alloc, right)? == Some(Verdict::Legal));
-    for place in 0..right.len() {
+    assert!(rt; judged(alloc, OUTPUT.as_bytes())? == Some(Verdict::Legal));
+    for place in 0..OUTPUT.len() {
         for byte in 0..=255u8 {
-            let mut output = copies(alloc, right, 1)?;
-            if let Some(changed) = output.get_mut(place) {
-                *changed = byte;
-            }
-            let same = output.as_slice() == right;
-            let verdict = judged(alloc, &output)?;
-            assert!(rt; same == (verdict == Some(Verdict::Legal)), "{output:?}");
+            assert!(rt; is_judged(alloc, place, byte)?, "{place} {byte}");
         }
     }
     Ok(())

@@ -81,32 +81,55 @@ fn read_from<R: Threads + Wait + Sync>(
     (result, reader.reads, output.is_empty())
 }
 
+/// How many bytes a reader gives up to its turn, and what a run makes of it, and how often it reads.
+static ENDS: [(u32, Turn, Result<(), ServeFault>, u32); 5] = [
+    (18, Turn::Ends, Ok(()), 19),
+    (18, Turn::PausesOnce, Ok(()), 19),
+    // The longest input isn't refused by its reader: its last line breaks off.
+    (
+        1_048_576,
+        Turn::Ends,
+        Err(ServeFault::BadLine(116_509)),
+        1_048_577,
+    ),
+    (1_048_577, Turn::Ends, Err(ServeFault::Read), 1_048_577),
+    (u32::MAX, Turn::Ends, Err(ServeFault::Read), 1_048_577),
+];
+
+/// Whether a run makes this of a reader, and reads so often.
+fn ends_so<R: Threads + Wait + Sync>(
+    rt: &R,
+    alloc: Global,
+    left: u32,
+    turn: Turn,
+    want: Result<(), ServeFault>,
+    reads: u32,
+) -> bool {
+    let (result, made, _) = read_from(rt, alloc, left, turn);
+    result == want && made == reads
+}
+
+/// Whether a run reads no more from a reader that failed, and answers nothing.
+fn fails_at_once<R: Threads + Wait + Sync>(rt: &R, alloc: Global, left: u32, turn: Turn) -> bool {
+    let (result, reads, nothing) = read_from(rt, alloc, left, turn);
+    result == Err(ServeFault::Read) && nothing && reads == left.saturating_add(1)
+}
+
 /// A read that fails or ends is not tried again, and nothing is answered after a fault.
 #[test]
 fn inputs_that_end_badly(rt: HostRuntime) {
-    for (left, turn, want, reads) in [
-        (18, Turn::Ends, Ok(()), 19),
-        (18, Turn::PausesOnce, Ok(()), 19),
-        // The longest input isn't refused by its reader: its last line breaks off.
-        (
-            1_048_576,
-            Turn::Ends,
-            Err(ServeFault::BadLine(116_509)),
-            1_048_577,
-        ),
-        (1_048_577, Turn::Ends, Err(ServeFault::Read), 1_048_577),
-        (u32::MAX, Turn::Ends, Err(ServeFault::Read), 1_048_577),
-    ] {
-        let (result, made, _) = read_from(&rt, rt.alloc(), left, turn);
-        assert_eq!(rt; result, want, "{left}");
-        assert_eq!(rt; made, reads, "{left}");
+    for (left, turn, want, reads) in ENDS.iter() {
+        assert!(rt;
+            ends_so(&rt, rt.alloc(), *left, *turn, *want, *reads),
+            "{left}"
+        );
     }
     for left in 0..19 {
-        for turn in [Turn::Fails, Turn::FailsOnce] {
-            let (result, reads, nothing) = read_from(&rt, rt.alloc(), left, turn);
-            assert_eq!(rt; result, Err(ServeFault::Read), "{left}");
-            assert!(rt; nothing && reads == left.saturating_add(1), "{left}");
-        }
+        assert!(rt; fails_at_once(&rt, rt.alloc(), left, Turn::Fails), "{left}");
+        assert!(rt;
+            fails_at_once(&rt, rt.alloc(), left, Turn::FailsOnce),
+            "{left}"
+        );
     }
 }
 
@@ -170,25 +193,43 @@ fn write_to<R: Threads + Wait + Sync>(
     (result, writer)
 }
 
+/// Whether a run writes all to who takes it, flushes once, and makes this of it.
+fn is_taken<R: Threads + Wait + Sync>(
+    rt: &R,
+    alloc: Global,
+    refuses_flush: bool,
+    want: Result<(), ServeFault>,
+) -> bool {
+    let (result, writer) = write_to(rt, alloc, usize::MAX, Turn::Ends, refuses_flush);
+    result == want && writer.taken.as_slice() == OUTPUT && writer.flushes == 1
+}
+
 /// A text is written whole to who takes it byte by byte, and is flushed once.
 #[test]
 fn outputs_that_are_taken(rt: HostRuntime) {
-    for (refuses_flush, want) in [(false, Ok(())), (true, Err(ServeFault::Write))] {
-        let (result, writer) = write_to(&rt, rt.alloc(), usize::MAX, Turn::Ends, refuses_flush);
-        assert_eq!(rt; result, want);
-        assert!(rt; writer.taken.as_slice() == OUTPUT && writer.flushes == 1);
-    }
+    assert!(rt; is_taken(&rt, rt.alloc(), false, Ok(())));
+    assert!(rt; is_taken(&rt, rt.alloc(), true, Err(ServeFault::Write)));
 }
+
+/// Whether a run writes no more to a writer that has no more room, and flushes nothing.
+fn stops_at_once<R: Threads + Wait + Sync>(rt: &R, alloc: Global, room: usize, turn: Turn) -> bool {
+    let (result, writer) = write_to(rt, alloc, room, turn, false);
+    result == Err(ServeFault::Write)
+        && OUTPUT.get(..room) == Some(writer.taken.as_slice())
+        && writer.flushes == 0
+}
+
+static TURNS: [Turn; 4] = [Turn::Ends, Turn::PausesOnce, Turn::Fails, Turn::FailsOnce];
 
 /// A write that fails or takes nothing is not tried again, wherever it stands, and nothing is flushed.
 #[test]
 fn outputs_that_end_badly(rt: HostRuntime) {
     for room in 0..OUTPUT.len() {
-        for turn in [Turn::Ends, Turn::PausesOnce, Turn::Fails, Turn::FailsOnce] {
-            let (result, writer) = write_to(&rt, rt.alloc(), room, turn, false);
-            assert_eq!(rt; result, Err(ServeFault::Write), "{room}");
-            assert!(rt; writer.taken.as_slice() == &OUTPUT[..room], "{room}");
-            assert_eq!(rt; writer.flushes, 0, "{room}");
+        for turn in TURNS.iter() {
+            assert!(rt;
+                stops_at_once(&rt, rt.alloc(), room, *turn),
+                "{room} {turn:?}"
+            );
         }
     }
 }
