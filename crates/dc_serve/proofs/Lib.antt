@@ -17,3 +17,4 @@ pub mod Stood
 pub mod Strands
 pub mod Turnwise
 pub mod Items
+pub mod Apps

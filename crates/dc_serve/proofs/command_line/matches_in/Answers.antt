@@ -1,19 +1,11 @@
-use Rattle.std.proofs.Common.{◌≡◌, ◌∙◌, ap, ap₂, rules, refl, true, codes, map, subst, string_bytes}
+use Rattle.std.proofs.Common.{◌≡◌, ◌∙◌, ap, ap₂, rules, true, codes, map, subst, string_bytes}
 use Rattle.std.proofs.lemmas.Result.{IfOk-weaker}
 use Rattle.clap.specs.Words.{App, FailsBy, app_of, is_simple, matches_of, new_app, with_rule}
 use Rattle.clap.specs.Simple.{on_top}
 use Rattle.clap.specs.Faults.{is_simple_and_free, fault_of}
-use Rattle.clap.proofs.OnLiterals.{clap_on_literals}
 use Rattle.dc_serve.specs.CommandLine.{app}
+use Rattle.dc_serve.proofs.Apps.{is_free_app, is_simple_app}
 use Rattle.dc_serve.proofs.command_line.matches_in.Goals as goal
-
-is_simple_app : is_simple app ≡ true
-unfolding clap_on_literals
-is_simple_app = refl
-
-is_free_app : is_simple_and_free app ≡ true
-unfolding clap_on_literals
-is_free_app = refl
 
 pub returns : goal.returns
 returns c =
