@@ -52,7 +52,7 @@ fn are_same(one: &Core, other: &Core) -> bool {
 const PATH: &[u8] = b"/x";
 
 /// A change, a row that is filled with what it made, and a look-up that notes the row.
-static FILL: [Act<'static>; 14] = [
+const FILL: [Act<'static>; 14] = [
     Act::Begin(Call::Mkdir {
         base: 1,
         path: PATH,
@@ -77,7 +77,7 @@ static FILL: [Act<'static>; 14] = [
 ];
 
 /// The end of the look-up, once the row is read, and a count under the lock.
-static END: [Act<'static>; 5] = [
+const END: [Act<'static>; 5] = [
     Act::Pivot,
     Act::Check(0),
     Act::Begin(Call::Stat {
@@ -88,25 +88,21 @@ static END: [Act<'static>; 5] = [
     Act::Give(true),
 ];
 
-/// Adds the events of an actor that takes some acts.
-fn add(events: &mut Vec<Event<'static>>, acts: &[Act<'static>]) -> Result<(), Fault> {
-    for act in acts {
-        events.push(Event {
-            actor: 0,
-            act: *act,
-        })?;
-    }
-    Ok(())
-}
-
-/// The events of one actor, which reads all words of the row but one.
+/// The events of one actor that takes these acts.
 fn events(alloc: Global) -> Result<Vec<Event<'static>>, Fault> {
     let mut events = Vec::with_capacity(alloc, FILL.len() + ROW_WORDS - 1 + END.len())?;
-    add(&mut events, &FILL)?;
-    for _ in 1..ROW_WORDS {
-        add(&mut events, &[Act::Read])?;
+    for act in FILL {
+        events.push(Event { actor: 0, act })?;
     }
-    add(&mut events, &END)?;
+    for _ in 1..ROW_WORDS {
+        events.push(Event {
+            actor: 0,
+            act: Act::Read,
+        })?;
+    }
+    for act in END {
+        events.push(Event { actor: 0, act })?;
+    }
     Ok(events)
 }
 

@@ -17,17 +17,17 @@ const LATER: &str = "0 list /\n0 list /d\n0 list /e\n0 list /d/n\n0 stat /\n0 st
     0 look /l/f\n0 list /\n0 list /later\n0 list /l\n0 unlink /later/h\n0 stat /later/d/f\n";
 
 /// Names that are nowhere.
-static ABSENT: [&[u8]; 4] = [b"/1", b"/2", b"/3", b"/4"];
+const ABSENT: [&[u8]; 4] = [b"/1", b"/2", b"/3", b"/4"];
 
 /// Whether four names that are nowhere get the four rows of the one bucket, so that none is pinned.
 pub fn are_unpinned<R: Wait>(rt: &R, alloc: Global, cache: &Dcache, pass: &mut Pass) -> bool
     requires { Fits cache.now pass.old }
     ensures { Fits cache.now pass.new }
 {
-    for path in &ABSENT {
+    for path in ABSENT {
         let _found = cache.look(rt, alloc, pass, ROOT, path, Follow::Yes);
     }
-    for path in &ABSENT {
+    for path in ABSENT {
         let Ok(text) = parse(path) else {
             return false;
         };
