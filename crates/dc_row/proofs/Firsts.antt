@@ -1,19 +1,19 @@
 -- A row by its first words.
-use Rattle.std.proofs.Common.{◌≡◌, ℕ, ◌+◌, ◌-◌, ◌/◌, ◌%◌, ◌<◌, ◌≤◌, List, ◌++◌, min, length, length-take-le, length-append, get_or, take, replicate, Option, Some, inl, inr, ap, sym, ◌∙◌, arith}
+use Rattle.std.proofs.Common.{◌≡◌, ℕ, ◌+◌, ◌-◌, ◌*◌, ◌/◌, ◌%◌, ◌<◌, ◌≤◌, Bool, IsTrue, ◌↔◌, List, ◌++◌, min, length, length-take-le, length-append, get_or, take, replicate, Option, Some, inl, inr, ap, sym, ◌∙◌, arith}
 use Rattle.std.proofs.lemmas.Bool.{cases_lt}
 use Rattle.std.proofs.lemmas.List.{get_or_append_left, get_or-append_right, get_or-replicate, get_or_past, get_or-take, length-replicate}
 use Rattle.std.proofs.Math.Nat.{min-eq_left}
 use Rattle.dc_plain.specs.Facts.{Label, Target}
 use Rattle.dc_plain.specs.Facts.Fact.{Leads}
 use Rattle.dc_row.specs.Narrow.{told_words, widened, words_for, RowsEndInZeros}
-use Rattle.dc_row.specs.Spelling.{fields_of, kind_code, target_number, Fields, IsSpelled, Spells}
+use Rattle.dc_row.specs.Spelling.{fields_of, head_of, kind_code, target_number, text_word, Fields, IsSpelled, Spells}
 use Rattle.dc_row.specs.declared.TheConstants.{ROW_WORDS}
 use Rattle.dc_row.specs.declared.layout.TheConstants.{KIND_UNIT, TAGS}
 use Rattle.dc_row.proofs.Compared.{all_same}
 use Rattle.dc_row.proofs.Decoded.{kind_is}
 use Rattle.dc_row.proofs.Packed.{get_or-padded}
 use Rattle.dc_row.proofs.Read.{length_is, text_fits}
-use Rattle.dc_row.proofs.Written.{word_at-text, word_past}
+use Rattle.dc_row.proofs.Written.{spelled_by, word_at-text, word_past}
 
 -- words that are zero from the n-th on are their first n, and zeros
 narrow_at : (words : List ℕ) (n m : ℕ) → length (take n words) ≡ n → ((i : ℕ) → n ≤ i → i < n + m → get_or words i 0 ≡ 0) → (k : ℕ) → k < n + m → get_or (take n words ++ replicate m 0) k 0 ≡ get_or words k 0
@@ -50,6 +50,17 @@ wide_size words few = length-append words (replicate (ROW_WORDS - length words) 
 -- words that are zero from a place on, to their end
 pub zero_from : (words : List ℕ) (from : ℕ) → ((i : ℕ) → from ≤ i → i < length words → get_or words i 0 ≡ 0) → (i : ℕ) → from ≤ i → get_or words i 0 ≡ 0
 zero_from words from zeros i late = elim (cases_lt i (length words)) [ inl l ↦ zeros i late l | inr past ↦ get_or_past words i 0 past ]
+
+-- words that spell the fields up to the end of the text do so altogether just if all from there on are zero
+pub spelled_if_zero : (words : List ℕ) (f : Fields) (end : ℕ) (zero : Bool) → length words ≤ ROW_WORDS → 4 ≤ end → length f.text ≤ 8 * (end - 4) → get_or words 1 0 ≡ head_of f → get_or words 2 0 ≡ f.number → get_or words 3 0 ≡ f.value
+    → ((j : ℕ) → 4 ≤ j → j < end → get_or words j 0 ≡ text_word f.text (j - 4)) → (IsTrue zero ↔ ((i : ℕ) → end ≤ i → i < length words → get_or words i 0 ≡ 0)) → IsTrue zero ↔ IsSpelled words f
+spelled_if_zero words f end zero few late covered head number value text zeros = (
+  λ all. spelled_by words f head number value (λ j some below. elim (cases_lt j end) [
+    | inl l ↦ text j some l
+    | inr past ↦ zero_from words end (zeros.0 all) j past ∙ sym (word_past f.text (j - 4) (omega arith))
+  ]),
+  λ is. zeros.1 (λ i past within. is i (omega arith) (omega arith) ∙ word_at-text f i (omega arith) ∙ word_past f.text (i - 4) (omega arith)),
+)
 
 -- a whole row is its first words
 pub whole : (words : List ℕ) → length words ≡ ROW_WORDS → widened words ≡ words

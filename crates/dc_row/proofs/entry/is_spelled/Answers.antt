@@ -1,7 +1,5 @@
-use Rattle.std.proofs.Common.{◌≡◌, ◌+◌, ◌-◌, inl, inr, get_or, sym, subst, ◌∙◌, arith}
-use Rattle.std.proofs.lemmas.Bool.{cases_lt}
-use Rattle.dc_row.proofs.Firsts.{zero_from}
-use Rattle.dc_row.proofs.Written.{spelled_by, word_at-text, word_past}
+use Rattle.std.proofs.Common.{◌≡◌, ◌≤◌, ◌+◌, ◌-◌, get_or, sym, ◌∙◌, arith, below_more}
+use Rattle.dc_row.proofs.Firsts.{spelled_if_zero}
 use Rattle.dc_row.specs.Spelling.{fields, text_word}
 use Rattle.dc_row.proofs.entry.is_spelled.Goals as goal
 
@@ -9,18 +7,10 @@ pub text-init : goal.text-init
 text-init c j some less = absurd (omega arith)
 
 pub text-preserved : goal.text-preserved
-text-preserved c j some less = let words = c.args.words.now in let text = c.args.text.now in elim (cases_lt j c.text.i) [
-  | inl l ↦ c.text.invariant j some l
-  | inr past ↦ (let here : c.text.i ≡ j = omega arith in subst (λ k. get_or words k 0 ≡ text_word text (k - 4)) here (sym c.word.ensures ∙ c.if-word-text_word.false ∙ c.text_word.ensures))
-]
+text-preserved c j some less = below_more (λ k. 4 ≤ k → get_or c.args.words.now k 0 ≡ text_word c.args.text.now (k - 4)) c.text.i
+    (λ k l late. c.text.invariant k late l) (λ late. sym c.word.ensures ∙ c.if-word-text_word.false ∙ c.text_word.ensures) j less some
 
 pub returns-clause-is : goal.returns-clause-is
-returns-clause-is c = let text = c.args.text.now in let words = c.args.words.now in let end = 4 + c.div_ceil-end.result in
-    let f = fields c.args.tag c.args.kind c.args.number c.args.value text in
-    let many = c.div_ceil-end.ensures in let size = c.requires.size in (
-      λ zeros. spelled_by c.args.words.now f (omega arith) (omega arith) (omega arith) (λ j some few. elim (cases_lt j end) [
-        | inl l ↦ c.text.invariant j some (let done = c.text-test.false in omega arith)
-        | inr past ↦ zero_from words end (λ k from within. c.are_zero.ensures.0 zeros k from within) j past ∙ sym (word_past text (j - 4) (omega arith))
-      ]),
-      λ s. c.are_zero.ensures.1 (λ i past l. s i (omega arith) (omega arith) ∙ word_at-text f i (omega arith) ∙ word_past text (i - 4) (omega arith)),
-    )
+returns-clause-is c = let f = fields c.args.tag c.args.kind c.args.number c.args.value c.args.text.now in let many = c.div_ceil-end.ensures in let done = c.text-test.false in
+    spelled_if_zero c.args.words.now f (4 + c.div_ceil-end.result) c.are_zero.result c.requires.size.1 (omega arith) (omega arith) (omega arith) (omega arith) (omega arith)
+    (λ j some few. c.text.invariant j some (omega arith)) c.are_zero.ensures
