@@ -65,11 +65,14 @@ answer_kept laws s j hist ds L ok = let p = passed ok in let q = passed p.1 in l
     }
 
 -- a call that may be answered alters nothing
-pub answer_flat : (s : State) (j : ℕ) → Answers s (record { actor = j; act = Give true }) None → alters s.limit s.tree (actor_at s j).walk.call ≡ false
+answer_flat : (s : State) (j : ℕ) → Answers s (record { actor = j; act = Give true }) None → alters s.limit s.tree (actor_at s j).walk.call ≡ false
 answer_flat s j ok = let call : Request = (actor_at s j).walk.call in
     let x = passed_row s.rows (IsOdd s) OddRow (Unless ((actor_at s j).walk.busy ≡ false) NoCall (Unless (alters s.limit s.tree call ≡ true) Alters Passes)) (passed (passed ok).1).1 in
     held_not (alters s.limit s.tree call) (passed (passed x.1).1).0
 
 -- and leaves the tree
-pub unaltered : SameTreeDecides → (limit : ℕ) (t : Tree) (call : Request) → alters limit t call ≡ false → tree_after limit t call ≡ t
+unaltered : SameTreeDecides → (limit : ℕ) (t : Tree) (call : Request) → alters limit t call ≡ false → tree_after limit t call ≡ t
 unaltered same limit t call flat = (same (tree_after limit t call) t).0 (held_so (same_tree (tree_after limit t call) t) (λ other. true≢false (sym (ap not other) ∙ flat)))
+
+pub answer_leaves : SameTreeDecides → (s : State) (j : ℕ) → Answers s (event_by j (Give true)) None → tree_after s.limit s.tree (actor_at s j).walk.call ≡ s.tree
+answer_leaves same s j ok = unaltered same s.limit s.tree (actor_at s j).walk.call (answer_flat s j ok)

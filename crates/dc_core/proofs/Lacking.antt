@@ -2,9 +2,9 @@
 use Rattle.std.proofs.Common.{◌≡◌, ◌⊎◌, ℕ, Bool, true, false, true≢false, Option, Some, None, Result, Ok, Err, MatchResult, refl, sym, ap, ◌∙◌, subst, inl, inr}
 use Rattle.dc_plain.specs.Requests.{Request}
 use Rattle.dc_plain.specs.Runs.{alters}
-use Rattle.dc_core.specs.Machine.{State, actor_at, event_by}
+use Rattle.dc_core.specs.Machine.{State, Event, actor_at, event_by}
 use Rattle.dc_core.specs.Machine.Act.{Open, Commit, Give}
-use Rattle.dc_core.specs.Memory.{gives_way, MayLackMemory, RefusedBy, TestedBy, AnsweredAs}
+use Rattle.dc_core.specs.Memory.{gives_way, MayLackMemory, RefusedBy, RefusedAs, TestedBy, AnsweredAs}
 use Rattle.dc_core.specs.Refusals.{Refusal, Unless, Passes, Answers, WithCall, AtOddRow, IsOdd, MayBeMade, MayBeOpened}
 use Rattle.dc_core.specs.Refusals.Refusal.{NoCall, OddRow, Alters}
 use Rattle.dc_core.specs.declared.refused.Refused as rust_refused
@@ -13,6 +13,10 @@ use Rattle.dc_core.specs.Shown.{refusal_shown}
 use Rattle.dc_core.proofs.Commits.{passed_row}
 use Rattle.dc_core.proofs.Seats.{passed}
 use Rattle.dc_core.proofs.Stepped.{more_three, more_four, after_four}
+
+-- an event that is refused is answered by that refusal
+pub refused_as : {A : Type 0} (s : State) (e : Event) (r : Result A rust_refused.Refused) (why : rust_refused.Refused) → r ≡ Err why → RefusedAs s e why → AnsweredAs s e r
+refused_as {A} s e r why is how = subst (λ (r : Result A rust_refused.Refused). AnsweredAs s e r) (sym is) how
 
 pub refused_map : (P Q : Option Refusal → Type 0) (M N : Type 0) → ((o : Option Refusal) → P o → Q o) → (M → N) → (o : Option Refusal) → RefusedBy P M o → RefusedBy Q N o
 refused_map P Q M N f g None lacks = g lacks

@@ -19,6 +19,7 @@ pub mod Rowed
 pub mod Stepped
 pub mod Lacking
 pub mod Tests
+pub mod Checks
 pub mod Spelled
 pub mod Recorded
 pub mod NotesRead

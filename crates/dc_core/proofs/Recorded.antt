@@ -1,11 +1,16 @@
 -- What an act makes of an actor and of the records that the program stores.
 use Rattle.std.proofs.Common.{◌≡◌, ℕ, ◌<◌, List, [], ◌∷◌, ◌++◌, length, get_or, set, map, Option, ap, ◌∙◌}
-use Rattle.dc_plain.specs.Requests.{Answer}
+use Rattle.dc_plain.specs.OwnCalls.{own_request}
+use Rattle.dc_plain.specs.Requests.{Answer, answer_of}
+use Rattle.dc_plain.specs.Trees.{Tree}
+use Rattle.dc_plain.specs.declared.call.Reply.{Reply}
+use Rattle.dc_plain.specs.declared.own_call.OwnCall.{OwnCall}
 use Rattle.dc_events.specs.Noted.{answer_in}
-use Rattle.dc_core.specs.Machine.{State, Actor, idle, ended, recorded, concluding, settling, with_finished}
-use Rattle.dc_core.specs.Shown.{actor_shown, finished_shown}
+use Rattle.dc_core.specs.Machine.{State, Actor, actor_at, clock_of, idle, ended, recorded, concluding, settling, with_finished}
+use Rattle.dc_core.specs.Shown.{actor_shown, call_of, finished_shown, reply_in, state_of, tree_in}
 use Rattle.dc_core.specs.declared.actor.Actor as rust_actor
 use Rattle.dc_core.specs.declared.state.Finished as rust_finished
+use Rattle.dc_core.specs.declared.state.State as rust_state
 use Rattle.dc_core.proofs.Acted.{acted, unacted, this_one, finished_more, concluding_is}
 
 module _ (S : State) (us : List rust_actor.Actor) (j : ℕ) (one : rust_actor.Actor) (less : j < length us) (is : one ≡ get_or us j one) where
@@ -29,9 +34,24 @@ module _ (S : State) (us : List rust_actor.Actor) (j : ℕ) (one : rust_actor.Ac
       }) ∙ concluding_is (holding us old) j (F a) o ∙ ap (concluding (holding us old) j (F a)) (answers ∙ ap (λ (b : Actor). answer_in b.walk) now)
 
   -- a call that is made is recorded
-  pub made : (one' : rust_actor.Actor) (G : Actor → Actor) (old ready new : List rust_finished.Finished) (f : rust_finished.Finished) (reply : Answer) (at : ℕ) → actor_shown one' ≡ G (actor_shown one) → ready ≡ old → new ≡ ready ++ f ∷ []
+  made : (one' : rust_actor.Actor) (G : Actor → Actor) (old ready new : List rust_finished.Finished) (f : rust_finished.Finished) (reply : Answer) (at : ℕ) → actor_shown one' ≡ G (actor_shown one) → ready ≡ old → new ≡ ready ++ f ∷ []
       → finished_shown f ≡ record { actor = j; call = (actor_shown one).walk.call; reply = reply; at = at } → holding (set us j one') new ≡ with_finished (record (holding us old) { actors = set (map actor_shown us) j (G a) }) j a.walk.call reply at
   made one' G old ready new f reply at shown same more told = let mine = this_one us j one less is in
       let g = told ∙ ap (λ (b : Actor). record { actor = j; call = b.walk.call; reply = reply; at = at }) mine in
       let all = finished_more old ready new f record { actor = j; call = a.walk.call; reply = reply; at = at } more same g in
       λ i. record S { actors = acted us j one one' G less is shown i; finished = all i }
+
+-- so is one that is made on the tree, by the actor as it was and at the clock that was loaded
+pub made_on_tree : (s : rust_state.State) (j : ℕ) (one' : rust_actor.Actor) (call : OwnCall) (reply : Reply) (words : ℕ → List ℕ) (G : ℕ → Actor → Actor)
+    {first one : rust_actor.Actor} {clock limit : ℕ} {tree after : Tree} {ready new : List rust_finished.Finished}
+    → j < length s.actors.items → first ≡ get_or s.actors.items j first → one ≡ get_or s.actors.items j one → clock ≡ clock_of (state_of s) → actor_shown one' ≡ G clock (actor_shown one) → own_request call ≡ call_of one
+    → ready ≡ s.finished.items → new ≡ ready ++ record { actor = j; call = call; reply = reply; at = clock } ∷ []
+    → answer_of reply ≡ reply_in s.tree (call_of first) → limit ≡ s.tree.limit → tree ≡ tree_in s.tree (call_of first) → tree_in s.tree (actor_at (state_of s) j).walk.call ≡ after
+    → let S : State = state_of s in let a : Actor = actor_at S j in record S { limit = limit; words = words clock; tree = tree; actors = map actor_shown (set s.actors.items j one'); finished = map finished_shown new }
+    ≡ with_finished (record S { words = words (clock_of S); tree = after; actors = set S.actors j (G (clock_of S) a) }) j a.walk.call (reply_in s.tree a.walk.call) (clock_of S)
+made_on_tree s j one' call reply words G {first = first} {one = one} {clock = clock} {ready = ready} {new = new} less first_is one_is loaded ends calls same more replies limits grows leaves =
+    let S : State = state_of s in let us = s.actors.items in let before = this_one us j first less first_is in
+    let replied = replies ∙ ap (λ (b : Actor). reply_in s.tree b.walk.call) before in let grown = grows ∙ ap (λ (b : Actor). tree_in s.tree b.walk.call) before ∙ leaves in
+    let all = made S us j one less one_is one' (G (clock_of S)) s.finished.items ready new record { actor = j; call = call; reply = reply; at = clock } (reply_in s.tree (actor_at S j).walk.call) (clock_of S)
+    (ends ∙ ap (λ n. G n (actor_shown one)) loaded) same more (λ i. record { actor = j; call = calls i; reply = replied i; at = loaded i }) in
+    λ i. record (all i) { limit = limits i; words = words (loaded i); tree = grown i }

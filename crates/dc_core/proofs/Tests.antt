@@ -1,38 +1,33 @@
 -- The tests of an event one after another, as the program makes them.
-use Rattle.std.proofs.Common.{◌≡◌, ◌⊎◌, ◌≢◌, ◌%◌, ◌<◌, ◌≤◌, ℕ, Bool, not, true, false, true≢false, eqb, leb, List, length, map, Option, Some, Result, Ok, Err, MatchResult, IsTrue, ◌↔◌, refl, sym, ap, ap₂, ◌∙◌, subst, inl, inr, arith, get_or, is_some, None}
+use Rattle.std.proofs.Common.{◌≡◌, ◌⊎◌, ◌≢◌, ◌%◌, ◌<◌, ◌≤◌, ℕ, Bool, not, true, false, true≢false, eqb, leb, List, length, map, Option, Some, Result, Ok, Err, MatchResult, refl, sym, ap, ◌∙◌, subst, inl, inr, arith, get_or, is_some, None}
 use Rattle.std.proofs.lemmas.Bool.Decides.{nat_tests}
 use Rattle.dc_row.specs.declared.TheConstants.{ROW_WORDS}
 use Rattle.dc_events.specs.Rows.{count, most}
-use Rattle.dc_events.specs.Views.{Note as Noted}
-use Rattle.dc_events.specs.Walks.{note_of}
 use Rattle.dc_core.specs.Machine.{State, Actor, Event, actor_at, event_by}
-use Rattle.dc_core.specs.Machine.Act.{Shut, Write, Note, Check, Commit, Give}
+use Rattle.dc_core.specs.Machine.Act.{Shut, Write, Note, Commit, Give}
 use Rattle.dc_core.specs.Memory.{MayLackMemory, RefusedBy, TestedBy, AnsweredAs}
-use Rattle.dc_core.specs.Refusals.{Refusal, Unless, Passes, Answers, IsOdd, IsEven, IsUncheckable}
-use Rattle.dc_core.specs.Refusals.Refusal.{NotHolder, NoRow, NoWord, Odd, Even, Spent, NoNote, Changed, OddRow, NoCall, Alters}
-use Rattle.dc_core.specs.Shown.{state_of, act_shown, actor_shown, refusal_shown}
+use Rattle.dc_core.specs.Refusals.{Refusal, Unless, Passes, Answers, IsOdd, IsEven}
+use Rattle.dc_core.specs.Refusals.Refusal.{NotHolder, NoRow, NoWord, Odd, Even, Spent, OddRow, NoCall, Alters}
+use Rattle.dc_core.specs.Shown.{state_of, act_shown, actor_shown, call_shown, refusal_shown}
 use Rattle.dc_core.specs.Steps.{Steps}
+use Rattle.dc_plain.specs.OwnCalls.{own_request}
+use Rattle.dc_plain.specs.Requests.{Request}
 use Rattle.dc_plain.specs.Runs.{alters}
+use Rattle.dc_plain.specs.declared.own_call.OwnCall.{OwnCall}
 use Rattle.dc_core.specs.declared.actor.Actor as rust_actor
 use Rattle.dc_core.specs.declared.event.Act as rust_act
 use Rattle.dc_core.specs.declared.state.State as rust_state
 use Rattle.dc_core.specs.declared.refused.Refused as rust_refused
 use Rattle.dc_core.specs.declared.refused.Refused.TheVariants as refusals
-use Rattle.dc_core.proofs.Acted.{this_one}
+use Rattle.dc_core.proofs.Acted.{room, this_one}
 use Rattle.dc_core.proofs.Commits.{passed_row}
 use Rattle.dc_core.proofs.Seats.{passed, held_so}
-use Rattle.dc_core.proofs.Lacking.{tested_map}
+use Rattle.dc_core.proofs.Lacking.{answer_after, answer_lacks, answer_last, refused_as, tested_map}
 use Rattle.dc_core.proofs.Stepped.{not_false}
 use Rattle.dc_core.proofs.Shown.{map_length}
 
 below_if : (m n : ℕ) → leb m n ≡ false → n < m
 below_if m n e = grind (arith, nat_tests)
-
-same_if : (m n : ℕ) → not (eqb m n) ≡ false → m ≡ n
-same_if m n e = grind (arith, nat_tests)
-
-other_if : (m n : ℕ) → not (eqb m n) ≡ true → m ≡ n → ⊥
-other_if m n e same = grind (arith, nat_tests)
 
 -- an actor that is there
 pub seat : (us : List rust_actor.Actor) (j n : ℕ) → n ≡ length us → leb n j ≡ false → j < length us
@@ -51,27 +46,58 @@ has x y b same is off none = true≢false (sym (is ∙ ap not off) ∙ same ∙ 
 pub has_not : (x y b : Bool) → x ≡ y → b ≡ x → b ≡ false → y ≡ true → ⊥
 has_not x y b same is off some = true≢false (sym some ∙ sym same ∙ sym is ∙ off)
 
-pub checkable : (P Q : Type 0) (b : Bool) → (Q → P) → (IsTrue b ↔ P) → b ≡ false → Q → ⊥
-checkable P Q b to so off q = true≢false (sym (so.1 (to q)) ∙ off)
+-- an actor with a call, as the program found it
+pub record Walks (s : rust_state.State) (j : ℕ) (one : rust_actor.Actor) : Type 0 where
+  pub there : length (state_of s).actors ≤ j → ⊥
+  pub busy : (actor_at (state_of s) j).walk.busy ≡ false → ⊥
+  pub is : actor_shown one ≡ actor_at (state_of s) j
+
+pub walks : (s : rust_state.State) (j n : ℕ) (one : rust_actor.Actor) (none : Bool) → n ≡ length s.actors.items → leb n j ≡ false → one ≡ get_or s.actors.items j one → is_some one.call ≡ not none → none ≡ false → Walks s j one
+walks s j n one none many inside is found off =
+    let less = seat s.actors.items j n many inside in let before = this_one s.actors.items j one less is in
+    record { there = seated s.actors.items j less; busy = has _ _ none (ap (λ (a : Actor). a.walk.busy) before) found off; is = before }
 
 -- what a test of the program refuses
 pub refused_for : {A : Type 0} (s : State) (e : Event) (r : Result A rust_refused.Refused) (because : rust_refused.Refused) (named : Refusal) → r ≡ Err because → refusal_shown because ≡ Some named → Answers s e (Some named) → AnsweredAs s e r
-refused_for {A} s e r because named is name how = subst (λ (r : Result A rust_refused.Refused). AnsweredAs s e r) (sym is) (subst (RefusedBy (Answers s e) (MayLackMemory s e)) (sym name) how)
+refused_for s e r because named is name how = refused_as s e r because is (subst (RefusedBy (Answers s e) (MayLackMemory s e)) (sym name) how)
 
 -- an event whose act is known
 pub by_act : {A : Type 0} (s s' : State) (j : ℕ) (act known : rust_act.Act) (r : Result A rust_refused.Refused) → act ≡ known → Steps s (event_by j (act_shown known)) r s' → Steps s (event_by j (act_shown act)) r s'
 by_act s s' j act known r is step = subst (λ a. Steps s (event_by j (act_shown a)) r s') (sym is) step
 
 -- an actor without a call makes and answers none
-pub busy_here : (s : rust_state.State) (j : ℕ) (one : rust_actor.Actor) → j < length s.actors.items → one ≡ get_or s.actors.items j one → (actor_at (state_of s) j).walk.busy ≡ true → is_some one.call ≡ true
+busy_here : (s : rust_state.State) (j : ℕ) (one : rust_actor.Actor) → j < length s.actors.items → one ≡ get_or s.actors.items j one → (actor_at (state_of s) j).walk.busy ≡ true → is_some one.call ≡ true
 busy_here s j one less is busy = ap (λ (a : Actor). a.walk.busy) (this_one s.actors.items j one less is) ∙ busy
 
-pub commit_busy : (s : State) (j : ℕ) → Answers s (event_by j Commit) None → (actor_at s j).walk.busy ≡ true
-commit_busy s j t = held_so (actor_at s j).walk.busy (passed (passed (passed t).1).1).0
+pub commit_busy : (s : rust_state.State) (j : ℕ) (one : rust_actor.Actor) → Answers (state_of s) (event_by j Commit) None → one ≡ get_or s.actors.items j one → is_some one.call ≡ true
+commit_busy s j one may is = busy_here s j one (room s j Commit may) is (held_so (actor_at (state_of s) j).walk.busy (passed (passed (passed may).1).1).0)
 
-pub answer_busy : (s : State) (j : ℕ) → Answers s (event_by j (Give true)) None → (actor_at s j).walk.busy ≡ true
-answer_busy s j t = let a : Actor = actor_at s j in
-    let x = passed_row s.rows (IsOdd s) OddRow (Unless (a.walk.busy ≡ false) NoCall (Unless (alters s.limit s.tree a.walk.call ≡ true) Alters Passes)) (passed (passed t).1).1 in held_so a.walk.busy (passed x.1).0
+pub answer_busy : (s : rust_state.State) (j : ℕ) (one : rust_actor.Actor) → Answers (state_of s) (event_by j (Give true)) None → one ≡ get_or s.actors.items j one → is_some one.call ≡ true
+answer_busy s j one may is = let S : State = state_of s in let a : Actor = actor_at S j in
+    let x = passed_row S.rows (IsOdd S) OddRow (Unless (a.walk.busy ≡ false) NoCall (Unless (alters S.limit S.tree a.walk.call ≡ true) Alters Passes)) (passed (passed may).1).1 in
+    busy_here s j one (room s j (Give true) may) is (held_so a.walk.busy (passed x.1).0)
+
+-- what an actor that may give the lock back is answered, by the call that the program has of it
+module _ (s : rust_state.State) (j : ℕ) (one : rust_actor.Actor) (is : one ≡ get_or s.actors.items j one) (may : Answers (state_of s) (event_by j (Give false)) None) where
+  giver : actor_shown one ≡ actor_at (state_of s) j
+  giver = this_one s.actors.items j one (room s j (Give false) may) is
+
+  giver_busy : (call : Option OwnCall) → one.call ≡ call → (actor_at (state_of s) j).walk.busy ≡ is_some call
+  giver_busy call has = sym (ap (λ (a : Actor). a.walk.busy) giver) ∙ ap is_some has
+
+  -- without one it is refused for that
+  pub no_call_answered : one.call ≡ None → Answers (state_of s) (event_by j (Give true)) (Some NoCall)
+  no_call_answered has = answer_after (state_of s) j (Some NoCall) may (inl (giver_busy None has, refl))
+
+  -- want of memory comes before the last test
+  pub memory_lacked : {A : Type 0} (r : Result A rust_refused.Refused) (call : OwnCall) → r ≡ Err refusals.NoMemory → one.call ≡ Some call → AnsweredAs (state_of s) (event_by j (Give true)) r
+  memory_lacked r call wants has = answer_lacks (state_of s) j r wants may (giver_busy (Some call) has)
+
+  -- which is whether the call alters the tree
+  pub call_answered : {A : Type 0} (r : Result A rust_refused.Refused) (b : Bool) (call : OwnCall) (asked : Request) → one.call ≡ Some call → asked ≡ own_request call → b ≡ alters s.tree.limit s.tree.tree asked
+      → MatchResult r (λ _. b ≡ false) (λ x. (b ≡ true) × (x ≡ refusals.Alters)) → AnsweredAs (state_of s) (event_by j (Give true)) r
+  call_answered r b call asked has same test refuses = let mine = same ∙ sym (ap call_shown has) ∙ ap (λ (a : Actor). a.walk.call) giver in
+      answer_last (state_of s) j r b may (giver_busy (Some call) has) (test ∙ ap (alters s.tree.limit s.tree.tree) mine) refuses
 
 -- the last of the tests
 pub last_or : {A : Type 0} (M P : Type 0) (b : Bool) (because : rust_refused.Refused) (named : Refusal) (r : Result A rust_refused.Refused) → refusal_shown because ≡ Some named → (b ≡ true → P) → (b ≡ false → P → ⊥)
@@ -93,14 +119,6 @@ pub no_word : (word : ℕ) (b : Bool) → b ≡ false → (word ≡ 0 → ⊥) �
 no_word word b off some is (inl zero) = some zero
 no_word word b off some is (inr past) = let less = below_if ROW_WORDS word (sym is ∙ off) in omega arith
 
-abbrev changed : State → Noted → Option Refusal → Type 0
-changed s x = Unless (count s.words x.row ≢ x.count) (Changed x.row x.count (count s.words x.row)) Passes
-
-changed_or : {A : Type 0} (M : Type 0) (s : State) (x : Noted) (found noted told : ℕ) (r : Result A rust_refused.Refused) → found ≡ count s.words x.row → noted ≡ x.count → told ≡ x.count
-    → MatchResult r (λ _. not (eqb found noted) ≡ false) (λ y. (not (eqb found noted) ≡ true) × (y ≡ refusals.Changed x.row told found)) → TestedBy (changed s x) M r
-changed_or M s x found noted told (Ok value) f n t e = inr ((λ ne. ne (sym f ∙ same_if found noted e ∙ n)), refl)
-changed_or M s x found noted told (Err y) f n t e = subst (RefusedBy (changed s x) M) (sym (ap refusal_shown e.1)) (inl ((λ same. other_if found noted e.0 (f ∙ same ∙ sym n)), ap₂ (λ c k. Some (Changed x.row c k)) t f))
-
 module _ (s : State) (j : ℕ) (there : length s.actors ≤ j → ⊥) (busy : (actor_at s j).walk.busy ≡ false → ⊥) where
   pub note_lost : (row : ℕ) → ((actor_at s j).walk.pivoted ≡ true → ⊥) → s.rows ≤ row → Answers s (event_by j (Note row)) (Some NoRow)
   note_lost row early past = inr (there, inr (busy, inr (early, inl (past, refl))))
@@ -110,16 +128,6 @@ module _ (s : State) (j : ℕ) (there : length s.actors ≤ j → ⊥) (busy : (
   note_last row n r early room is e = let M : Type 0 = MayLackMemory s (event_by j (Note row)) in
       tested_map (Unless (count s.words row % 2 ≡ 1) Odd Passes) (Answers s (event_by j (Note row))) M M (λ o t. inr (there, inr (busy, inr (early, inr (room, t))))) (λ m. m) r
       (last_or M (count s.words row % 2 ≡ 1) (eqb (n % 2) 1) refusals.Odd Odd r refl (eq_true (n % 2) 1 (count s.words row % 2) (ap (λ k. k % 2) is)) (eq_false (n % 2) 1 (count s.words row % 2) (ap (λ k. k % 2) is)) e)
-
-  pub check_lost : (i : ℕ) → ((actor_at s j).walk.pivoted ≡ false → ⊥) → IsUncheckable (actor_at s j).walk i → Answers s (event_by j (Check i)) (Some NoNote)
-  check_lost i late lost = inr (there, inr (busy, inr (late, inl (lost, refl))))
-
-  pub check_last : {A : Type 0} (i : ℕ) (x : Noted) (found noted told : ℕ) (r : Result A rust_refused.Refused) → ((actor_at s j).walk.pivoted ≡ false → ⊥) → (IsUncheckable (actor_at s j).walk i → ⊥)
-      → x ≡ note_of (actor_at s j).walk i → found ≡ count s.words x.row → noted ≡ x.count → told ≡ x.count
-      → MatchResult r (λ _. not (eqb found noted) ≡ false) (λ y. (not (eqb found noted) ≡ true) × (y ≡ refusals.Changed x.row told found)) → AnsweredAs s (event_by j (Check i)) r
-  check_last i x found noted told r late ready here f n t e = let M : Type 0 = MayLackMemory s (event_by j (Check i)) in
-      tested_map (changed s (note_of (actor_at s j).walk i)) (Answers s (event_by j (Check i))) M M (λ o t. inr (there, inr (busy, inr (late, inr (ready, t))))) (λ m. m) r
-      (subst (λ x. TestedBy (changed s x) M r) here (changed_or M s x found noted told r f n t e))
 
 module _ (s : State) (j row : ℕ) (there : length s.actors ≤ j → ⊥) (holds : (actor_at s j).holds ≡ false → ⊥) (room : s.rows ≤ row → ⊥) where
   -- the tests of a holder at a row

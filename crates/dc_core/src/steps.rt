@@ -14,6 +14,7 @@ use std::alloc::Global;
 
 impl State {
     /// Does an event, or refuses it.
+    #[tactic(auto, using(crate::proofs::Tests::by_act))]
     pub fn step(&mut self, alloc: Global, event: Event) -> Result<(), Refused>
         requires { Lives (state_of self.old) }
         ensures { Steps (state_of self.old) (event_shown event.entry) result (state_of self.new) }

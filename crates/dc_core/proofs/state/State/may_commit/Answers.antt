@@ -1,17 +1,15 @@
-use Rattle.std.proofs.Common.{◌≡◌, Result, Err, sym, subst, ◌∙◌, rules}
+use Rattle.std.proofs.Common.{subst, ◌∙◌, rules}
 use Rattle.dc_core.specs.Machine.{event_by}
 use Rattle.dc_core.specs.Machine.Act.{Commit}
-use Rattle.dc_core.specs.Memory.{AnsweredAs, TestedBy}
+use Rattle.dc_core.specs.Memory.{TestedBy}
 use Rattle.dc_core.specs.Refusals.{MayBeMade}
 use Rattle.dc_core.specs.Shown.{state_of, refusal_shown}
-use Rattle.dc_core.specs.declared.refused.Refused as rust_refused
-use Rattle.dc_core.proofs.Lacking.{commit_first, commit_tested}
+use Rattle.dc_core.proofs.Lacking.{refused_as, commit_first, commit_tested}
 use Rattle.dc_core.proofs.state.State.may_commit.Goals as goal
 
 pub returns-in_err-call : goal.returns-in_err-call
 returns-in_err-call c = let s = state_of c.args.self.now in let why = c.in_err-call.field-0.0 in
-    let is : c.from_residual.result ≡ Err why = search rules in
-    subst (λ (r : Result (Unit {0}) rust_refused.Refused). AnsweredAs s (event_by c.args.actor Commit) r) (sym is) (commit_first s c.args.actor (refusal_shown why) c.in_err-call.ensures.tests)
+    refused_as s (event_by c.args.actor Commit) c.from_residual.result why (search rules) (commit_first s c.args.actor (refusal_shown why) c.in_err-call.ensures.tests)
 
 pub returns : goal.returns
 returns c = let s = state_of c.args.self.now in let call = c.as_call.ensures ∙ c.in_ok-call.ensures.call in
