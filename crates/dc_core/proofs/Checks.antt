@@ -38,17 +38,17 @@ changed_or : {A : Type 0} (M : Type 0) (s : State) (x : Noted) (found noted told
 changed_or M s x found noted told (Ok value) f n t e = inr ((λ ne. ne (sym f ∙ same_if found noted e ∙ n)), refl)
 changed_or M s x found noted told (Err y) f n t e = subst (RefusedBy (changed s x) M) (sym (ap refusal_shown e.1)) (inl ((λ same. other_if found noted e.0 (f ∙ same ∙ sym n)), ap₂ (λ c k. Some (Changed x.row c k)) t f))
 
--- an actor whose walk has a pivot
+-- what an actor with a call and a pivot is answered
 module _ (s : rust_state.State) (j i : ℕ) (one : rust_actor.Actor) (w : Walks s j one) (early lost : Bool) (pivot : is_some one.pivot ≡ not early) (after : early ≡ false) (so : IsTrue lost ↔ IsUncheckable (actor_shown one).walk i) where
   late : (actor_at (state_of s) j).walk.pivoted ≡ false → ⊥
   late = has _ _ early (ap (λ (a : Actor). a.walk.pivoted) w.is) pivot after
 
-  -- a note that it can't check
+  -- of a note that it can't check
   pub check_lost : {A : Type 0} (r : Result A rust_refused.Refused) → r ≡ Err refusals.NoNote → IsTrue lost → AnsweredAs (state_of s) (event_by j (Check i)) r
   check_lost r refused lacks = refused_for (state_of s) (event_by j (Check i)) r refusals.NoNote NoNote refused refl
       (inr (w.there, inr (w.busy, inr (late, inl (subst (λ (a : Actor). IsUncheckable a.walk i) w.is (so.0 lacks), refl)))))
 
-  -- and one that it can
+  -- and of one that it can
   pub check_last : {A : Type 0} (x : rust_note.Note) (found noted told : ℕ) (r : Result A rust_refused.Refused) → lost ≡ false → x ≡ get_or one.notes.items i x
       → found ≡ count s.words.items x.row → noted ≡ (note_shown x).count → told ≡ (note_shown x).count
       → MatchResult r (λ _. not (eqb found noted) ≡ false) (λ y. (not (eqb found noted) ≡ true) × (y ≡ refusals.Changed x.row told found)) → AnsweredAs (state_of s) (event_by j (Check i)) r

@@ -41,7 +41,7 @@ module _ (S : State) (us : List rust_actor.Actor) (j : ℕ) (one : rust_actor.Ac
       let all = finished_more old ready new f record { actor = j; call = a.walk.call; reply = reply; at = at } more same g in
       λ i. record S { actors = acted us j one one' G less is shown i; finished = all i }
 
--- so is one that is made on the tree, by the actor as it was and at the clock that was loaded
+-- an act that makes an actor's call on the tree and records it, at the clock that was loaded, leaves the state that the core has then
 pub made_on_tree : (s : rust_state.State) (j : ℕ) (one' : rust_actor.Actor) (call : OwnCall) (reply : Reply) (words : ℕ → List ℕ) (G : ℕ → Actor → Actor)
     {first one : rust_actor.Actor} {clock limit : ℕ} {tree after : Tree} {ready new : List rust_finished.Finished}
     → j < length s.actors.items → first ≡ get_or s.actors.items j first → one ≡ get_or s.actors.items j one → clock ≡ clock_of (state_of s) → actor_shown one' ≡ G clock (actor_shown one) → own_request call ≡ call_of one

@@ -2,6 +2,8 @@ use Rattle.dc_core.specs.Shown.{state_of}
 use Rattle.dc_core.proofs.Tests.{by_act}
 use Rattle.dc_core.proofs.state.State.step.Goals as goal
 
+-- the other eight are found by the search, which is given `by_act` too
+
 pub returns-in-Shut : goal.returns-in-Shut
 returns-in-Shut c = by_act (state_of c.args.self.now) (state_of c.shut.new.self) c.args.event.actor _ _ c.shut.result c.in-Shut.is c.shut.ensures
 
