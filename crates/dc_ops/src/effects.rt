@@ -25,17 +25,20 @@ pub fn carry<S: Store>(alloc: Global, store: &mut S, plan: Plan<'_>) -> Result<R
             let number = store.add(alloc, dir, name, new)?;
             Ok(Reply::Done(number))
         }
-        Plan::Drop { dir, name, .. } => {
-            store.drop_entry(dir, name);
+        Plan::Drop {
+            dir, name, place, ..
+        } => {
+            store.drop_entry(dir, name, place);
             Ok(Reply::Unit)
         }
         Plan::Move {
             from,
             to,
             number,
+            place,
             ..
         } => {
-            store.move_entry(alloc, from, to, number)?;
+            store.move_entry(alloc, from, place, to, number)?;
             Ok(Reply::Unit)
         }
         Plan::Swap {
@@ -44,7 +47,8 @@ pub fn carry<S: Store>(alloc: Global, store: &mut S, plan: Plan<'_>) -> Result<R
             first,
             second,
         } => {
-            store.swap_entries(from, first.number, to, second.number);
+            let places = (first.place, second.place);
+            store.swap_entries(from, first.number, to, second.number, places);
             Ok(Reply::Unit)
         }
     }

@@ -40,6 +40,7 @@ impl<'a> Plan<'a> {
                 number,
                 reparents,
                 lost,
+                ..
             } => two_names(from, to, parent_key(number, reparents), lost),
             Plan::Swap {
                 from,

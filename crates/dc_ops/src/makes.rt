@@ -85,7 +85,7 @@ pub(crate) fn plan_link<'a, S: Store>(
     let to = place_path(store, known, base, new_path)?;
     let old_name = name_or(Refusal::NotPermitted, from.last)?;
     let new_name = name_or(Refusal::Exists, to.last)?;
-    let inode = present(store, from.dir, old_name)?;
+    let (inode, _) = present(store, from.dir, old_name)?;
     refuse(is_directory(inode), Refusal::NotPermitted)?;
     refuse(from.slash, Refusal::NotDirectory)?;
     refuse(is_there(store, to.dir, new_name), Refusal::Exists)?;

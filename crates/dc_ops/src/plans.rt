@@ -2,13 +2,15 @@
 
 use dc_names::Name;
 use dc_plain::{Key, Spot};
-use dc_store::New;
+use dc_store::{New, Place};
 
 /// An inode that gets another name.
 #[derive(Clone, Copy, Debug, PartialEq, Eq)]
 pub struct Moved {
     /// Its number.
     pub number: u64,
+    /// Where its entry was found.
+    pub place: Place,
     /// Whether it is a directory whose parent becomes another.
     pub reparents: bool,
 }
@@ -37,6 +39,8 @@ pub enum Plan<'a> {
         number: u64,
         /// The key of that inode's own which goes with its last name.
         lost: Option<Key<'a>>,
+        /// Where the entry was found.
+        place: Place,
     },
     /// An entry moves to another name, in the place of what stands there.
     Move {
@@ -50,6 +54,8 @@ pub enum Plan<'a> {
         reparents: bool,
         /// The key of its own that what stood at the new name has, where that was its last name.
         lost: Option<Key<'a>>,
+        /// Where the entry was found.
+        place: Place,
     },
     /// Two entries swap what they lead to.
     Swap {

@@ -23,7 +23,7 @@ use dc_plain::{
     Flags, Key, Spot, Target, Where, directories_have_one_holder, is_directory,
     names_lead_to_the_living, paths_lead_to_the_living,
 };
-use dc_store::Store;
+use dc_store::{Place, Store};
 
 /// The plan of a rename, or none where both names lead to one inode.
 pub(crate) fn plan_rename<'a, S: Store>(
@@ -47,9 +47,9 @@ pub(crate) fn plan_rename<'a, S: Store>(
     let to = place_path(store, known, base, new_path)?;
     let old_name = name_or_each(Refusal::Busy, Refusal::Invalid, Refusal::Invalid, from.last)?;
     let new_name = name_or_each(Refusal::Busy, Refusal::Invalid, Refusal::Invalid, to.last)?;
-    let moved = present(store, from.dir, old_name)?;
+    let (moved, place) = present(store, from.dir, old_name)?;
     if flags.exchange {
-        return plan_swap(store, from, old_name, to, new_name, moved);
+        return plan_swap(store, from, old_name, to, new_name, (moved, place));
     }
     let ends = from.slash || to.slash;
     refuse(!is_directory(moved) && ends, Refusal::NotDirectory)?;
@@ -61,7 +61,7 @@ pub(crate) fn plan_rename<'a, S: Store>(
         dir: to.dir,
         name: new_name,
     };
-    plan_move(store, from, to, moved, flags.no_replace)
+    plan_move(store, from, to, (moved, place), flags.no_replace)
 }
 
 /// The plan of a move of what stands at the old name.
@@ -69,14 +69,15 @@ fn plan_move<'a, S: Store>(
     store: &S,
     from: Spot<'a>,
     to: Spot<'a>,
-    moved: Target,
+    found: (Target, Place),
     no_replace: bool,
 ) -> Result<Option<Plan<'a>>, Refusal>
-    requires source { entry_number (S.tree store.now) (spot_shown from) ≡ Some moved.0 }
-    requires lives { target_at (S.tree store.now) moved.0 ≡ Some moved }
+    requires source { entry_number (S.tree store.now) (spot_shown from) ≡ Some found.0.0 }
+    requires lives { target_at (S.tree store.now) found.0.0 ≡ Some found.0 }
     requires held { IsTrue (is_live_directory (S.tree store.now) to.dir) }
-    ensures { SettlesMove (S.tree store.now) from.entry to.entry moved no_replace result }
+    ensures { SettlesMove (S.tree store.now) from.entry to.entry found.0 no_replace result }
 {
+    let (moved, place) = found;
     let there = entry(store, to.dir, to.name);
     refuse(no_replace && there.is_some(), Refusal::Exists)?;
     if is_one(moved, there) {
@@ -90,6 +91,7 @@ fn plan_move<'a, S: Store>(
         number: moved.0,
         reparents: reparents(moved, from.dir, to.dir),
         lost: lost_there(store, there),
+        place,
     }))
 }
 
@@ -100,18 +102,19 @@ fn plan_swap<'a, S: Store>(
     old: Name<'a>,
     to: Where<'a>,
     new: Name<'a>,
-    moved: Target,
+    found: (Target, Place),
 ) -> Result<Option<Plan<'a>>, Refusal>
     requires source { entry_number (S.tree store.now) (spot_at from.dir old.bytes.now)
-        ≡ Some moved.0 }
-    requires lives { target_at (S.tree store.now) moved.0 ≡ Some moved }
+        ≡ Some found.0.0 }
+    requires lives { target_at (S.tree store.now) found.0.0 ≡ Some found.0 }
     requires old_held { IsTrue (is_live_directory (S.tree store.now) from.dir) }
     requires new_held { IsTrue (is_live_directory (S.tree store.now) to.dir) }
     ensures settled { SettlesSwap (S.tree store.now)
-        from.entry old.entry to.entry new.entry moved result }
+        from.entry old.entry to.entry new.entry found.0 result }
     ensures without_memory { FoundTakesNoMemory result }
 {
-    let there = present(store, to.dir, new)?;
+    let (moved, place) = found;
+    let (there, there_place) = present(store, to.dir, new)?;
     refuse(!is_directory(moved) && from.slash, Refusal::NotDirectory)?;
     refuse(!is_directory(there) && to.slash, Refusal::NotDirectory)?;
     if moved.0 == there.0 {
@@ -130,10 +133,12 @@ fn plan_swap<'a, S: Store>(
         },
         first: Moved {
             number: moved.0,
+            place,
             reparents: reparents(moved, from.dir, to.dir),
         },
         second: Moved {
             number: there.0,
+            place: there_place,
             reparents: reparents(there, to.dir, from.dir),
         },
     }))

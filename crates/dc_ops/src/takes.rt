@@ -31,7 +31,7 @@ pub(crate) fn plan_unlink<'a, S: Store>(
 {
     let at = place_text(store, known, base, path)?;
     let name = name_or(Refusal::NotPermitted, at.last)?;
-    let inode = present(store, at.dir, name)?;
+    let (inode, place) = present(store, at.dir, name)?;
     refuse(is_directory(inode), Refusal::NotPermitted)?;
     refuse(at.slash, Refusal::NotDirectory)?;
     Ok(Plan::Drop {
@@ -39,6 +39,7 @@ pub(crate) fn plan_unlink<'a, S: Store>(
         name,
         number: inode.0,
         lost: lost_key(store, inode),
+        place,
     })
 }
 
@@ -55,7 +56,7 @@ pub(crate) fn plan_rmdir<'a, S: Store>(
 {
     let at = place_text(store, known, base, path)?;
     let name = name_or_each(Refusal::Busy, Refusal::Invalid, Refusal::NotEmpty, at.last)?;
-    let inode = present(store, at.dir, name)?;
+    let (inode, place) = present(store, at.dir, name)?;
     refuse(!is_directory(inode), Refusal::NotDirectory)?;
     refuse(!is_empty(store, inode), Refusal::NotEmpty)?;
     Ok(Plan::Drop {
@@ -63,6 +64,7 @@ pub(crate) fn plan_rmdir<'a, S: Store>(
         name,
         number: inode.0,
         lost: lost_key(store, inode),
+        place,
     })
 }
 

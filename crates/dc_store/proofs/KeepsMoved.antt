@@ -1,5 +1,5 @@
 -- A store of inodes that stands for a tree, without an entry, or with it at another place.
-use Rattle.std.proofs.Common.{◌≡◌, ℕ, ◌+◌, ◌<◌, ◌==◌, List, Bool, true, false, cond, map, Option, Some, None, is_some, option_map, IsTrue, IsSomeAnd, IfSome, T, refl, ap, sym, ◌∙◌, subst, arith}
+use Rattle.std.proofs.Common.{◌≡◌, ℕ, ◌+◌, ◌<◌, ◌==◌, List, Bool, true, false, cond, map, Option, Some, None, is_some, option_map, IsTrue, IfSome, T, refl, ap, sym, ◌∙◌, subst, arith}
 use Rattle.std.specs.FinMap.Entries.{put, is_sorted}
 use Rattle.std.specs.FinMap.Entries.{find as lookup}
 use Rattle.std.specs.Ordering.{nat_cmp, eq_by_cmp}

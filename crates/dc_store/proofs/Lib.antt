@@ -15,6 +15,7 @@ pub mod Moves
 pub mod Slots
 pub mod SlotSteps
 pub mod Named
+pub mod Indexed
 pub mod Ordered
 pub mod Changes
 pub mod Entered

@@ -1,5 +1,5 @@
 -- A store with an entry at another place.
-use Rattle.std.proofs.Common.{◌≡◌, ℕ, ◌==◌, not, List, Bool, true, false, cond, map, Option, Some, None, IfSome, IsSomeAnd, IsTrue, option_map, option_and_then, refl, ap, sym, ◌∙◌, subst, if◌then◌else◌}
+use Rattle.std.proofs.Common.{◌≡◌, ℕ, ◌==◌, not, List, Bool, true, false, cond, map, Option, Some, None, IfSome, IsTrue, option_map, option_and_then, refl, ap, sym, ◌∙◌, subst, if◌then◌else◌}
 use Rattle.std.specs.FinMap.Entries.{find, put, is_sorted, is_sorted-where_key}
 use Rattle.std.specs.BTreeMap.{is_at}
 use Rattle.std.specs.Map.{remove_entry}

@@ -8,15 +8,11 @@ use Rattle.std.specs.Cmp.Lexicographic.{pointwise, bytes_decides, nat_list_cmp_t
 use Rattle.std.specs.FinMap.Entries.{put, is_sorted, is_sorted-put, is_sorted-where_key, find-put, length-put, same_entries}
 use Rattle.std.specs.FinMap.Entries.{find as lookup_entry}
 use Rattle.std.specs.List.{IsDistinct}
-use Rattle.std.specs.Map.{lookup, keys_of, KeepsOthers}
+use Rattle.std.specs.Map.{keys_of}
 use Rattle.std.specs.Ordering.{eq_by_cmp}
-use Rattle.dc_store.specs.Names.{in_order, name_cmp, without_name}
+use Rattle.dc_store.specs.Names.{found_by, in_order, name_cmp, without_name}
 use Rattle.dc_store.proofs.Spots.{lookup-take}
 use Rattle.dc_store.proofs.Decides.{from_test}
-
--- what the map finds under some bytes
-abbrev pub found_by : List ℕ → List (List ℕ × ℕ) → Option ℕ
-found_by name es = lookup (λ (k : List ℕ). pointwise nat_eq name k) es
 
 pub same_bytes : (a b : List ℕ) → pointwise nat_eq a b ≡ true → a ≡ b
 same_bytes a b e = (bytes_decides a b).0 e
@@ -42,7 +38,7 @@ pub same_names : (es fs : List (List ℕ × ℕ)) → T (is_sorted name_cmp es) 
 same_names = same_entries name_cmp nat_list_cmp_total exact_bytes
 
 -- with this at a name, and no other
-abbrev with_name : List ℕ → Option ℕ → List (List ℕ × ℕ) → List (List ℕ × ℕ)
+abbrev pub with_name : List ℕ → Option ℕ → List (List ℕ × ℕ) → List (List ℕ × ℕ)
 with_name name None names = without_name name names
 with_name name (Some n) names = put name_cmp name n names
 
@@ -64,33 +60,11 @@ sorted_with : (name : List ℕ) (w : Option ℕ) (names : List (List ℕ × ℕ)
 sorted_with name None names s = is_sorted-where_key name_cmp _ names s
 sorted_with name (Some n) names s = is_sorted-put name_cmp nat_list_cmp_total name n names s
 
-module _ (es fs : List (List ℕ × ℕ)) (name : List ℕ) where
-  -- other names find what they found
-  elsewhere : KeepsOthers (λ (x y : List ℕ). pointwise nat_eq x y) (λ (k : List ℕ). pointwise nat_eq name k) es fs → (q : List ℕ) → pointwise nat_eq name q ≡ false → found_by q fs ≡ found_by q es
-  unfolding KeepsOthers
-  elsewhere keeps q apart =
-      keeps (λ (k : List ℕ). pointwise nat_eq q k) (λ x y e. nat_list_eq_equiv.congr q x y e)
-      (λ k e. ap (pointwise nat_eq q) (sym (same_bytes name k e)) ∙ nat_list_eq_equiv.symm q name ∙ apart)
-
-  -- one name leads elsewhere, or nowhere
-  module _ (w : Option ℕ) (here : found_by name fs ≡ w) (keeps : KeepsOthers (λ (x y : List ℕ). pointwise nat_eq x y) (λ (k : List ℕ). pointwise nat_eq name k) es fs) where
-    by_name : (q : List ℕ) → found_by q fs ≡ cond (pointwise nat_eq name q) w (found_by q es)
-    by_name q =
-        elim (pointwise nat_eq name q) as (λ b. pointwise nat_eq name q ≡ b → found_by q fs ≡ cond b w (found_by q es)) [
-          | true ↦ λ same. ap (λ k. found_by k fs) (sym (same_bytes name q same)) ∙ here
-          | false ↦ λ other. elsewhere keeps q other
-        ] refl
-
-    changed : in_order fs ≡ with_name name w (in_order es)
-    changed =
-        same_names (in_order fs) (with_name name w (in_order es)) (sorted_in fs) (sorted_with name w (in_order es) (sorted_in es))
-        (λ q. found_in fs q ∙ by_name q ∙ ap (cond (pointwise nat_eq name q) w) (sym (found_in es q)) ∙ sym (found_with name w (in_order es) q))
-
-  pub name_put : (n : ℕ) → found_by name fs ≡ Some n → KeepsOthers (λ (x y : List ℕ). pointwise nat_eq x y) (λ (k : List ℕ). pointwise nat_eq name k) es fs → in_order fs ≡ put name_cmp name n (in_order es)
-  name_put n here keeps = changed (Some n) here keeps
-
-  pub name_taken : found_by name fs ≡ None → KeepsOthers (λ (x y : List ℕ). pointwise nat_eq x y) (λ (k : List ℕ). pointwise nat_eq name k) es fs → in_order fs ≡ without_name name (in_order es)
-  name_taken here keeps = changed None here keeps
+-- one name leads elsewhere, or nowhere, and others find what they found
+pub changed : (es fs : List (List ℕ × ℕ)) (name : List ℕ) (w : Option ℕ) → ((q : List ℕ) → found_by q fs ≡ cond (pointwise nat_eq name q) w (found_by q es)) → in_order fs ≡ with_name name w (in_order es)
+changed es fs name w by_name =
+    same_names (in_order fs) (with_name name w (in_order es)) (sorted_in fs) (sorted_with name w (in_order es) (sorted_in es))
+    (λ q. found_in fs q ∙ by_name q ∙ ap (cond (pointwise nat_eq name q) w) (sym (found_in es q)) ∙ sym (found_with name w (in_order es) q))
 
 pub length_in : (es : List (List ℕ × ℕ)) → IsDistinct (λ (x y : List ℕ). pointwise nat_eq x y) (keys_of es) → length (in_order es) ≡ length es
 length_in [] distinct = refl

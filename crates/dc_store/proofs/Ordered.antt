@@ -13,8 +13,8 @@ use Rattle.std.specs.Map.{keys_of}
 use Rattle.std.specs.Ordering.{eq_by_cmp, is_eq, is_lt, ordering_reverse}
 use Rattle.std.specs.declared.cmp.Ordering.{Ordering}
 use Rattle.std.specs.declared.cmp.Ordering.TheVariants.{Less, Equal, Greater}
-use Rattle.dc_store.specs.Names.{in_order, name_cmp}
-use Rattle.dc_store.proofs.Named.{found_by, found_in, same_names, sorted_in}
+use Rattle.dc_store.specs.Names.{found_by, in_order, name_cmp}
+use Rattle.dc_store.proofs.Named.{found_in, same_names, sorted_in}
 
 -- a name, or the name of an entry, that leads nowhere
 abbrev alone : List ℕ → List ℕ × ℕ

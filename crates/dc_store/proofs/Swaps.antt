@@ -1,5 +1,5 @@
 -- A store in which two names have swapped what they lead to.
-use Rattle.std.proofs.Common.{◌≡◌, ℕ, ◌==◌, List, Bool, true, false, cond, map, Some, IsTrue, option_map, refl, ap, sym, ◌∙◌, subst, if◌then◌else◌}
+use Rattle.std.proofs.Common.{◌≡◌, ℕ, ◌==◌, List, Bool, true, false, cond, map, Some, IsTrue, option_map, refl, ap, sym, ◌∙◌, if◌then◌else◌}
 use Rattle.std.specs.FinMap.Entries.{put}
 use Rattle.dc_plain.specs.Conditions as plain
 use Rattle.dc_plain.specs.EffectFacts.{SwapsNames}

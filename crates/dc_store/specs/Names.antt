@@ -1,7 +1,8 @@
 -- The names in a directory, in the order of their bytes.
-use Rattle.std.specs.Prelude.{ℕ, List, [], ◌∷◌, not}
-use Rattle.std.specs.Cmp.Lexicographic.{slice_cmp}
+use Rattle.std.specs.Prelude.{◌≡◌, ℕ, List, [], ◌∷◌, Option, Some, not, nat_eq, slice_get, IsSomeAnd}
+use Rattle.std.specs.Cmp.Lexicographic.{pointwise, slice_cmp}
 use Rattle.std.specs.FinMap.Entries.{put, where_key}
+use Rattle.std.specs.Map.{lookup}
 use Rattle.std.specs.Ordering.{nat_cmp, eq_by_cmp}
 use Rattle.std.specs.declared.cmp.Ordering.{Ordering}
 
@@ -16,3 +17,11 @@ in_order (e ∷ es) = put name_cmp e.0 e.1 (in_order es)
 
 abbrev pub without_name : List ℕ → List (List ℕ × ℕ) → List (List ℕ × ℕ)
 without_name name = where_key name_cmp (λ other. not (eq_by_cmp name_cmp name other))
+
+-- what the map finds under some bytes
+abbrev pub found_by : List ℕ → List (List ℕ × ℕ) → Option ℕ
+found_by name es = lookup (λ (k : List ℕ). pointwise nat_eq name k) es
+
+-- a name stands at an index of a map, which finds it there
+abbrev pub StandsAt : List ℕ → ℕ → List (List ℕ × ℕ) → Type 0
+StandsAt name i es = IsSomeAnd (slice_get es i) (λ e. (e.0 ≡ name) × (found_by name es ≡ Some e.1))

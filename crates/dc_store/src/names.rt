@@ -1,14 +1,14 @@
 //! The names in one directory.
 
-ghost use Rattle.std.specs.Prelude.{◌≡◌, ℕ, List, [], length, map, IsSome, IsTrue, IfOk, OnOk, OnErr};
+ghost use Rattle.std.specs.Prelude.{◌≡◌, ℕ, List, [], length, map, option_map, None, IsSome, IsTrue, IfNone, IfOk, IfSome, OnOk, OnErr};
 ghost use Rattle.std.specs.FinMap.Entries.{put, is_sorted};
 ghost use Rattle.std.specs.FinMap.Entries.{find as lookup};
 ghost use Rattle.dc_plain.specs.BytesShown.{names_shown};
-ghost use Rattle.dc_store.specs.Names.{in_order, name_cmp, without_name};
+ghost use Rattle.dc_store.specs.Names.{found_by, in_order, name_cmp, without_name, StandsAt};
 
 use crate::name_bytes::{NameBytes, SoughtBytes};
 use dc_names::{Name, NoMemory};
-use indexmap::IndexMap;
+use indexmap::{Equivalent, IndexMap};
 use std::alloc::Global;
 use std::marker::Model;
 
@@ -41,6 +41,14 @@ impl Names {
         self.by_name.get(SoughtBytes::new(name)).copied()
     }
 
+    /// Where a name leads, and its index.
+    pub fn seek(&self, name: Name<'_>) -> Option<(u64, usize)>
+        ensures { option_map (λ found. found.0) result ≡ lookup name_cmp name.entry.bytes.now self.now }
+    {
+        let (index, _, number) = self.by_name.get_full(SoughtBytes::new(name))?;
+        Some((*number, index))
+    }
+
     /// Puts a name in, and answers where it led before.
     pub fn insert(
         &mut self,
@@ -56,24 +64,31 @@ impl Names {
         Ok(self.by_name.insert(key, number)?)
     }
 
-    /// Lets a name that is there lead elsewhere. It takes no memory.
-    pub fn redirect(&mut self, name: Name<'_>, number: u64)
+    /// Lets a name that is there lead elsewhere. It takes no memory. Where it stands at the index, it isn't
+    /// sought.
+    pub fn redirect(&mut self, name: Name<'_>, index: usize, number: u64)
         requires { IsSome (lookup name_cmp name.bytes.now self.old) }
         ensures { self.new ≡ put name_cmp name.entry.bytes.now number self.old }
     {
         // The caller knows that the name is there.
-        let Some(target) = self.by_name.get_mut(SoughtBytes::new(name)) else {
+        let Some(index) = index_of(&self.by_name, name, index) else {
+            unreachable!();
+        };
+        // And it stands at the index that was found just now.
+        let Some(target) = self.by_name.get_index_mut(index) else {
             unreachable!();
         };
         *target = number;
     }
 
-    /// Takes a name out, and answers where it led.
-    pub fn remove(&mut self, name: Name<'_>) -> Option<u64>
+    /// Takes a name out, and answers where it led. Where it stands at the index, it isn't sought.
+    pub fn remove(&mut self, name: Name<'_>, index: usize) -> Option<u64>
         ensures rest { self.new ≡ without_name name.entry.bytes.now self.old }
         ensures before { result ≡ lookup name_cmp name.entry.bytes.now self.old }
     {
-        self.by_name.swap_remove(SoughtBytes::new(name))
+        let index = index_of(&self.by_name, name, index)?;
+        let (_, number) = self.by_name.swap_remove_index(index)?;
+        Some(number)
     }
 
     /// How many names there are.
@@ -97,4 +112,23 @@ impl Names {
         names.sort_unstable();
         Ok(names)
     }
+}
+
+/// The index of a name in a map: this one, where the name stands there, or else as it is found by its hash.
+fn index_of(
+    by_name: &IndexMap<NameBytes, u64>,
+    name: Name<'_>,
+    index: usize,
+) -> Option<usize>
+    ensures some { IfSome result (λ i. StandsAt name.entry.bytes.now i by_name.now.entries) }
+    ensures none { IfNone result (found_by name.entry.bytes.now by_name.now.entries ≡ None) }
+{
+    let sought = SoughtBytes::new(name);
+    if let Some((key, _)) = by_name.get_index(index)
+        && sought.equivalent(key)
+    {
+        return Some(index);
+    }
+    let (index, _, _) = by_name.get_full(sought)?;
+    Some(index)
 }

@@ -17,6 +17,7 @@ use crate::inodes::Inodes;
 use crate::laws::trees_keep_their_laws;
 use crate::names::Names;
 use crate::node::Node;
+use crate::place::Place;
 use crate::store::{New, Store};
 use dc_names::{Kind, Name, NoMemory};
 use dc_plain::Spot;
@@ -113,6 +114,7 @@ impl SlabStore {
         &mut self,
         alloc: Global,
         old: Spot<'_>,
+        place: Place,
         new: Spot<'_>,
         number: u64,
     ) -> Result<(), NoMemory>
@@ -125,7 +127,7 @@ impl SlabStore {
         trees_keep_their_laws();
         let replaced = self.inodes.enter(alloc, new.dir, new.name, number)?;
         // A file under both names for a moment is never seen: nothing can fail from here on.
-        self.inodes.leave(old.dir, old.name);
+        self.inodes.leave(old.dir, old.name, place);
         self.inodes.lose(replaced);
         self.inodes.set_parent(number, new.dir);
         Ok(())
@@ -137,6 +139,11 @@ impl Store for SlabStore {
 
     fn find(&self, dir: u64, name: Name<'_>) -> Option<u64> {
         self.inodes.get(dir)?.names.get(name)
+    }
+
+    fn seek(&self, dir: u64, name: Name<'_>) -> Option<(u64, Place)> {
+        let (number, index) = self.inodes.get(dir)?.names.seek(name)?;
+        Some((number, Place { index }))
     }
 
     fn kind(&self, number: u64) -> Option<Kind> {
@@ -198,9 +205,9 @@ impl Store for SlabStore {
         }
     }
 
-    fn drop_entry(&mut self, dir: u64, name: Name<'_>) {
+    fn drop_entry(&mut self, dir: u64, name: Name<'_>, place: Place) {
         trees_keep_their_laws();
-        let lost = self.inodes.leave(dir, name);
+        let lost = self.inodes.leave(dir, name, place);
         self.inodes.lose(lost);
     }
 
@@ -208,16 +215,24 @@ impl Store for SlabStore {
         &mut self,
         alloc: Global,
         old: Spot<'_>,
+        place: Place,
         new: Spot<'_>,
         number: u64,
     ) -> Result<(), NoMemory> {
-        self.relocate(alloc, old, new, number)
+        self.relocate(alloc, old, place, new, number)
     }
 
-    fn swap_entries(&mut self, a: Spot<'_>, first: u64, b: Spot<'_>, second: u64) {
+    fn swap_entries(
+        &mut self,
+        a: Spot<'_>,
+        first: u64,
+        b: Spot<'_>,
+        second: u64,
+        places: (Place, Place),
+    ) {
         trees_keep_their_laws();
-        self.inodes.redirect(a.dir, a.name, second);
-        self.inodes.redirect(b.dir, b.name, first);
+        self.inodes.redirect(a.dir, a.name, places.0, second);
+        self.inodes.redirect(b.dir, b.name, places.1, first);
         // A directory whose dot-dot still led to its old parent would not be found from there.
         self.inodes.set_parent(first, b.dir);
         self.inodes.set_parent(second, a.dir);

@@ -84,9 +84,9 @@ fn add_to<S: Store>(
 
 /// Drops an entry. It answers whether that may be.
 fn drop_from<S: Store>(store: &mut S, dir: u64, name: Name<'_>) -> bool {
-    match store.find(dir, name) {
-        Some(number) if !is_full(store, number) => {
-            store.drop_entry(dir, name);
+    match store.seek(dir, name) {
+        Some((number, place)) if !is_full(store, number) => {
+            store.drop_entry(dir, name, place);
             true
         }
         _ => false,
@@ -100,7 +100,7 @@ fn move_to<S: Store>(
     old: Spot<'_>,
     new: Spot<'_>,
 ) -> Result<bool, NoMemory> {
-    let Some(number) = store.find(old.dir, old.name) else {
+    let Some((number, place)) = store.seek(old.dir, old.name) else {
         return Ok(false);
     };
     let stands = matches!(store.kind(new.dir), Some(Kind::Dir));
@@ -110,7 +110,7 @@ fn move_to<S: Store>(
     {
         return Ok(false);
     }
-    store.move_entry(alloc, old, new, number)?;
+    store.move_entry(alloc, old, place, new, number)?;
     Ok(true)
 }
 

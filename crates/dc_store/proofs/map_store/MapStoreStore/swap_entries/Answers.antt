@@ -1,4 +1,4 @@
-use Rattle.std.proofs.Common.{ap, is_some, sym, ◌∙◌}
+use Rattle.std.proofs.Common.{ap, is_some, ◌∙◌}
 use Rattle.dc_plain.specs.Spots.{spot_shown}
 use Rattle.dc_plain.specs.Trees.{Tree, entry_number}
 use Rattle.dc_store.proofs.KeepsSwapped.{there_after}
