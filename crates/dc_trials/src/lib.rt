@@ -26,3 +26,5 @@ mod steps;
 mod storms;
 #[cfg(test)]
 mod trying;
+#[cfg(test)]
+mod uses;

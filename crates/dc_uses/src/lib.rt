@@ -12,8 +12,6 @@ mod fast;
 mod learn;
 mod look_and_change;
 mod retry;
-#[cfg(test)]
-mod tests;
 mod threads;
 
 pub use fast::look_twice;

@@ -1,9 +1,9 @@
-//! Each use called once.
+//! Each use of `dc_uses` called once.
 
 ghost use Rattle.dc_cache.specs.Passes.{Fits, IsChange};
 
-use crate::{change_in_tries, look_after, look_twice, make_and_look, make_in_two_threads};
 use dc_cache::{Call, Dcache, Follow, Kind, NotYet, ROOT, Reply, Stamped, Store, parse};
+use dc_uses::{change_in_tries, look_after, look_twice, make_and_look, make_in_two_threads};
 use std::test::Fail;
 
 fn mkdir(path: &[u8]) -> Call<'_>
