@@ -26,7 +26,10 @@ pub fn carry<S: Store>(alloc: Global, store: &mut S, plan: Plan<'_>) -> Result<R
             Ok(Reply::Done(number))
         }
         Plan::Drop {
-            dir, name, place, ..
+            dir,
+            name,
+            place,
+            ..
         } => {
             store.drop_entry(dir, name, place);
             Ok(Reply::Unit)

@@ -115,11 +115,7 @@ impl Names {
 }
 
 /// The index of a name in a map: this one, where the name stands there, or else as it is found by its hash.
-fn index_of(
-    by_name: &IndexMap<NameBytes, u64>,
-    name: Name<'_>,
-    index: usize,
-) -> Option<usize>
+fn index_of(by_name: &IndexMap<NameBytes, u64>, name: Name<'_>, index: usize) -> Option<usize>
     ensures some { IfSome result (λ i. StandsAt name.entry.bytes.now i by_name.now.entries) }
     ensures none { IfNone result (found_by name.entry.bytes.now by_name.now.entries ≡ None) }
 {
