@@ -25,23 +25,18 @@ pub fn carry<S: Store>(alloc: Global, store: &mut S, plan: Plan<'_>) -> Result<R
             let number = store.add(alloc, dir, name, new)?;
             Ok(Reply::Done(number))
         }
-        Plan::Drop {
-            dir,
-            name,
-            place,
-            ..
-        } => {
-            store.drop_entry(dir, name, place);
+        Plan::Drop { dir, name, at, .. } => {
+            store.drop_entry(dir, name, at);
             Ok(Reply::Unit)
         }
         Plan::Move {
             from,
             to,
             number,
-            place,
+            at,
             ..
         } => {
-            store.move_entry(alloc, from, place, to, number)?;
+            store.move_entry(alloc, from, at, to, number)?;
             Ok(Reply::Unit)
         }
         Plan::Swap {
@@ -50,7 +45,7 @@ pub fn carry<S: Store>(alloc: Global, store: &mut S, plan: Plan<'_>) -> Result<R
             first,
             second,
         } => {
-            let places = (first.place, second.place);
+            let places = (first.at, second.at);
             store.swap_entries(from, first.number, to, second.number, places);
             Ok(Reply::Unit)
         }

@@ -10,7 +10,7 @@ pub struct Moved {
     /// Its number.
     pub number: u64,
     /// Where its entry was found.
-    pub place: Place,
+    pub at: Place,
     /// Whether it is a directory whose parent becomes another.
     pub reparents: bool,
 }
@@ -40,7 +40,7 @@ pub enum Plan<'a> {
         /// The key of that inode's own which goes with its last name.
         lost: Option<Key<'a>>,
         /// Where the entry was found.
-        place: Place,
+        at: Place,
     },
     /// An entry moves to another name, in the place of what stands there.
     Move {
@@ -55,7 +55,7 @@ pub enum Plan<'a> {
         /// The key of its own that what stood at the new name has, where that was its last name.
         lost: Option<Key<'a>>,
         /// Where the entry was found.
-        place: Place,
+        at: Place,
     },
     /// Two entries swap what they lead to.
     Swap {

@@ -91,7 +91,7 @@ fn plan_move<'a, S: Store>(
         number: moved.0,
         reparents: reparents(moved, from.dir, to.dir),
         lost: lost_there(store, there),
-        place,
+        at: place,
     }))
 }
 
@@ -133,12 +133,12 @@ fn plan_swap<'a, S: Store>(
         },
         first: Moved {
             number: moved.0,
-            place,
+            at: place,
             reparents: reparents(moved, from.dir, to.dir),
         },
         second: Moved {
             number: there.0,
-            place: there_place,
+            at: there_place,
             reparents: reparents(there, to.dir, from.dir),
         },
     }))

@@ -39,7 +39,7 @@ pub(crate) fn plan_unlink<'a, S: Store>(
         name,
         number: inode.0,
         lost: lost_key(store, inode),
-        place,
+        at: place,
     })
 }
 
@@ -64,7 +64,7 @@ pub(crate) fn plan_rmdir<'a, S: Store>(
         name,
         number: inode.0,
         lost: lost_key(store, inode),
-        place,
+        at: place,
     })
 }
 
