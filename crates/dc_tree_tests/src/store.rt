@@ -93,6 +93,20 @@ fn drop_from<S: Store>(store: &mut S, dir: u64, name: Name<'_>) -> bool {
     }
 }
 
+/// Drops an entry by the place of another. It answers whether that may be.
+fn drop_by<S: Store>(store: &mut S, dir: u64, name: Name<'_>, other: Name<'_>) -> bool {
+    let Some((_, place)) = store.seek(dir, other) else {
+        return false;
+    };
+    match store.find(dir, name) {
+        Some(number) if !is_full(store, number) => {
+            store.drop_entry(dir, name, place);
+            true
+        }
+        _ => false,
+    }
+}
+
 /// Moves an entry, a directory into the root alone. It answers whether that may be.
 fn move_to<S: Store>(
     store: &mut S,
@@ -143,6 +157,8 @@ impl<'a> To<'a> {
 enum Step<'a> {
     Add(u64, &'a [u8], To<'a>, Option<u64>),
     Drop(u64, &'a [u8], bool),
+    /// An entry goes by the place of another.
+    DropBy(u64, &'a [u8], &'a [u8], bool),
     Move((u64, &'a [u8]), (u64, &'a [u8]), bool),
     /// A number's kind, parent and count.
     Seen(u64, Option<Kind>, Option<u64>, u64),
@@ -178,6 +194,9 @@ fn answers<S: Store>(store: &mut S, alloc: Global, step: Step<'_>) -> Result<boo
             Ok(add_to(store, alloc, dir, named(name)?, new.new_entry()?)? == want)
         }
         Step::Drop(dir, name, want) => Ok(drop_from(store, dir, named(name)?) == want),
+        Step::DropBy(dir, name, other, want) => {
+            Ok(drop_by(store, dir, named(name)?, named(other)?) == want)
+        }
         Step::Move(old, new, want) => { Ok(move_to(store, alloc, spot(old)?, spot(new)?)? == want) }
         Step::Seen(number, kind, parent, count) => {
             let seen = (
@@ -328,6 +347,24 @@ static FILES: [Step<'static>; 19] = [
 #[test]
 fn moves_files(rt: HostRuntime) -> Result<(), Fail> {
     assert!(rt; fails_at(rt.alloc(), &FILES)?.is_none());
+    Ok(())
+}
+
+static BY_ANOTHERS_PLACE: [Step<'static>; 9] = [
+    Step::Add(1, b"a", To::File, Some(2)),
+    Step::Add(1, b"b", To::File, Some(3)),
+    Step::Add(1, b"c", To::File, Some(4)),
+    Step::DropBy(1, b"a", b"c", true),
+    Step::List(1, &[b"b", b"c"]),
+    Step::DropBy(1, b"c", b"b", true),
+    Step::Find(1, b"b", Some(3)),
+    Step::DropBy(1, b"b", b"b", true),
+    Step::Size(5, 1),
+];
+
+#[test]
+fn drops_by_anothers_place(rt: HostRuntime) -> Result<(), Fail> {
+    assert!(rt; fails_at(rt.alloc(), &BY_ANOTHERS_PLACE)?.is_none());
     Ok(())
 }
 
