@@ -1,5 +1,5 @@
 -- What one who fills rows makes of the guard.
-use Rattle.std.specs.Prelude.{◌≡◌, true}
+use Rattle.std.specs.Prelude.{◌≡◌, IfSome}
 use Rattle.std.proofs.Common.{refl, ap, ◌∙◌}
 use Rattle.dc_plain.specs.Tellers.{Extends}
 use Rattle.dc_plain.specs.Trees.{told_of}
@@ -13,8 +13,7 @@ use Rattle.dc_cache.specs.declared.filler.Filler.{Filler}
 pub record Fills (f g : Filler) : Type 0 where
   pub pass : g.guard.holder.pass.ghost_name ≡ f.guard.holder.pass.ghost_name
   pub keeps : Keeps f.guard g.guard
-  pub room : g.room ≡ f.room
-  pub known : g.is_known ≡ f.is_known
+  pub known : g.known ≡ f.known
 
 pub fills_none : (f : Filler) → Fills f f
 fills_none f = record {
@@ -23,7 +22,6 @@ fills_none f = record {
     only = record { same = record { table = refl; id = refl; same_share = refl }; untried = record { tries = refl; got = refl; left = refl; past = refl }; holder = f.guard.holder.has_lock; only = refl };
     tree = record { tree = refl; clock = refl; same_limit = refl };
   };
-  room = refl;
   known = refl;
 }
 
@@ -39,7 +37,6 @@ fills_more f g h a b = record {
     };
     tree = record { tree = b.keeps.tree.tree ∙ a.keeps.tree.tree; clock = b.keeps.tree.clock ∙ a.keeps.tree.clock; same_limit = b.keeps.tree.same_limit ∙ a.keeps.tree.same_limit };
   };
-  room = b.room ∙ a.room;
   known = b.known ∙ a.known;
 }
 
@@ -48,4 +45,4 @@ fills_keep f g p = same_tells (kept_by f.guard).store (kept_by g.guard).store p.
 
 -- what the rows tell that it answers by is true of the tree
 abbrev pub KnowsTruth : Filler → Type 0
-KnowsTruth f = f.is_known ≡ true → AreTrue (kept_by f.guard).store f.room.now
+KnowsTruth f = IfSome f.known (λ room. AreTrue (kept_by f.guard).store room.now)

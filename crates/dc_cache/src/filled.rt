@@ -42,15 +42,8 @@ impl Dcache {
             path: text,
             follow,
         };
-        look_further(
-            &self.shared,
-            rt,
-            alloc,
-            &mut pass.seat,
-            &pass.room,
-            true,
-            look,
-        )
+        let noted = Some(&pass.room);
+        look_further(&self.shared, rt, alloc, &mut pass.seat, noted, look)
     }
 
     /// Where a path leads, always answered, for a caller whose `look_fast` has just given up: it goes on as
@@ -70,14 +63,6 @@ impl Dcache {
         ensures answered { Answered pass.old pass.new (Look base path.entry.bytes.now follow) result }
     {
         let look = dc_walk::Look { base, path, follow };
-        look_further(
-            &self.shared,
-            rt,
-            alloc,
-            &mut pass.seat,
-            &pass.room,
-            false,
-            look,
-        )
+        look_further(&self.shared, rt, alloc, &mut pass.seat, None, look)
     }
 }

@@ -38,8 +38,8 @@ impl Bytes for ShortText {
 pub(crate) struct Filler<'t> {
     pub guard: Guard<'t>,
     pub alloc: Global,
-    pub room: &'t Room,
-    pub is_known: bool,
+    /// The room of that walk, if what its rows tell is true.
+    pub known: Option<&'t Room>,
     /// The row that answers the next question.
     pub next: usize,
     pub stopped: bool,
@@ -55,10 +55,8 @@ impl Filler<'_> {
         ensures told { IfSome result (λ target. let key = key_shown key.entry in
             (told_of (kept_by self.old.guard).store).entry key.number key.label ≡ Some target) }
     {
-        if !self.is_known {
-            return None;
-        }
-        let target = self.room.told_at(self.next, key);
+        let room = self.known?;
+        let target = room.told_at(self.next, key);
         // Each question has its row, in their order, up to a key that is asked for twice.
         self.next = self.next.saturating_add(1);
         target

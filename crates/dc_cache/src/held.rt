@@ -1,6 +1,6 @@
 //! What is done under one hold of the lock. Each hands the pass back as the lock is given back.
 
-ghost use Rattle.std.specs.Prelude.{◌≡◌, ℕ, true, IfSome, IfNone};
+ghost use Rattle.std.specs.Prelude.{◌≡◌, ℕ, IfSome, IfNone};
 ghost use Rattle.dc_cache.specs.Holds.{HandsBack, Records, RecordsOne, TellsOne};
 ghost use Rattle.dc_ops.specs.Asked.{IsSought, IsToldAtLength};
 ghost use Rattle.dc_ops.specs.Settled.{DeclinesCall};
@@ -63,26 +63,28 @@ pub(crate) fn ask_held<'t>(
 }
 
 /// Answers a look-up of a path, and fills the rows that it asks the tree for, as far as they can be had. If
-/// a walk by rows has just `noted` those in the room, it goes on from these where they stand still.
+/// a walk by rows has just given up, and `noted` those in its room, it goes on from these where they stand
+/// still.
 pub(crate) fn look_held<'t>(
     mut guard: Guard<'t>,
     alloc: Global,
-    room: &'t Room,
-    noted: bool,
+    noted: Option<&'t Room>,
     look: dc_walk::Look<'_>,
 ) -> (&'t mut Seat, Stamped)
     requires taken { IsTaken (view (seat_of guard)) }
-    requires noted { noted ≡ true
-        → (let p = seat_of guard in AreNoted (view p) (share p).rows room.now) }
+    requires noted { IfSome noted (λ room.
+        let p = seat_of guard in AreNoted (view p) (share p).rows room.now) }
     ensures same { HandsBack guard.entry result.0 }
     ensures recorded { RecordsOne guard.entry result.0 (look_shown look.entry) result.1 }
 {
-    let is_known = noted && are_as_noted(&mut guard, room);
+    let known = match noted {
+        Some(room) if are_as_noted(&mut guard, room) => noted,
+        _ => None,
+    };
     let mut filler = Filler {
         guard,
         alloc,
-        room,
-        is_known,
+        known,
         next: 0,
         stopped: false,
     };
@@ -90,8 +92,7 @@ pub(crate) fn look_held<'t>(
     let Filler {
         guard,
         alloc: _,
-        room: _,
-        is_known: _,
+        known: _,
         next: _,
         stopped: _,
     } = filler;
@@ -109,17 +110,16 @@ pub(crate) fn look_further<R: Wait>(
     rt: &R,
     alloc: Global,
     seat: &mut Seat,
-    room: &Room,
-    noted: bool,
+    noted: Option<&Room>,
     look: dc_walk::Look<'_>,
 ) -> Stamped
     requires can { CanWalk shared.now seat.old }
-    requires noted { noted ≡ true → AreNoted (view seat.old) (share seat.old).rows room.now }
+    requires noted { IfSome noted (λ room. AreNoted (view seat.old) (share seat.old).rows room.now) }
     ensures same { IsSamePass seat.old seat.new × IsIdle seat.new }
     ensures recorded { Records seat.old seat.new (look_shown look.entry) result }
 {
     let guard = Guard::lock(shared, rt, seat);
-    let (back, found) = look_held(guard, alloc, room, noted, look);
+    let (back, found) = look_held(guard, alloc, noted, look);
     // For the proof, here and below: the seat is back as it is bound.
     let _seat = back;
     shared.wake();
@@ -143,7 +143,7 @@ pub(crate) fn try_further(
 {
     match Guard::try_lock(shared, seat) {
         Ok(guard) => {
-            let (back, found) = look_held(guard, alloc, room, true, look);
+            let (back, found) = look_held(guard, alloc, Some(room), look);
             let _seat = back;
             Some(found)
         }
