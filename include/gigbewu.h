@@ -109,8 +109,8 @@ struct gb_gone {
 
 /* Makes a cache and opens its first pass. `buckets`, of four rows each, is a power of two from 1 to 1,048,576. `inodes`
  * is how many may live at once, the root among them, from 1 to 1,048,576. With twice as many rows as names that are
- * looked up 4 look-ups in 100 find no row, with four times as many 4 in 1,000. A row weighs 350 bytes, and 90 more once
- * it is filled.
+ * looked up 4 look-ups in 100 find no row, with four times as many 4 in 1,000. A row weighs 380 bytes, and 64 more once
+ * it is filled; with a name of 32 bytes or more some 45 and those of the name.
  * It takes a pass that is blank. That no other thread has its address yet is the caller's to see to.
  * Proved: it is safe and ends, it makes the cache of these sizes, and `blank` is its first pass then.
  * Answers 0, GB_BAD_SIZE exactly if the sizes are others, GB_NO_MEMORY, GB_BAD_PASS if the pass is open. */
