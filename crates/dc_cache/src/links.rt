@@ -4,7 +4,7 @@ ghost use Rattle.std.specs.Prelude.{◌≡◌, ◌≤◌, ◌+◌, ℕ, List};
 ghost use Rattle.dc_cache.specs.Links.{ReadsFast, TellsOf};
 ghost use Rattle.dc_cache.specs.Passes.{buckets_of, known, view, share, Fits};
 ghost use Rattle.dc_table.specs.Shares.{HasNotTried};
-ghost use Rattle.dc_walk.specs.declared.TheConstants.{MOST_LOADS};
+ghost use Rattle.dc_names.specs.declared.limits.TheConstants.{MOST_LOADS};
 
 use crate::cache::{Dcache, Pass};
 use dc_names::{Kind, PathText, Refusal};

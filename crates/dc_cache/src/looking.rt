@@ -10,7 +10,7 @@ ghost use Rattle.dc_table.specs.Shares.{HasNotTried};
 ghost use Rattle.dc_walk.specs.Fasts.{Keeps, IfAgain, Tried};
 ghost use Rattle.dc_walk.specs.Looks.{outcome_by};
 ghost use Rattle.dc_walk.specs.Unpins.{rows_in, GivesBack};
-ghost use Rattle.dc_walk.specs.declared.TheConstants.{MOST_LOADS};
+ghost use Rattle.dc_names.specs.declared.limits.TheConstants.{MOST_LOADS};
 
 use crate::cache::{Dcache, Pass};
 use crate::tries;

@@ -6,7 +6,7 @@ ghost use Rattle.dc_cache.specs.Losses.{TakesAway};
 ghost use Rattle.dc_cache.specs.Passes.{buckets_of, known, view, share, FitsSleepless, Missed, Shrinks};
 ghost use Rattle.dc_events.specs.Rows.{most};
 ghost use Rattle.dc_names.specs.Tables.{fit_a_table};
-ghost use Rattle.dc_names.specs.declared.limits.TheConstants.{BUCKET_ROWS};
+ghost use Rattle.dc_names.specs.declared.limits.TheConstants.{BUCKET_ROWS, MOST_LOADS};
 ghost use Rattle.dc_names.specs.declared.sizes.MakeFault.TheVariants.{BadSize};
 ghost use Rattle.dc_ops.specs.Asked.{IsChange};
 ghost use Rattle.dc_plain.specs.Facts.{told_by};
@@ -17,7 +17,6 @@ ghost use Rattle.dc_table.specs.Ends.{Ends};
 ghost use Rattle.dc_table.specs.Shares.{HasNotTried, IsWhole, first_known, kept_half, new_half, both};
 ghost use Rattle.dc_walk.specs.Fasts.{Keeps, IfAgain};
 ghost use Rattle.dc_walk.specs.Looks.{outcome_by};
-ghost use Rattle.dc_walk.specs.declared.TheConstants.{MOST_LOADS};
 
 use crate::cache::{Ended, NotYet, Pass, Sleepless};
 use crate::gone::Gone;

@@ -13,7 +13,7 @@ ghost use Rattle.dc_plain.specs.Requests.Request.{Look};
 ghost use Rattle.dc_table.specs.Changes.{NothingNew};
 ghost use Rattle.dc_table.specs.Shares.{HasNotTried};
 ghost use Rattle.dc_walk.specs.Placing.{AreNoted};
-ghost use Rattle.dc_walk.specs.declared.TheConstants.{MOST_LOADS};
+ghost use Rattle.dc_names.specs.declared.limits.TheConstants.{MOST_LOADS};
 
 use crate::cache::Pass;
 use crate::gone::{Gone, going};

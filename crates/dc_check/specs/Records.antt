@@ -6,7 +6,7 @@ use Rattle.dc_lang.specs.Inputs.{AllSay, AllTell, IsFirstBad, IsFirstUnread}
 use Rattle.dc_lang.specs.Lines.{lines_of, whole_lines}
 use Rattle.dc_lang.specs.Phases.{in_order, phases}
 use Rattle.dc_lang.specs.Responses.{Response, Tells, response_of}
-use Rattle.dc_lang.specs.declared.TheConstants.{SESSIONS}
+use Rattle.dc_names.specs.declared.limits.TheConstants.{SESSIONS}
 use Rattle.dc_lang.specs.declared.fault.InputFault.{InputFault}
 use Rattle.dc_lang.specs.declared.fault.InputFault.TheVariants as inputs
 use Rattle.dc_lang.specs.declared.input.Served.{Served}

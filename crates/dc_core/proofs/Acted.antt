@@ -2,7 +2,7 @@
 use Rattle.std.proofs.Common.{◌≡◌, ℕ, ◌-◌, ◌<◌, ◌≤◌, List, [], ◌∷◌, ◌++◌, length, get_or, set, map, Option, Some, None, Result, Ok, Err, OnOk, OnErr, refl, sym, ap, ◌∙◌, subst, inl, inr, Bool, false, IsTrue, ◌↔◌, true≢false, arith, append-nil}
 use Rattle.std.proofs.lemmas.List.{length-drop, map-append}
 use Rattle.atomic_table.proofs.Lists.{at_index}
-use Rattle.dc_row.specs.declared.TheConstants.{ROW_WORDS}
+use Rattle.dc_names.specs.declared.limits.TheConstants.{ROW_WORDS}
 use Rattle.dc_core.specs.Machine.{State, Actor, idle}
 use Rattle.dc_core.specs.Lives.{view_of, Lives}
 use Rattle.dc_core.specs.Shown.{actor_shown, note_shown, state_of}

@@ -9,7 +9,7 @@ use Rattle.dc_events.specs.Rows.{most, base_of, count, row_words, Tells}
 use Rattle.dc_events.specs.Rule.{Rule}
 use Rattle.dc_events.specs.Walks.{walk_noted, walk_begun, walk_again, no_walk}
 use Rattle.dc_events.specs.Effects.{taken, wrote, begun, again}
-use Rattle.dc_row.specs.declared.TheConstants.{ROW_WORDS}
+use Rattle.dc_names.specs.declared.limits.TheConstants.{ROW_WORDS}
 use Rattle.dc_core.specs.Machine.{State, Actor, Act, actor_at, clock_of, done, event_by, walking}
 use Rattle.dc_core.specs.Machine.Act.{Take, Shut, Write, Open, Note, Begin, Again, Quit}
 use Rattle.dc_core.specs.Lives.{Done, strand, hold_of, view_of, views_from, LivesWith}

@@ -6,7 +6,7 @@ use mathlib.Core.Logic.{dite}
 use native.Mathlib.Decide.{ℕ_discrete}
 use lib.ListN.{get_elem?}
 use Rattle.dc_plain.specs.Requests.{Request, Answer}
-use Rattle.dc_row.specs.declared.TheConstants.{ROW_WORDS}
+use Rattle.dc_names.specs.declared.limits.TheConstants.{ROW_WORDS}
 use Rattle.dc_events.specs.Views.{Record, View}
 use Rattle.dc_events.specs.Rows.{count, IsWhole}
 use Rattle.dc_events.specs.Rule.{Rule}

@@ -1,7 +1,7 @@
 -- The tests of an event one after another, as the program makes them.
 use Rattle.std.proofs.Common.{◌≡◌, ◌⊎◌, ◌≢◌, ◌%◌, ◌<◌, ◌≤◌, ℕ, Bool, not, true, false, true≢false, eqb, leb, List, length, map, Option, Some, Result, Ok, Err, MatchResult, refl, sym, ap, ◌∙◌, subst, inl, inr, arith, get_or, is_some, None}
 use Rattle.std.proofs.lemmas.Bool.Decides.{nat_tests}
-use Rattle.dc_row.specs.declared.TheConstants.{ROW_WORDS}
+use Rattle.dc_names.specs.declared.limits.TheConstants.{ROW_WORDS}
 use Rattle.dc_events.specs.Rows.{count, most}
 use Rattle.dc_core.specs.Machine.{State, Actor, Event, actor_at, event_by}
 use Rattle.dc_core.specs.Machine.Act.{Shut, Write, Note, Commit, Give}

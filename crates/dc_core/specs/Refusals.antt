@@ -5,7 +5,7 @@ use Rattle.dc_plain.specs.Requests.{Request}
 use Rattle.dc_plain.specs.Runs.{alters, Touches}
 use Rattle.dc_plain.specs.Facts.{key_of}
 use Rattle.dc_row.specs.Spelling.{Spells}
-use Rattle.dc_row.specs.declared.TheConstants.{ROW_WORDS}
+use Rattle.dc_names.specs.declared.limits.TheConstants.{ROW_WORDS}
 use Rattle.dc_events.specs.Views.{Walk}
 use Rattle.dc_events.specs.Rows.{most, count, row_words, Tells, IsWhole}
 use Rattle.dc_events.specs.Walks.{note_of, last_of}

@@ -9,7 +9,7 @@ use Rattle.dc_plain.specs.Trees.{Tree, Holds as IsTrueIn}
 use Rattle.dc_plain.specs.IsWellFormed.{IsWellFormed}
 use Rattle.dc_plain.specs.Runs.{reply_of, tree_after, alters, Touches}
 use Rattle.dc_row.specs.Spelling.{Spells}
-use Rattle.dc_row.specs.declared.TheConstants.{ROW_WORDS}
+use Rattle.dc_names.specs.declared.limits.TheConstants.{ROW_WORDS}
 use Rattle.dc_plain.specs.FactLaws.{answer_told}
 use Rattle.dc_plain.specs.Facts.{key_of}
 use Rattle.dc_events.specs.Laws.{TreeLaws}

@@ -6,7 +6,7 @@ use native.Mathlib.Decide.{ℕ_discrete}
 use lib.ListN.{get_elem?}
 use Rattle.dc_plain.specs.Requests.{Request}
 use Rattle.dc_plain.specs.Runs.{alters}
-use Rattle.dc_row.specs.declared.TheConstants.{ROW_WORDS}
+use Rattle.dc_names.specs.declared.limits.TheConstants.{ROW_WORDS}
 use Rattle.dc_events.specs.Views.{Record, Book, View}
 use Rattle.dc_events.specs.Standing.{tree_of, Stands, weight, after}
 use Rattle.dc_events.specs.Rows.{most, base_of, count, row_words, Tells, IsUntouched}

@@ -5,7 +5,8 @@ use mathlib.Core.Option.{some, some-injective, some-ne-none}
 use lib.ListN.{get_elem?}
 use Rattle.dc_plain.specs.Trees.{empty_tree}
 use Rattle.dc_row.specs.Spelling.{Spells}
-use Rattle.dc_row.specs.declared.TheConstants.{ROW_WORDS, EMPTY_ROW}
+use Rattle.dc_names.specs.declared.limits.TheConstants.{ROW_WORDS}
+use Rattle.dc_row.specs.declared.TheConstants.{EMPTY_ROW}
 use Rattle.dc_events.specs.Views.{View}
 use Rattle.dc_events.specs.Rows.{base_of, count, words_from, row_words, opening_words}
 use Rattle.dc_events.specs.Rule.{ViewFits, StrandFits, Rule, RowFits, total, view_hits, once_below}

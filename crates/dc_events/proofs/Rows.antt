@@ -6,7 +6,7 @@ use lib.ListN.{get_elem?}
 use Rattle.dc_plain.specs.Facts.{Fact}
 use Rattle.dc_plain.specs.Requests.{Request}
 use Rattle.dc_row.specs.Spelling.{Spells, fields_of}
-use Rattle.dc_row.specs.declared.TheConstants.{ROW_WORDS}
+use Rattle.dc_names.specs.declared.limits.TheConstants.{ROW_WORDS}
 use Rattle.dc_events.specs.Views.{View}
 use Rattle.dc_events.specs.Standing.{tree_of}
 use Rattle.dc_events.specs.Rows.{most, base_of, count, words_from, row_words, Tells}

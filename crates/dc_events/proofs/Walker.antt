@@ -5,7 +5,7 @@ use lib.ListN.{get_elem?}
 use Rattle.dc_plain.specs.Facts.{told_by}
 use Rattle.dc_plain.specs.Trees.{Tree}
 use Rattle.dc_plain.specs.Requests.{Request, Answer}
-use Rattle.dc_row.specs.declared.TheConstants.{ROW_WORDS}
+use Rattle.dc_names.specs.declared.limits.TheConstants.{ROW_WORDS}
 use Rattle.dc_plain.specs.FactLaws.{answer_told}
 use Rattle.dc_events.specs.Views.{Note, Record, Walk, View}
 use Rattle.dc_events.specs.Standing.{tree_of}

@@ -4,7 +4,7 @@ use Rattle.std.proofs.lemmas.List.{set-set}
 use mathlib.Core.Option.{some}
 use lib.ListN.{get_elem?}
 use Rattle.dc_plain.specs.Requests.{Request}
-use Rattle.dc_row.specs.declared.TheConstants.{ROW_WORDS}
+use Rattle.dc_names.specs.declared.limits.TheConstants.{ROW_WORDS}
 use Rattle.dc_events.specs.Views.{Walk, Book, View}
 use Rattle.dc_events.specs.Rows.{base_of, count, IsWhole}
 use Rattle.dc_events.specs.Rule.{WalkFits, BookFits, Follows, FaultFits, book_hits, Rule}

@@ -1,6 +1,6 @@
 -- Words that stand one after the other.
 use Rattle.std.proofs.Common.{◌≡◌, ℕ, zero, suc, ◌+◌, ◌<◌, ◌≤◌, List, [], ◌∷◌, ◌++◌, get_or, refl, ap, ap₂, ◌∙◌, arith}
-use Rattle.dc_row.specs.declared.TheConstants.{ROW_WORDS}
+use Rattle.dc_names.specs.declared.limits.TheConstants.{ROW_WORDS}
 use Rattle.dc_events.specs.Rows.{words_from, row_words, base_of}
 
 pub words_from_same : (words words' : List ℕ) (k n : ℕ) → ((j : ℕ) → k ≤ j → j < k + n → get_or words' j 0 ≡ get_or words j 0) → words_from words' k n ≡ words_from words k n

@@ -9,7 +9,7 @@ use Rattle.dc_plain.specs.Requests.{Request}
 use Rattle.dc_plain.specs.Trees.{empty_tree}
 use Rattle.dc_plain.specs.Runs.{alters}
 use Rattle.dc_row.specs.Spelling.{Spells}
-use Rattle.dc_row.specs.declared.TheConstants.{ROW_WORDS}
+use Rattle.dc_names.specs.declared.limits.TheConstants.{ROW_WORDS}
 use Rattle.dc_events.specs.Views.{Record, Fault, View}
 use Rattle.dc_events.specs.Standing.{tree_of, Stands, Rising, all_hits}
 use Rattle.dc_events.specs.Rows.{most, base_of, count, row_words, Tells, IsWhole, opening_words, IsUntouched}

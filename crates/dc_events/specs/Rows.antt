@@ -5,9 +5,8 @@ use Rattle.dc_plain.specs.Requests.{Request}
 use Rattle.dc_plain.specs.Trees.{Tree, Holds as IsTrueIn}
 use Rattle.dc_plain.specs.Runs.{Touches}
 use Rattle.dc_plain.specs.Facts.{key_of}
-use Rattle.dc_names.specs.declared.limits.TheConstants.{MOST_COUNT}
+use Rattle.dc_names.specs.declared.limits.TheConstants.{MOST_COUNT, ROW_WORDS}
 use Rattle.dc_row.specs.Spelling.{Spells}
-use Rattle.dc_row.specs.declared.TheConstants.{ROW_WORDS}
 use Rattle.dc_events.specs.Views.{Note}
 
 abbrev pub most : ℕ

@@ -2,7 +2,7 @@
 use Rattle.std.specs.Prelude.{◌≡◌, ◌↔◌, ℕ, ◌+◌, ◌-◌, ◌*◌, ◌^◌, ◌≤◌, ◌++◌, min, length, take, drop, Bool, true, List, Option, Some, Result, Ok, MatchOption}
 use Rattle.dc_names.specs.Tables.{fit_a_table}
 use Rattle.dc_names.specs.declared.NoMemory.{NoMemory}
-use Rattle.dc_names.specs.declared.limits.TheConstants.{BUCKET_ROWS}
+use Rattle.dc_names.specs.declared.limits.TheConstants.{BUCKET_ROWS, MOST_LOADS}
 use Rattle.dc_plain.specs.declared.call.Follow.{Follow}
 use Rattle.dc_plain.specs.declared.call.Reply.{Reply}
 use Rattle.dc_plain.specs.declared.call.Reply.TheVariants as replies
@@ -10,7 +10,6 @@ use Rattle.dc_table.specs.Changes.{NothingNew}
 use Rattle.dc_table.specs.Shares.{first_known, kept_half, new_half, HasNotTried}
 use Rattle.dc_rows.specs.declared.fault.ChangeFault.{ChangeFault}
 use Rattle.dc_walk.specs.Fasts.{Keeps, IfAgain}
-use Rattle.dc_walk.specs.declared.TheConstants.{MOST_LOADS}
 use Rattle.dc_walk.specs.declared.answer.Fast as walk
 use Rattle.dc_cache.specs.Answers.{Answered, IfFast, Loaded, Made, Told}
 use Rattle.dc_cache.specs.Calls.{Request, Stamped, look}

@@ -4,9 +4,7 @@ ghost use Rattle.std.specs.Prelude.{◌≡◌};
 ghost use Rattle.dc_hold.specs.Numbers.{status_number, status_of_fault, status_of_learn, status_of_make};
 
 use dc_cache::{ChangeFault, MakeFault};
-
-/// The greatest number of an error on Linux.
-const MOST_ERRNO: u64 = 4_095;
+use dc_names::MOST_ERRNO;
 
 /// How a call of a program in C ends. All but `Done` and `Refused` leave nothing recorded.
 #[derive(Clone, Copy, Debug, PartialEq, Eq)]

@@ -4,8 +4,7 @@ use Rattle.std.specs.List.{range_with_len}
 use Rattle.std.proofs.lemmas.Bool.{cases_eq, cases_lt}
 use Rattle.std.proofs.lemmas.List.{get_or-set_same, get_or-set_other, get_or-replicate, get_or_past, get_or-map, length-set, length-replicate}
 use Rattle.dc_names.specs.Hash.{hash_of}
-use Rattle.dc_names.specs.declared.limits.TheConstants.{BUCKET_ROWS}
-use Rattle.dc_names.specs.declared.tables.TheConstants.{MOST_TABLE_BUCKETS}
+use Rattle.dc_names.specs.declared.limits.TheConstants.{BUCKET_ROWS, MOST_TABLE_BUCKETS}
 use Rattle.dc_plain.specs.Facts.{Key, label_bytes}
 use Rattle.dc_index.specs.Slots.{Slot, slot_of, has_key, cleared, bucket_in, IsIndex}
 use Rattle.dc_index.specs.Slots.Slot.{Free, Retired, Holds}

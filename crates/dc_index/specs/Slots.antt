@@ -1,8 +1,7 @@
 -- The rows of the cache, each with the key that it has.
 use Rattle.std.specs.Prelude.{◌≡◌, ◌↔◌, ℕ, ◌*◌, ◌<◌, ◌≤◌, ◌/◌, ◌%◌, Bool, true, false, ◌==◌, ◌&&◌, List, length, slice_index_or, Option, Some}
 use Rattle.dc_names.specs.Hash.{hash_of}
-use Rattle.dc_names.specs.declared.limits.TheConstants.{BUCKET_ROWS, NAME_MAX}
-use Rattle.dc_names.specs.declared.tables.TheConstants.{MOST_TABLE_ROWS}
+use Rattle.dc_names.specs.declared.limits.TheConstants.{BUCKET_ROWS, NAME_MAX, MOST_TABLE_ROWS}
 use Rattle.dc_plain.specs.Facts.{Label, Key, same_label, label_bytes}
 use Rattle.dc_plain.specs.Facts.Label.{Entry, Parent, Text}
 

@@ -1,7 +1,7 @@
 //! The index: for each row of the cache its key, and for each key its row.
 
 ghost use Rattle.std.specs.Prelude.{◌≡◌, ◌<◌, ◌≤◌, ◌*◌, ◌/◌, ◌%◌, ◌≢◌, ℕ, OnOk, OnErr, IfOk, IfSome, length, replicate, slice_set, map};
-ghost use Rattle.dc_names.specs.declared.tables.TheConstants.{MOST_TABLE_BUCKETS};
+ghost use Rattle.dc_names.specs.declared.limits.TheConstants.{MOST_TABLE_BUCKETS};
 ghost use Rattle.dc_plain.specs.KeysShown.{key_shown};
 ghost use Rattle.dc_index.specs.Slots.{slot_of, has_key, most_text, cleared, bucket_of, bucket_in, IsIndex, IsRowOf};
 ghost use Rattle.dc_index.specs.Slots.Slot.{Free as IsFree, Retired as IsRetired, Holds};

@@ -1,7 +1,7 @@
 -- The lines of commands, and the calls that they ask for.
 use Rattle.std.specs.Prelude.{◌≡◌, ℕ, ◌<◌, Bool, true, false, if◌then◌else◌, is_some, unwrap_or, IsTrue, Option, List, [], ◌∷◌, map, length, slice_get, codes, decimal, Some, None}
 use Rattle.dc_lang.specs.Words.{bytes_of, spelled, spaced}
-use Rattle.dc_lang.specs.declared.TheConstants.{SESSIONS}
+use Rattle.dc_names.specs.declared.limits.TheConstants.{SESSIONS}
 use Rattle.dc_lang.specs.declared.line.Verb.{Verb}
 use Rattle.dc_lang.specs.declared.line.Verb.TheVariants as verbs
 use Rattle.dc_lang.specs.declared.line.Command as rust_command

@@ -4,7 +4,7 @@ use Rattle.std.specs.Borrow.{Bor}
 use Rattle.std.specs.List.{flat_map, slice_split}
 use Rattle.dc_lang.specs.Commands.{Order, Meaning, said_by}
 use Rattle.dc_lang.specs.Commands.Meaning.{Sync, Orders}
-use Rattle.dc_lang.specs.declared.TheConstants.{SESSIONS}
+use Rattle.dc_names.specs.declared.limits.TheConstants.{SESSIONS}
 use Rattle.dc_lang.specs.declared.line.Line.{Line}
 
 abbrev pub is_sync : Meaning → Bool

@@ -3,7 +3,7 @@ use Rattle.std.specs.Prelude.{◌≡◌, ℕ, ◌<◌, ◌^◌, List}
 use Rattle.dc_plain.specs.declared.call.Stamped as rust_stamped
 use Rattle.dc_plain.specs.Requests.{Answer, answer_of}
 use Rattle.dc_plain.specs.Requests.Answer.{Found, Done, Nothing, Bytes, Names, Counted, Refused}
-use Rattle.dc_lang.specs.declared.TheConstants.{SESSIONS}
+use Rattle.dc_names.specs.declared.limits.TheConstants.{SESSIONS}
 use Rattle.dc_lang.specs.Replies.{reply_text}
 
 -- a response: the session, its answer, and how many calls had altered the tree before

@@ -16,6 +16,7 @@ mod verb;
 mod write;
 
 pub use calls::call;
+pub use dc_names::{SESSION_COUNT, SESSIONS};
 pub use fault::InputFault;
 pub use input::{Served, base_after, phases, read_lines, serving_order};
 pub use laws::each_line_has_one_meaning;
@@ -24,9 +25,3 @@ pub use output::read_replies;
 pub use read::read_line;
 pub use reply::read_reply;
 pub use write::{write_command, write_line, write_reply};
-
-/// How many sessions there are: they are numbered from 0.
-pub const SESSIONS: u64 = 16;
-
-/// The same, as the length of an array.
-pub const SESSION_COUNT: usize = SESSIONS as usize;

@@ -1,8 +1,7 @@
 -- The sizes that a table may have.
 use Rattle.std.specs.Prelude.{ℕ, Bool, ◌&&◌, nat_le}
 use Rattle.std.specs.Int.{is_power_of_two}
-use Rattle.dc_names.specs.declared.limits.TheConstants.{MOST_INODES}
-use Rattle.dc_names.specs.declared.tables.TheConstants.{MOST_TABLE_BUCKETS}
+use Rattle.dc_names.specs.declared.limits.TheConstants.{MOST_INODES, MOST_TABLE_BUCKETS}
 
 -- the buckets are a power of two from 1 to `MOST_TABLE_BUCKETS`, and from 1 to `MOST_INODES` inodes may live
 abbrev pub fit_a_table : ℕ → ℕ → Bool

@@ -23,12 +23,14 @@ pub use kind::Kind;
 pub use last::Last;
 pub use laws::{no_piece_is_longer, parts_are_names_or_dots};
 pub use limits::{
-    BUCKET_ROWS, MOST_BUCKETS, MOST_COUNT, MOST_INODES, MOST_LINKS, MOST_NAMES, MOST_ROWS,
-    NAME_MAX, NUMBER_LIMIT, PATH_MAX,
+    BUCKET_ROWS, MOST_BUCKETS, MOST_COUNT, MOST_ERRNO, MOST_INODES, MOST_INPUT, MOST_LINKS,
+    MOST_LOADS, MOST_NAMES, MOST_PINNED, MOST_READS, MOST_ROWS, MOST_TABLE_BUCKETS,
+    MOST_TABLE_ROWS, MOST_TOUCHED, MOST_USED, MOST_USED_BYTES, NAME_MAX, NUMBER_LIMIT, PATH_MAX,
+    ROW_TEXT, ROW_WORDS, SESSION_COUNT, SESSIONS,
 };
 pub use name::{Name, Part};
 pub use path::{PathText, parse};
 pub use refusal::Refusal;
 pub use sizes::{MakeFault, are_right};
-pub use tables::{MOST_TABLE_BUCKETS, MOST_TABLE_ROWS, fit_a_table};
+pub use tables::fit_a_table;
 pub use words::{pack, pack_from, unpack};

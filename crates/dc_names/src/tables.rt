@@ -4,14 +4,7 @@
 ghost use Rattle.std.specs.Prelude.{◌≡◌};
 ghost use Rattle.dc_names.specs.Tables.{fit_a_table};
 
-use crate::{BUCKET_ROWS, MOST_INODES};
-
-/// The most buckets that a table has, of which the number is a power of two. This project's own: a table
-/// of so many takes half a gigabyte and more.
-pub const MOST_TABLE_BUCKETS: u64 = 1 << 20;
-
-/// The most rows that a table has.
-pub const MOST_TABLE_ROWS: u64 = BUCKET_ROWS * MOST_TABLE_BUCKETS;
+use crate::{MOST_INODES, MOST_TABLE_BUCKETS};
 
 /// Whether a table may have so many buckets, and so many inodes live in its tree.
 #[must_use]

@@ -3,7 +3,7 @@ use Rattle.std.specs.Prelude.{◌≡◌, ◌≢◌, [], ◌∷◌, ◌↔◌, �
 use Rattle.dc_names.specs.declared.refusal.Refusal.{Refusal}
 use Rattle.dc_names.specs.declared.refusal.Refusal.TheVariants.{NotFound, NotDirectory, TooManyLinks}
 use Rattle.dc_names.specs.Paths.{Path}
-use Rattle.dc_plain.specs.declared.TheConstants.{MOST_TOUCHED}
+use Rattle.dc_names.specs.declared.limits.TheConstants.{MOST_TOUCHED}
 use Rattle.dc_plain.specs.declared.call.Follow.{Follow}
 use Rattle.dc_plain.specs.Facts.{Teller, Key}
 use Rattle.dc_plain.specs.Tellers.{Extends}

@@ -25,7 +25,7 @@ mod target;
 mod told;
 
 pub use call::{Call, Flags, Follow, Reply, Sort, Stamped};
-pub use dc_names::{MOST_COUNT, MOST_INODES, MOST_LINKS, MOST_NAMES, NUMBER_LIMIT};
+pub use dc_names::{MOST_COUNT, MOST_INODES, MOST_LINKS, MOST_NAMES, MOST_TOUCHED, NUMBER_LIMIT};
 pub use fact::{Fact, answer};
 pub use key::{Key, Label};
 pub use laws::{
@@ -41,6 +41,3 @@ pub use plain::PlainTree;
 pub use refusals::{present, refuse};
 pub use spot::{Spot, Where};
 pub use target::{ROOT, Target, is_directory};
-
-/// The most keys that one call touches.
-pub const MOST_TOUCHED: usize = 4;

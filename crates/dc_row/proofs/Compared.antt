@@ -4,7 +4,7 @@ use Rattle.std.proofs.lemmas.List.{get_or-take, get_or-drop}
 use Rattle.dc_plain.specs.Facts.{Fact}
 use Rattle.dc_row.specs.Laws.{CountsTellNothing}
 use Rattle.dc_row.specs.Spelling.{Spells}
-use Rattle.dc_row.specs.declared.TheConstants.{ROW_WORDS}
+use Rattle.dc_names.specs.declared.limits.TheConstants.{ROW_WORDS}
 
 from_second : (ws : List ℕ) (n i : ℕ) → 0 < i → i ≤ n → get_or (take n (drop 1 ws)) (i - 1) 0 ≡ get_or ws i 0
 from_second ws n i pos within =

@@ -7,7 +7,8 @@ use Rattle.dc_plain.specs.Facts.Label.{Entry, Parent}
 use Rattle.dc_plain.specs.Facts.Fact.{Leads, Reads}
 use Rattle.dc_row.specs.Decoding.{byte_in, bytes_from, fact_by, target_by, SpelledIsRead}
 use Rattle.dc_row.specs.Spelling.{Spells, TellsTarget, fields_of, has_spelling, kind_code, target_number, text_word}
-use Rattle.dc_row.specs.declared.TheConstants.{ROW_WORDS, ROW_ROOM}
+use Rattle.dc_names.specs.declared.limits.TheConstants.{ROW_WORDS}
+use Rattle.dc_row.specs.declared.TheConstants.{ROW_ROOM}
 use Rattle.dc_row.specs.declared.layout.TheConstants.{KIND_UNIT, TAGS}
 use Rattle.dc_row.proofs.Labels.{entry_is, parent_is}
 use Rattle.dc_row.proofs.Packed.{bytes_in-word_of, get_or-padded}

@@ -7,7 +7,7 @@ use Rattle.dc_plain.specs.Facts.Label.{Entry, Parent, Text}
 use Rattle.dc_row.specs.Narrow.{widened}
 use Rattle.dc_row.specs.Short.{HasHead, HasText, RowsHaveTheirText}
 use Rattle.dc_row.specs.Spelling.{Fields, IsSpelled, Spells, SpellsEntry, TellsOf, entry_of, fields, fields_of, has_spelling, head_of, is_numbered, kind_code, target_number}
-use Rattle.dc_row.specs.declared.TheConstants.{ROW_WORDS}
+use Rattle.dc_names.specs.declared.limits.TheConstants.{ROW_WORDS}
 use Rattle.dc_row.specs.declared.layout.TheConstants.{KIND_UNIT, LENGTH_UNIT, TAGS}
 use Rattle.dc_row.proofs.Decoded.{kind_is}
 use Rattle.dc_row.proofs.Firsts.{narrow_spelled, wide_kind, wide_size, wide_spelled, wide_value}

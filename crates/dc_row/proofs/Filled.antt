@@ -4,7 +4,8 @@ use Rattle.std.proofs.Math.Seq.{take-append_seam}
 use Rattle.std.proofs.lemmas.Grind.{common_steps}
 use Rattle.std.proofs.lemmas.List.{drop-replicate}
 use Rattle.dc_row.specs.Rooms.{IsPadded, padded}
-use Rattle.dc_row.specs.declared.TheConstants.{ROW_ROOM, ROW_TEXT}
+use Rattle.dc_names.specs.declared.limits.TheConstants.{ROW_TEXT}
+use Rattle.dc_row.specs.declared.TheConstants.{ROW_ROOM}
 
 pub filled : (bytes part : List ℕ) → part ≡ bytes → length bytes ≤ ROW_TEXT → IsPadded (record { room = part ++ drop (length bytes) (replicate ROW_ROOM 0); len = length bytes })
 filled bytes part is fits =

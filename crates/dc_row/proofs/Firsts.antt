@@ -7,7 +7,7 @@ use Rattle.dc_plain.specs.Facts.{Label, Target}
 use Rattle.dc_plain.specs.Facts.Fact.{Leads}
 use Rattle.dc_row.specs.Narrow.{told_words, widened, words_for, RowsEndInZeros}
 use Rattle.dc_row.specs.Spelling.{fields_of, head_of, kind_code, target_number, text_word, Fields, IsSpelled, Spells}
-use Rattle.dc_row.specs.declared.TheConstants.{ROW_WORDS}
+use Rattle.dc_names.specs.declared.limits.TheConstants.{ROW_WORDS}
 use Rattle.dc_row.specs.declared.layout.TheConstants.{KIND_UNIT, TAGS}
 use Rattle.dc_row.proofs.Compared.{all_same}
 use Rattle.dc_row.proofs.Decoded.{kind_is}

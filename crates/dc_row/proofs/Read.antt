@@ -8,7 +8,7 @@ use Rattle.dc_plain.specs.Facts.{Target, Fact}
 use Rattle.dc_plain.specs.Facts.Label.{Entry, Parent, Text}
 use Rattle.dc_plain.specs.Facts.Fact.{Leads, Reads}
 use Rattle.dc_row.specs.Spelling.{Fields, Spells, fields_of, has_spelling, has_room, kind_code}
-use Rattle.dc_row.specs.declared.TheConstants.{ROW_TEXT}
+use Rattle.dc_names.specs.declared.limits.TheConstants.{ROW_TEXT}
 
 pub both : (a b : Bool) → (a && b) ≡ true → (a ≡ true) × (b ≡ true)
 both true b e = (refl, e)

@@ -5,7 +5,8 @@ use Rattle.std.proofs.lemmas.Grind.{common_steps}
 use Rattle.std.proofs.lemmas.List.{get_or_append_left, get_or-append_right, get_or-drop, get_or_past}
 use Rattle.dc_names.specs.Words.{bytes_in}
 use Rattle.dc_row.specs.Decoding.{EndsAt, HasBytes, IsRoomOf, byte_in}
-use Rattle.dc_row.specs.declared.TheConstants.{ROW_ROOM, ROW_TEXT, ROW_WORDS}
+use Rattle.dc_names.specs.declared.limits.TheConstants.{ROW_TEXT, ROW_WORDS}
+use Rattle.dc_row.specs.declared.TheConstants.{ROW_ROOM}
 use Rattle.dc_row.proofs.Lanes.{bytes_size, zero_byte}
 use Rattle.dc_row.proofs.Packed.{get_or-zeros}
 

@@ -14,7 +14,8 @@ use Rattle.dc_row.specs.Decoding.{EndsAt, IsRoomOf, byte_in, bytes_from}
 use Rattle.dc_row.specs.Narrow.{widened}
 use Rattle.dc_row.specs.Rooms.{padded}
 use Rattle.dc_row.specs.Spelling.{Spells, SpellsText, IsSpelled, fields, fields_of, is_path, text_word, word_at}
-use Rattle.dc_row.specs.declared.TheConstants.{ROW_WORDS, ROW_TEXT, ROW_ROOM}
+use Rattle.dc_names.specs.declared.limits.TheConstants.{ROW_WORDS, ROW_TEXT}
+use Rattle.dc_row.specs.declared.TheConstants.{ROW_ROOM}
 use Rattle.dc_row.proofs.Compared.{all_same}
 use Rattle.dc_row.proofs.Decoded.{byte_so}
 use Rattle.dc_row.proofs.Firsts.{wide_size, wide_word}

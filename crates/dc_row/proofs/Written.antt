@@ -5,7 +5,7 @@ use Rattle.std.proofs.lemmas.Grind.{common_steps}
 use Rattle.std.proofs.lemmas.List.{drop_all}
 use Rattle.dc_names.specs.Words.{word_of}
 use Rattle.dc_row.proofs.Packed.{get_or-zeros}
-use Rattle.dc_row.specs.declared.TheConstants.{ROW_WORDS}
+use Rattle.dc_names.specs.declared.limits.TheConstants.{ROW_WORDS}
 use Rattle.dc_row.specs.Spelling.{Fields, IsSpelled, head_of, word_at, text_word}
 
 pub word_at-text : (f : Fields) (i : ℕ) → 4 ≤ i → word_at f i ≡ text_word f.text (i - 4)

@@ -2,7 +2,7 @@
 use Rattle.std.specs.Prelude.{◌≡◌, ℕ, ◌+◌, ◌-◌, ◌/◌, ◌%◌, List, ◌++◌, min, length, take, replicate, slice_index, Some}
 use Rattle.dc_plain.specs.Facts.{Fact}
 use Rattle.dc_row.specs.Spelling.{Spells, fields_of}
-use Rattle.dc_row.specs.declared.TheConstants.{ROW_WORDS}
+use Rattle.dc_names.specs.declared.limits.TheConstants.{ROW_WORDS}
 use Rattle.dc_row.specs.declared.layout.TheConstants.{LENGTH_UNIT, LENGTHS}
 
 -- four words, and those that a text of this length takes

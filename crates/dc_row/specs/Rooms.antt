@@ -3,7 +3,8 @@ use Rattle.std.specs.Prelude.{ℕ, List, ◌≡◌, ◌-◌, ◌≤◌, ◌++◌
 use Rattle.std.proofs.Common.{length-take-le, subst, sym}
 use Rattle.std.proofs.Math.Nat.{le_trans, le-suc}
 use Rattle.dc_row.specs.declared.text.RowText.TheInside.{Inside}
-use Rattle.dc_row.specs.declared.TheConstants.{ROW_TEXT, ROW_ROOM}
+use Rattle.dc_names.specs.declared.limits.TheConstants.{ROW_TEXT}
+use Rattle.dc_row.specs.declared.TheConstants.{ROW_ROOM}
 
 abbrev pub text_in : Inside → List ℕ
 text_in t = take t.len t.room

@@ -3,7 +3,7 @@ use Rattle.std.specs.Prelude.{◌≡◌, ◌≢◌, ◌↔◌, ℕ, ◌-◌, ◌
 use Rattle.dc_plain.specs.Facts.{Key, label_bytes}
 use Rattle.dc_plain.specs.Facts.Label.{Text}
 use Rattle.dc_row.specs.Spelling.{TellsOf, text_word}
-use Rattle.dc_row.specs.declared.TheConstants.{ROW_WORDS}
+use Rattle.dc_names.specs.declared.limits.TheConstants.{ROW_WORDS}
 
 -- the words after the value are those of a text
 abbrev pub HasText : List ℕ → List ℕ → Type 0

@@ -7,7 +7,7 @@ use Rattle.dc_names.specs.declared.kind.Kind.TheVariants.{Dir, File, Link}
 use Rattle.dc_plain.specs.Facts.{Target, Label, Key, Fact, key_of, label_bytes}
 use Rattle.dc_plain.specs.Facts.Label.{Entry, Parent, Text}
 use Rattle.dc_plain.specs.Facts.Fact.{Leads, Reads}
-use Rattle.dc_row.specs.declared.TheConstants.{ROW_WORDS, ROW_TEXT}
+use Rattle.dc_names.specs.declared.limits.TheConstants.{ROW_WORDS, ROW_TEXT}
 use Rattle.dc_row.specs.declared.layout.TheConstants.{KIND_UNIT, LENGTH_UNIT}
 
 -- no place 0, a directory 1, a file 2, a link 3

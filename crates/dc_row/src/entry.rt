@@ -8,7 +8,7 @@ ghost use Rattle.dc_plain.specs.KeysShown.{key_shown};
 ghost use Rattle.dc_row.specs.Narrow.{widened};
 ghost use Rattle.dc_row.specs.Decoding.{target_by, EndsAt, HasBytes};
 ghost use Rattle.dc_row.specs.Spelling.{Spells, SpellsEntry, SpellsNoEntry, SpellsText, TellsOf, TellsText, entry_of, has_spelling, is_numbered, kind_code, target_number, fields, IsSpelled};
-ghost use Rattle.dc_row.specs.declared.TheConstants.{ROW_WORDS, ROW_TEXT};
+ghost use Rattle.dc_names.specs.declared.limits.TheConstants.{ROW_WORDS, ROW_TEXT};
 
 use crate::fields::word;
 use crate::reading::spelled_text;

@@ -13,7 +13,7 @@ mod short;
 mod text;
 mod writing;
 
-use dc_names::NAME_MAX;
+pub use dc_names::{ROW_TEXT, ROW_WORDS};
 pub use entry::{tells_by_first, tells_of, text_of};
 pub use fields::{kind, length, number, tag, value};
 pub use laws::{
@@ -27,12 +27,6 @@ pub use row::{Row, RowLabel};
 pub use short::{SHORT_TEXT, SHORT_WORDS, leads, short_words};
 pub use text::RowText;
 pub use writing::encode;
-
-/// How many words a row has.
-pub const ROW_WORDS: usize = 36;
-
-/// The most bytes that the text of a row has: as many as a name has.
-pub const ROW_TEXT: usize = NAME_MAX;
 
 /// How many bytes the words from the fourth on have.
 pub(crate) const ROW_ROOM: usize = 8 * (ROW_WORDS - 4);

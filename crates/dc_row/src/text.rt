@@ -2,7 +2,7 @@
 
 ghost use Rattle.std.specs.Prelude.{◌≡◌, ◌≤◌, ◌<◌, ℕ, List, length, take, IfSome, IfNone};
 ghost use Rattle.dc_row.specs.Rooms.{padded};
-ghost use Rattle.dc_row.specs.declared.TheConstants.{ROW_TEXT};
+ghost use Rattle.dc_names.specs.declared.limits.TheConstants.{ROW_TEXT};
 
 use crate::{ROW_ROOM, ROW_TEXT};
 use std::marker::Model;

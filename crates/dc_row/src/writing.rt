@@ -5,7 +5,7 @@ ghost use Rattle.dc_names.specs.Words.{AreBytes};
 ghost use Rattle.dc_plain.specs.Facts.Fact.{Reads};
 ghost use Rattle.dc_row.specs.Rows.{row_shown};
 ghost use Rattle.dc_row.specs.Spelling.{Spells, has_spelling, is_numbered, kind_code, target_number, text_word, fields, IsSpelled};
-ghost use Rattle.dc_row.specs.declared.TheConstants.{ROW_WORDS, ROW_TEXT};
+ghost use Rattle.dc_names.specs.declared.limits.TheConstants.{ROW_WORDS, ROW_TEXT};
 ghost use Rattle.dc_row.specs.declared.layout.TheConstants.{KIND_UNIT, LENGTH_UNIT};
 
 use crate::{KIND_UNIT, LENGTH_UNIT, ROW_WORDS, Row, RowLabel, RowText};

@@ -1,7 +1,7 @@
 //! Rows with keys, call by call.
 
 ghost use Rattle.std.specs.Prelude.{◌≡◌, ◌≢◌, ◌*◌, ◌/◌, ℕ, ◌<◌, ◌≤◌, IfOk, OnOk, IsTrue, length, not, true, slice_set};
-ghost use Rattle.dc_names.specs.declared.tables.TheConstants.{MOST_TABLE_BUCKETS};
+ghost use Rattle.dc_names.specs.declared.limits.TheConstants.{MOST_TABLE_BUCKETS};
 ghost use Rattle.dc_plain.specs.KeysShown.{key_shown};
 ghost use Rattle.dc_shrink.specs.Listings.{is_used};
 ghost use Rattle.dc_shrink.specs.Uses.{KeepsUse, SetsUse, UsesNone};

@@ -1,7 +1,7 @@
 //! Rows and the words that spell them.
 
 ghost use Rattle.std.specs.Prelude.{◌≤◌, ◌<◌};
-ghost use Rattle.dc_row.specs.declared.TheConstants.{ROW_WORDS};
+ghost use Rattle.dc_names.specs.declared.limits.TheConstants.{ROW_WORDS};
 
 use dc_names::{Kind, NAME_MAX, Name};
 use dc_plain::{Key, Label};

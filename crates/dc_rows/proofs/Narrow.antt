@@ -12,7 +12,8 @@ use Rattle.dc_plain.specs.Facts.Fact.{Leads, Reads}
 use Rattle.dc_plain.specs.Trees.{Tree}
 use Rattle.dc_row.specs.Narrow.{words_for}
 use Rattle.dc_row.specs.Spelling.{Fields, Spells, fields_of, has_room, has_spelling, text_word, word_at}
-use Rattle.dc_row.specs.declared.TheConstants.{EMPTY_ROW, ROW_WORDS, ROW_TEXT}
+use Rattle.dc_names.specs.declared.limits.TheConstants.{ROW_WORDS, ROW_TEXT}
+use Rattle.dc_row.specs.declared.TheConstants.{EMPTY_ROW}
 use Rattle.dc_index.specs.Slots.{Slot, slot_of, most_bytes}
 use Rattle.dc_index.specs.Slots.Slot.{Free, Retired, Holds as Held}
 use Rattle.dc_shrink.specs.Listings.{Listing}

@@ -1,7 +1,7 @@
 -- A row that was written whole can be opened.
 use Rattle.std.proofs.Common.{ℕ, ◌+◌, ◌<◌, ◌≤◌, ◌%◌, List, sym, ap, ◌∙◌, subst, arith}
 use Rattle.dc_plain.specs.Trees.{Tree}
-use Rattle.dc_row.specs.declared.TheConstants.{ROW_WORDS}
+use Rattle.dc_names.specs.declared.limits.TheConstants.{ROW_WORDS}
 use Rattle.dc_events.specs.Rows.{most, count, row_words}
 use Rattle.dc_table.specs.Changes.{tree_now, words_of}
 use Rattle.dc_table.specs.Passes.{Pass, view, share, CanWrite, CanOpen}

@@ -8,7 +8,8 @@ use Rattle.dc_plain.specs.Facts.{Key}
 use Rattle.dc_plain.specs.Trees.{Tree}
 use Rattle.dc_row.specs.Spelling.{Spells}
 use Rattle.dc_row.specs.Narrow.{told_words, RowsEndInZeros}
-use Rattle.dc_row.specs.declared.TheConstants.{EMPTY_ROW, ROW_WORDS}
+use Rattle.dc_names.specs.declared.limits.TheConstants.{ROW_WORDS}
+use Rattle.dc_row.specs.declared.TheConstants.{EMPTY_ROW}
 use Rattle.dc_index.specs.Slots.{Slot, slot_of, has_key}
 use Rattle.dc_index.specs.Slots.Slot.{Free, Retired, Holds as Held}
 use Rattle.dc_shrink.specs.Listings.{Listing, is_in, last_of, pins_of}

@@ -2,7 +2,8 @@
 use Rattle.std.specs.Prelude.{◌≡◌, ◌≢◌, ◌⊎◌, ◌↔◌, ℕ, ◌+◌, ◌<◌, ◌≤◌, Bool, true, false, if◌then◌else◌, List, length, get_or, slice_set}
 use Rattle.dc_plain.specs.Facts.{Key}
 use Rattle.dc_plain.specs.Trees.{Tree}
-use Rattle.dc_row.specs.declared.TheConstants.{ROW_WORDS, EMPTY_ROW}
+use Rattle.dc_names.specs.declared.limits.TheConstants.{ROW_WORDS}
+use Rattle.dc_row.specs.declared.TheConstants.{EMPTY_ROW}
 use Rattle.dc_index.specs.Slots.{Slot, slot_of}
 use Rattle.dc_index.specs.Slots.Slot.{Free, Retired, Holds as Held}
 use Rattle.dc_shrink.specs.Listings.{Listing, dropped}

@@ -1,7 +1,7 @@
 -- The first words of a row, past which nothing needs to be written.
 use Rattle.std.specs.Prelude.{◌≡◌, ℕ, ◌<◌, ◌≤◌, List, min, get_or}
 use Rattle.dc_row.specs.Narrow.{words_for}
-use Rattle.dc_row.specs.declared.TheConstants.{ROW_WORDS}
+use Rattle.dc_names.specs.declared.limits.TheConstants.{ROW_WORDS}
 use Rattle.dc_index.specs.Slots.{Slot, slot_of, most_text}
 use Rattle.dc_events.specs.Rows.{row_words}
 use Rattle.dc_table.specs.Rows.{cell}

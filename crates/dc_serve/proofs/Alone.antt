@@ -11,7 +11,7 @@ use Rattle.dc_events.specs.Legal.{Merges, Runs}
 use Rattle.dc_events.specs.Standing.{weight}
 use Rattle.dc_events.specs.Views.{Record}
 use Rattle.dc_lang.specs.Commands.{Order}
-use Rattle.dc_lang.specs.declared.TheConstants.{SESSIONS}
+use Rattle.dc_names.specs.declared.limits.TheConstants.{SESSIONS}
 use Rattle.dc_lang.specs.Replies.{reply_text}
 use Rattle.dc_plain.specs.Runs.{alters, reply_of, tree_after}
 use Rattle.dc_plain.specs.Trees.{Tree, empty_tree}

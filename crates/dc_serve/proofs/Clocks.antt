@@ -5,12 +5,10 @@ use Rattle.std.proofs.lemmas.List.{length-append}
 use Rattle.std.proofs.Math.Nat.{le_refl}
 use Rattle.dc_lang.specs.Commands.{Order, Meaning}
 use Rattle.dc_lang.specs.Commands.Meaning.{Sync, Orders}
-use Rattle.dc_lang.specs.declared.TheConstants.{SESSIONS}
-use Rattle.dc_names.specs.declared.limits.TheConstants.{MOST_COUNT}
+use Rattle.dc_names.specs.declared.limits.TheConstants.{MOST_COUNT, SESSIONS, MOST_INPUT}
 use Rattle.dc_lang.specs.Inputs.{AllSay}
 use Rattle.dc_lang.specs.Lines.{lines_of}
 use Rattle.dc_lang.specs.Phases.{by_session, in_order, is_sync, of_session, of_sessions, orders_in, phases}
-use Rattle.dc_serve.specs.declared.TheConstants.{MOST_BYTES}
 
 length_kept : {X : Type 0} (p : X → Bool) (xs : List X) → length (filter p xs) ≤ length xs
 length_kept p [] = omega arith
@@ -73,7 +71,7 @@ says-length (line ∷ lines) [] all = absurd all
 says-length (line ∷ lines) (one ∷ said) all = let rest = says-length lines said all.1 in omega arith
 
 -- a whole input has fewer orders than the clock may count
-pub never_spent : (input : List ℕ) (said : List Meaning) → length input ≤ MOST_BYTES → AllSay (lines_of input) said → MOST_COUNT ≤ length (in_order (phases said)) → ⊥
+pub never_spent : (input : List ℕ) (said : List Meaning) → length input ≤ MOST_INPUT → AllSay (lines_of input) said → MOST_COUNT ≤ length (in_order (phases said)) → ⊥
 never_spent input said fits says spent =
     let orders = in_order-length (slice_split is_sync said) in
     let parts = split-total said in

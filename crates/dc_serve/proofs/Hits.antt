@@ -7,7 +7,7 @@ use Rattle.std.specs.List.{flat_map}
 use Rattle.dc_events.specs.Rule.{once_below}
 use Rattle.dc_events.specs.Standing.{Rising, after, all_hits, ends, hit, hits, weight}
 use Rattle.dc_events.specs.Views.{Record}
-use Rattle.dc_lang.specs.declared.TheConstants.{SESSIONS}
+use Rattle.dc_names.specs.declared.limits.TheConstants.{SESSIONS}
 use Rattle.dc_plain.specs.Requests.{Request}
 use Rattle.dc_serve.specs.Sessions.{AllRise, present, some_of}
 use Rattle.dc_serve.specs.Turns.{Turn, all_of, strand, strands}

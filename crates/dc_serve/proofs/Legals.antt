@@ -10,7 +10,7 @@ use Rattle.dc_events.specs.Rule.{once_below}
 use Rattle.dc_events.specs.Standing.{Rising, after, all_hits, ends, hits}
 use Rattle.dc_events.specs.Views.{Record}
 use Rattle.dc_lang.specs.Commands.{Order}
-use Rattle.dc_lang.specs.declared.TheConstants.{SESSIONS}
+use Rattle.dc_names.specs.declared.limits.TheConstants.{SESSIONS}
 use Rattle.dc_plain.specs.Requests.{Request}
 use Rattle.dc_plain.specs.Trees.{Tree}
 use Rattle.dc_table.specs.Ends.{Ends}

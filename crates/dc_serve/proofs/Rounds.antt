@@ -6,7 +6,7 @@ use Rattle.std.specs.Borrow.{Bor}
 use Rattle.std.specs.List.{flat_map}
 use Rattle.std.specs.Io.KnownBytes.{Appends}
 use Rattle.dc_events.specs.Views.{Book}
-use Rattle.dc_lang.specs.declared.TheConstants.{SESSIONS}
+use Rattle.dc_names.specs.declared.limits.TheConstants.{SESSIONS}
 use Rattle.dc_lang.specs.declared.line.Line.{Line}
 use Rattle.dc_lang.specs.Commands.{Order}
 use Rattle.dc_table.specs.Shares.{Known}

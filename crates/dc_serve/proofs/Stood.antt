@@ -8,7 +8,7 @@ use Rattle.std.proofs.lemmas.List.{length-take}
 use Rattle.std.specs.List.{flat_map}
 use Rattle.dc_events.specs.Standing.{Rising, Stands, after, ends, tree_of, weight}
 use Rattle.dc_events.specs.Views.{Record}
-use Rattle.dc_lang.specs.declared.TheConstants.{SESSIONS}
+use Rattle.dc_names.specs.declared.limits.TheConstants.{SESSIONS}
 use Rattle.dc_plain.specs.Requests.{Request}
 use Rattle.dc_plain.specs.Runs.{alters, reply_of}
 use Rattle.dc_serve.specs.Sessions.{present, some_of}

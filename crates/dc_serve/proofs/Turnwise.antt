@@ -10,7 +10,7 @@ use Rattle.dc_events.specs.Legal.{Runs}
 use Rattle.dc_events.specs.Standing.{Rising, all_hits, ends, hits}
 use Rattle.dc_events.specs.Views.{Record}
 use Rattle.dc_lang.specs.Commands.{Order}
-use Rattle.dc_lang.specs.declared.TheConstants.{SESSIONS}
+use Rattle.dc_names.specs.declared.limits.TheConstants.{SESSIONS}
 use Rattle.dc_plain.specs.Requests.{Request}
 use Rattle.dc_plain.specs.Trees.{empty_tree}
 use Rattle.dc_lang.specs.Phases.{by_session, in_order}

@@ -3,14 +3,13 @@ use Rattle.std.specs.Prelude.{◌≡◌, ℕ, ◌≤◌, List, ◌++◌, length,
 use Rattle.std.specs.Io.KnownBytes.{Consumes, IsAtEnd, Appends}
 use Rattle.dc_serve.specs.declared.fault.ServeFault.{ServeFault}
 use Rattle.dc_serve.specs.declared.fault.ServeFault.TheVariants.{Read, NoMemory, Spent, Write}
-use Rattle.dc_names.specs.declared.limits.TheConstants.{MOST_COUNT}
-use Rattle.dc_serve.specs.declared.TheConstants.{MOST_BYTES}
+use Rattle.dc_names.specs.declared.limits.TheConstants.{MOST_COUNT, MOST_INPUT}
 
--- an input of at most MOST_BYTES was read up to its end
+-- an input of at most MOST_INPUT was read up to its end
 pub record ReadWhole (before after : Option (List ℕ)) (input : List ℕ) : Type 0 where
   pub consumed : Consumes before after input
   pub ended : IsAtEnd after
-  pub fits : length input ≤ MOST_BYTES
+  pub fits : length input ≤ MOST_INPUT
 
 -- reading ends with these faults alone
 abbrev pub IsReadFault : ServeFault → Type 0

@@ -4,8 +4,7 @@ use Rattle.std.specs.Io.KnownBytes.{Appends}
 use Rattle.std.specs.List.{flat_map}
 use Rattle.dc_events.specs.Views.{Record}
 use Rattle.dc_lang.specs.Commands.{Order}
-use Rattle.dc_lang.specs.declared.TheConstants.{SESSIONS}
-use Rattle.dc_names.specs.declared.limits.TheConstants.{MOST_COUNT}
+use Rattle.dc_names.specs.declared.limits.TheConstants.{MOST_COUNT, SESSIONS}
 use Rattle.dc_table.specs.Shares.{IsWhole, Known}
 use Rattle.dc_serve.specs.Bytes.{AppendsFront}
 use Rattle.dc_lang.specs.Phases.{by_session, in_order}

@@ -7,7 +7,7 @@ use Rattle.dc_events.specs.Views.{Record}
 use Rattle.dc_lang.specs.Commands.{Order, request_from}
 use Rattle.dc_lang.specs.Replies.{reply_text}
 use Rattle.dc_lang.specs.Spans.{InPhases, Span}
-use Rattle.dc_lang.specs.declared.TheConstants.{SESSIONS}
+use Rattle.dc_names.specs.declared.limits.TheConstants.{SESSIONS}
 use Rattle.dc_lang.specs.Phases.{by_session}
 use Rattle.dc_lang.specs.Bases.{bases_after, first_bases}
 

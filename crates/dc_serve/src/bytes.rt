@@ -4,12 +4,10 @@ ghost use Rattle.std.specs.Prelude.{OnOk, IfOk, IfErr};
 ghost use Rattle.std.specs.Io.KnownBytes.{Appends};
 ghost use Rattle.dc_serve.specs.Bytes.{ReadWhole, IsReadFault, WritesFront};
 
-use crate::{MOST_BYTES, ServeFault};
+use crate::{MOST_INPUT, ServeFault};
+use dc_names::MOST_READS;
 use std::alloc::Global;
 use std::io::{Read, Write};
-
-/// How many reads are made at most: one for each byte, one more that finds the end, and one to spare.
-const MOST_READS: u32 = 1_048_578;
 
 /// All bytes of the input, by reads up to one that gives none.
 pub fn read_whole<R: Read>(alloc: Global, reader: &mut R) -> Result<Vec<u8>, ServeFault>
@@ -28,7 +26,7 @@ pub fn read_whole<R: Read>(alloc: Global, reader: &mut R) -> Result<Vec<u8>, Ser
         if count == 0 {
             return Ok(input);
         }
-        if count > MOST_BYTES - input.len() {
+        if count > MOST_INPUT - input.len() {
             return Err(ServeFault::Read);
         }
         input.extend_from_slice(&buffer[..count])?;

@@ -18,12 +18,10 @@ mod stats;
 mod status;
 
 pub use command_line::options;
+pub use dc_names::MOST_INPUT;
 pub use fault::{OptionsFault, ServeFault};
 pub use gate::{FreeGate, Gate, Looked};
 pub use laws::{one_session_is_answered_plainly, replies_are_those_of_a_run};
 pub use running::{run, understand};
 pub use sizes::Options;
 pub use stats::Stats;
-
-/// The most bytes that an input may have.
-pub const MOST_BYTES: usize = 1_048_576;

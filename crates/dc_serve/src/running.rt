@@ -18,7 +18,7 @@ use std::thread::Threads;
 /// 1,048,578 reads, and each of its lines. It has no handle, so it waits for nobody and is proved to
 /// return, whatever the reader does. `BadSize` comes exactly where a size is wrong, and `BadLine` of the
 /// first line that is none of the grammar. `Read` is for a read that fails and an input of more than
-/// `MOST_BYTES` bytes, `NoMemory` for memory that was refused: no clause says when these two come.
+/// `MOST_INPUT` bytes, `NoMemory` for memory that was refused: no clause says when these two come.
 pub fn understand<R: Read>(
     alloc: Global,
     reader: &mut R,
@@ -45,7 +45,7 @@ pub fn understand<R: Read>(
 /// The clauses say what is written then, whichever the answer is, and of the faults: `BadSize` comes
 /// exactly where a size is wrong, before anything is read; `BadLine` of the first bad line of an input
 /// that was read whole; `Spent` never. When `Read`, `Write` and `NoMemory` come isn't said: `Read` is
-/// for a read that fails and an input of more than `MOST_BYTES` bytes, `Write` for a write that fails or
+/// for a read that fails and an input of more than `MOST_INPUT` bytes, `Write` for a write that fails or
 /// takes nothing and a flush that fails, `NoMemory` for memory or a thread that was refused.
 pub fn run<T: Threads + Wait + Sync, R: Read, W: Write, G: Gate>(
     rt: &T,

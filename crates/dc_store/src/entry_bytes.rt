@@ -3,15 +3,19 @@
 ghost use Rattle.std.specs.Prelude.{◌≡◌, ℕ, ◌+◌, ◌≤◌, List, ◌++◌, take, drop, length, is_some, option_map, IfOk};
 ghost use Rattle.dc_store.specs.Keys.{key_of, name_held};
 ghost use Rattle.dc_plain.specs.Spots.{spot_at};
+ghost use Rattle.dc_store.specs.declared.entry_bytes.TheConstants.{MOST_KEY};
 
-use dc_names::{Name, NoMemory};
+use dc_names::{NAME_MAX, Name, NoMemory};
 use std::alloc::Global;
 use std::marker::Model;
+
+/// The most of these bytes.
+const MOST_KEY: usize = 8 + NAME_MAX;
 
 /// The bytes that an entry is kept under. Making them takes no memory.
 #[derive(Drop)]
 pub struct EntryBytes {
-    bytes: [u8; 263],
+    bytes: [u8; MOST_KEY],
     len: usize,
 }
 
@@ -20,7 +24,7 @@ impl Model for EntryBytes {
 
     ghost view = { λ key. take key.len key.bytes };
 
-    ghost invariant = { λ key. key.len ≤ 263 };
+    ghost invariant = { λ key. key.len ≤ MOST_KEY };
 }
 
 impl EntryBytes {
@@ -29,7 +33,7 @@ impl EntryBytes {
         ensures { result ≡ key_of (spot_at dir name.entry.bytes.now) }
     {
         let name = name.bytes();
-        let mut bytes = [0; 263];
+        let mut bytes = [0; MOST_KEY];
         put_at(&mut bytes, 0, &dir.to_be_bytes());
         put_at(&mut bytes, 8, name);
         EntryBytes {

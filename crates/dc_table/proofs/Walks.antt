@@ -10,7 +10,7 @@ use Rattle.atomic_table.proofs.Lists.{set_again, set_here}
 use Rattle.dc_plain.specs.Requests.{Request}
 use Rattle.dc_events.specs.Views.{View, Note}
 use Rattle.dc_events.specs.Views.Fault.{Busy, Changed}
-use Rattle.dc_row.specs.declared.TheConstants.{ROW_WORDS}
+use Rattle.dc_names.specs.declared.limits.TheConstants.{ROW_WORDS}
 use Rattle.dc_events.specs.Rows.{Tells, base_of, count, note_words, row_words, words_from}
 use Rattle.dc_events.specs.Standing.{tree_of}
 use Rattle.dc_events.specs.Rule.{Rule}

@@ -3,7 +3,7 @@ use Rattle.std.specs.Prelude.{◌≡◌, ℕ, ◌%◌, ◌<◌, true, false, [],
 use Rattle.atomic_table.specs.declared.shared.Seat.{Seat}
 use Rattle.dc_plain.specs.Requests.{Request}
 use Rattle.dc_plain.specs.Runs.{alters}
-use Rattle.dc_row.specs.declared.TheConstants.{ROW_WORDS}
+use Rattle.dc_names.specs.declared.limits.TheConstants.{ROW_WORDS}
 use Rattle.dc_events.specs.Views.{View}
 use Rattle.dc_events.specs.Standing.{tree_of}
 use Rattle.dc_events.specs.Rows.{most, count, row_words, IsUntouched}

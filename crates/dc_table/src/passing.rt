@@ -3,7 +3,7 @@
 ghost use Rattle.std.specs.Prelude.{◌≡◌, ◌*◌, ◌/◌, ◌≤◌, ◌↔◌, false, Err, IfOk, IfSome, IsSome};
 ghost use Rattle.dc_names.specs.Sizes.{are_right};
 ghost use Rattle.dc_names.specs.Tables.{fit_a_table};
-ghost use Rattle.dc_names.specs.declared.tables.TheConstants.{MOST_TABLE_BUCKETS};
+ghost use Rattle.dc_names.specs.declared.limits.TheConstants.{MOST_TABLE_BUCKETS};
 ghost use Rattle.dc_names.specs.declared.sizes.MakeFault.TheVariants.{BadSize};
 ghost use Rattle.dc_table.specs.Ends.{Ends};
 ghost use Rattle.dc_table.specs.Kept.{IsNew};

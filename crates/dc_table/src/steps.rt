@@ -6,7 +6,7 @@ ghost use Rattle.dc_events.specs.Rows.{base_of};
 ghost use Rattle.dc_events.specs.Standing.{tree_of};
 ghost use Rattle.dc_plain.specs.Requests.{request_of};
 ghost use Rattle.dc_plain.specs.Runs.{alters};
-ghost use Rattle.dc_row.specs.declared.TheConstants.{ROW_WORDS as row_words};
+ghost use Rattle.dc_names.specs.declared.limits.TheConstants.{ROW_WORDS as row_words};
 ghost use Rattle.dc_table.specs.Holders.{pass_of, answered_by, committed_by, next_count, Freed, Locked, MayAnswer, Missed, Raises, StaysAsIs, StaysHeld, TriedOnce};
 ghost use Rattle.dc_table.specs.Passes.{known, view, share, Fits, IsSamePass, IsIdle, IsHolder, CanShut, CanPut, CanOpen, CanCommit};
 ghost use Rattle.dc_table.specs.Plays.{Took, Home};

@@ -27,9 +27,7 @@ use Rattle.dc_walk.specs.declared.rows.Rows.{Rows}
 use Rattle.dc_walk.specs.declared.why.Why as rust_why
 use Rattle.dc_walk.specs.declared.why.Why.TheVariants as whys
 use Rattle.dc_walk.specs.Rooms.{Used}
-use Rattle.dc_names.specs.declared.limits.TheConstants.{BUCKET_ROWS}
-use Rattle.dc_row.specs.declared.TheConstants.{ROW_WORDS}
-use Rattle.dc_walk.specs.declared.TheConstants.{MOST_USED, MOST_LOADS}
+use Rattle.dc_names.specs.declared.limits.TheConstants.{BUCKET_ROWS, ROW_WORDS, MOST_USED, MOST_LOADS}
 use Rattle.dc_walk.proofs.Checks.{begins_book}
 use Rattle.dc_walk.proofs.Sighted.{outcome_same}
 use Rattle.dc_walk.proofs.Told.{told_itself}

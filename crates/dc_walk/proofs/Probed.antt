@@ -4,7 +4,7 @@ use Rattle.std.proofs.Math.Seq.{get_or-append_seam, set-append_seam, take-suc-se
 use Rattle.std.proofs.lemmas.List.{drop-set-add, get_or-set_same, take-set-le}
 use mathlib.Core.Option.{some}
 use lib.ListN.{get_elem?}
-use Rattle.dc_row.specs.declared.TheConstants.{ROW_WORDS}
+use Rattle.dc_names.specs.declared.limits.TheConstants.{ROW_WORDS}
 use Rattle.dc_events.specs.Views.{View, Note}
 use Rattle.dc_events.specs.Effects.{noted, read}
 use Rattle.dc_events.specs.Walks.{no_note, extended}

@@ -20,8 +20,7 @@ use Rattle.dc_walk.specs.Sources.{IsUntried}
 use Rattle.dc_walk.specs.Findings.{SameRows, IsFinding, now_in, uses_in, outcome_in, said_in, buckets_of, spent}
 use Rattle.dc_walk.specs.Sights.{Answers}
 use Rattle.dc_walk.specs.declared.rows.Rows.{Rows}
-use Rattle.dc_names.specs.declared.limits.TheConstants.{BUCKET_ROWS}
-use Rattle.dc_walk.specs.declared.TheConstants.{MOST_USED}
+use Rattle.dc_names.specs.declared.limits.TheConstants.{BUCKET_ROWS, MOST_USED}
 use Rattle.dc_walk.specs.declared.why.Why as rust_why
 use Rattle.dc_walk.specs.declared.why.Why.TheVariants as whys
 use Rattle.dc_walk.specs.Finds.{use_shown, told_in}

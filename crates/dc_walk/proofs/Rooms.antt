@@ -10,7 +10,7 @@ use Rattle.std.specs.List.{list_any}
 use Rattle.dc_names.specs.Bytes.{is_empty, pieces}
 use Rattle.dc_names.specs.Paths.{Part, bytes_of, fault_of, is_long}
 use Rattle.dc_names.specs.Paths.Part.{Name, Dot, DotDot}
-use Rattle.dc_names.specs.declared.limits.TheConstants.{NAME_MAX, PATH_MAX}
+use Rattle.dc_names.specs.declared.limits.TheConstants.{NAME_MAX, PATH_MAX, ROW_WORDS, ROW_TEXT, MOST_USED_BYTES, MOST_USED}
 use Rattle.dc_names.specs.declared.fault.TextFault.TheVariants.{Empty, Long, Zero}
 use Rattle.dc_plain.specs.Facts.{Fact, Key, key_of}
 use Rattle.dc_plain.specs.Facts.Label.{Entry, Parent, Text}
@@ -18,8 +18,6 @@ use Rattle.dc_plain.specs.Facts.Fact.{Leads, Reads}
 use Rattle.dc_row.specs.Narrow.{told_words, widened, RowsEndInZeros}
 use Rattle.dc_row.specs.Spelling.{fields_of, has_room, has_spelling, TellsOf}
 use Rattle.dc_resolve.specs.Asked.{label_of}
-use Rattle.dc_row.specs.declared.TheConstants.{ROW_WORDS, ROW_TEXT}
-use Rattle.dc_walk.specs.declared.TheConstants.{MOST_BYTES, MOST_USED}
 use Rattle.dc_walk.specs.Rooms.{kept_in, key_bytes, no_place, no_use, stored_at, used_at, used_in, HasWords, IsBelow, IsRoom, Keeps, Kept, Used}
 use Rattle.dc_walk.specs.declared.used.Stored.{Stored}
 
@@ -69,7 +67,7 @@ key_size law key {words} tells =
     let text : length (fields_of (Some tells.fact)).text ≤ key_bytes key.label = subst (λ (k : Key). length (fields_of (Some tells.fact)).text ≤ key_bytes k.label) tells.about (text_size tells.fact tells.spelled.allowed) in
     omega arith
 
-pub has_room_for : (r : Kept) (n : ℕ) (key : Key) → 8 * n ≤ 40 + key_bytes key.label → length r.items < MOST_USED → HasWords r (key_bytes key.label) → 8 * (r.spent + n) ≤ 40 * MOST_USED + MOST_BYTES
+pub has_room_for : (r : Kept) (n : ℕ) (key : Key) → 8 * n ≤ 40 + key_bytes key.label → length r.items < MOST_USED → HasWords r (key_bytes key.label) → 8 * (r.spent + n) ≤ 40 * MOST_USED + MOST_USED_BYTES
 has_room_for r n key size some has = omega arith
 
 pub kept_so : (r s : Kept) (key : Key) (n : ℕ) → 8 * n ≤ 40 + key_bytes key.label → length s.items ≡ length r.items + 1 → s.spent ≡ r.spent + n → Keeps r s (key_bytes key.label)

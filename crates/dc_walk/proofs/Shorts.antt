@@ -8,7 +8,7 @@ use Rattle.std.specs.Int.Bits.{or_zero_l, xor_add_and, xor_self}
 use Rattle.dc_plain.specs.Facts.{Fact, Key, Label, key_of, label_bytes}
 use Rattle.dc_plain.specs.Facts.Label.{Entry, Parent, Text}
 use Rattle.dc_plain.specs.Facts.Fact.{Leads, Reads}
-use Rattle.dc_row.specs.declared.TheConstants.{ROW_WORDS}
+use Rattle.dc_names.specs.declared.limits.TheConstants.{ROW_WORDS}
 use Rattle.dc_row.specs.declared.short.TheConstants.{SHORT_TEXT, SHORT_WORDS}
 use Rattle.dc_row.specs.Short.{HasHead, HasText}
 use Rattle.dc_row.specs.Spelling.{fields_of, text_word}

@@ -10,9 +10,7 @@ use Rattle.dc_resolve.specs.Needs.{IsUntold}
 use Rattle.dc_events.specs.Views.{View, Fault}
 use Rattle.dc_events.specs.Views.Fault.{Busy}
 use Rattle.dc_events.specs.Effects.{faulted}
-use Rattle.dc_row.specs.declared.TheConstants.{ROW_WORDS}
-use Rattle.dc_names.specs.declared.limits.TheConstants.{BUCKET_ROWS}
-use Rattle.dc_walk.specs.declared.TheConstants.{MOST_USED}
+use Rattle.dc_names.specs.declared.limits.TheConstants.{BUCKET_ROWS, ROW_WORDS, MOST_USED}
 use Rattle.dc_walk.specs.Looks.{look_shown, outcome_of}
 use Rattle.dc_walk.specs.Probes.{probed, fresh_note}
 use Rattle.dc_walk.specs.Uses.{Use}

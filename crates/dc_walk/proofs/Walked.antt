@@ -9,8 +9,7 @@ use Rattle.dc_row.specs.Spelling.{Spells}
 use Rattle.dc_events.specs.Views.{View, Note, Fault}
 use Rattle.dc_events.specs.Views.Fault.{Busy}
 use Rattle.dc_events.specs.Effects.{faulted}
-use Rattle.dc_row.specs.declared.TheConstants.{ROW_WORDS}
-use Rattle.dc_names.specs.declared.limits.TheConstants.{BUCKET_ROWS}
+use Rattle.dc_names.specs.declared.limits.TheConstants.{BUCKET_ROWS, ROW_WORDS}
 use Rattle.dc_walk.specs.Probes.{probed, fresh_note}
 use Rattle.dc_walk.specs.Uses.{Use, IsNew, facts_of, NeedsEach, DiffersEach}
 use Rattle.dc_walk.specs.Asking.{IsWalk, IsOther}

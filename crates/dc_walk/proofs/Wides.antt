@@ -2,7 +2,7 @@
 use Rattle.std.proofs.Common.{◌≡◌, ℕ, zero, suc, ◌+◌, ◌-◌, ◌/◌, ◌%◌, ◌<◌, ◌≤◌, ◌↔◌, List, [], ◌∷◌, ◌++◌, min, length, length-append, length-take-le, get_or, take, drop, replicate, refl, ap, sym, ◌∙◌, arith}
 use Rattle.std.proofs.lemmas.List.{get_or_append_left, get_or-append_right, get_or-replicate, get_or-take}
 use Rattle.dc_row.specs.Narrow.{told_words, widened, words_for}
-use Rattle.dc_row.specs.declared.TheConstants.{ROW_WORDS}
+use Rattle.dc_names.specs.declared.limits.TheConstants.{ROW_WORDS}
 use Rattle.dc_row.specs.declared.layout.TheConstants.{LENGTH_UNIT, LENGTHS}
 use Rattle.dc_events.specs.Views.{View}
 use Rattle.dc_walk.specs.Probes.{probed, read_of, seen_whole, AreZero}

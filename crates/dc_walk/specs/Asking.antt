@@ -4,13 +4,12 @@ use Rattle.std.specs.List.{Contains}
 use Rattle.dc_plain.specs.Facts.{Fact, Key, Teller, told_by}
 use Rattle.dc_plain.specs.Resolution.{Outcome}
 use Rattle.dc_row.specs.Spelling.{Spells, TellsOf}
-use Rattle.dc_row.specs.declared.TheConstants.{ROW_WORDS}
 use Rattle.dc_resolve.specs.Needs.{IsNeeded, IsUntold}
 use Rattle.dc_index.specs.Slots.{bucket_of}
 use Rattle.dc_events.specs.Views.{View, Note, Fault}
 use Rattle.dc_events.specs.Rows.{note_words, IsWhole}
 use Rattle.dc_walk.specs.Uses.{Use, Marked, NeedsEach, DiffersEach, facts_of}
-use Rattle.dc_names.specs.declared.limits.TheConstants.{BUCKET_ROWS}
+use Rattle.dc_names.specs.declared.limits.TheConstants.{BUCKET_ROWS, ROW_WORDS}
 
 -- a walk that has looked at k rows for its present question: each question cost the rows of a bucket at most, each row a load for each word
 pub record IsWalk (outcome : Teller → Option Outcome) (v : View) (uses : List Use) (k : ℕ) : Type 0 where

@@ -12,8 +12,7 @@ use Rattle.dc_walk.specs.Causes.{HasCause}
 use Rattle.dc_walk.specs.Sources.{IsUntried}
 use Rattle.dc_walk.specs.Unpins.{PinsInTurn, rows_used, with_spare}
 use Rattle.dc_walk.specs.Findings.{SameRows, IsFinding, now_in, outcome_in, said_in, buckets_of, spent}
-use Rattle.dc_names.specs.declared.limits.TheConstants.{BUCKET_ROWS}
-use Rattle.dc_walk.specs.declared.TheConstants.{MOST_USED}
+use Rattle.dc_names.specs.declared.limits.TheConstants.{BUCKET_ROWS, MOST_USED}
 use Rattle.dc_walk.specs.declared.rows.Rows.{Rows}
 
 -- it is the same walk still, and nothing is recorded; nor is anything seen where no lock is taken

@@ -12,7 +12,7 @@ use Rattle.dc_table.specs.Changes.{NothingNew}
 use Rattle.dc_walk.specs.Settling.{noted_in}
 use Rattle.dc_walk.specs.Looks.{outcome_by}
 use Rattle.dc_walk.specs.Causes.{HasCause}
-use Rattle.dc_walk.specs.declared.TheConstants.{MOST_LOADS}
+use Rattle.dc_names.specs.declared.limits.TheConstants.{MOST_LOADS}
 use Rattle.dc_walk.specs.declared.why.Why as rust_why
 use Rattle.dc_walk.specs.declared.answer.Fast as rust_fast
 use Rattle.dc_walk.specs.declared.answer.Fast.TheVariants as fasts

@@ -12,8 +12,7 @@ use Rattle.dc_walk.specs.Looks.{look_shown, outcome_of}
 use Rattle.dc_walk.specs.Uses.{Use}
 use Rattle.dc_walk.specs.Asking.{IsWalk}
 use Rattle.dc_walk.specs.Finds.{use_shown, told_in, AllSpelled, AllInside, AllHeld}
-use Rattle.dc_names.specs.declared.limits.TheConstants.{BUCKET_ROWS}
-use Rattle.dc_walk.specs.declared.TheConstants.{MOST_USED}
+use Rattle.dc_names.specs.declared.limits.TheConstants.{BUCKET_ROWS, MOST_USED}
 use Rattle.dc_walk.specs.declared.rows.Rows.{Rows}
 use Rattle.dc_walk.specs.declared.look.Look.{Look}
 

@@ -5,7 +5,7 @@ use Rattle.dc_plain.specs.Facts.Label.{Entry, Parent, Text}
 use Rattle.dc_row.specs.Narrow.{told_words}
 use Rattle.dc_row.specs.Spelling.{TellsOf, text_word}
 use Rattle.dc_plain.specs.Requests.{Request}
-use Rattle.dc_row.specs.declared.TheConstants.{ROW_WORDS}
+use Rattle.dc_names.specs.declared.limits.TheConstants.{ROW_WORDS}
 use Rattle.dc_row.specs.declared.short.TheConstants.{SHORT_TEXT, SHORT_WORDS}
 use Rattle.dc_events.specs.Views.{Note, Walk, View}
 use Rattle.dc_table.specs.Passes.{Pass, view}

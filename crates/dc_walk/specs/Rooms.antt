@@ -4,8 +4,8 @@ use Rattle.std.proofs.Common.{arith}
 use Rattle.dc_plain.specs.Facts.{Label}
 use Rattle.dc_plain.specs.Facts.Label.{Entry, Parent, Text}
 use Rattle.dc_row.specs.Narrow.{widened}
-use Rattle.dc_row.specs.declared.TheConstants.{ROW_WORDS, ROW_TEXT}
-use Rattle.dc_walk.specs.declared.TheConstants.{MOST_USED, MOST_BYTES, ROOM_WORDS}
+use Rattle.dc_names.specs.declared.limits.TheConstants.{ROW_WORDS, ROW_TEXT, MOST_USED, MOST_USED_BYTES}
+use Rattle.dc_walk.specs.declared.TheConstants.{ROOM_WORDS}
 use Rattle.dc_walk.specs.declared.used.Stored.{Stored}
 
 -- a row that answered a question: the place of its note among those of the walk, and its words, the count first
@@ -64,7 +64,7 @@ key_bytes Text = ROW_TEXT
 
 -- a room has words for rows of so many bytes more
 abbrev pub HasWords : Kept → ℕ → Type 0
-HasWords r n = 8 * r.spent + n ≤ 40 * length r.items + MOST_BYTES
+HasWords r n = 8 * r.spent + n ≤ 40 * length r.items + MOST_USED_BYTES
 
 -- rows of so many bytes at most were kept
 abbrev pub Keeps : Kept → Kept → ℕ → Type 0

@@ -15,9 +15,7 @@ use Rattle.dc_walk.specs.Becomings.{Between}
 use Rattle.dc_walk.specs.Fasts.{GaveUp, Keeps, IfAgain, Tried}
 use Rattle.dc_walk.specs.Looks.{look_shown, outcome_of}
 use Rattle.dc_walk.specs.Settling.{Came, Settled}
-use Rattle.dc_names.specs.declared.limits.TheConstants.{BUCKET_ROWS}
-use Rattle.dc_row.specs.declared.TheConstants.{ROW_WORDS}
-use Rattle.dc_walk.specs.declared.TheConstants.{MOST_LOADS}
+use Rattle.dc_names.specs.declared.limits.TheConstants.{BUCKET_ROWS, ROW_WORDS, MOST_LOADS}
 use Rattle.dc_walk.specs.declared.look.Look.{Look}
 use Rattle.dc_walk.specs.declared.why.Why.{Why}
 use Rattle.dc_walk.specs.declared.answer.Fast.{Fast}

@@ -11,8 +11,7 @@ ghost use Rattle.dc_walk.specs.Filters.{key_hash};
 ghost use Rattle.dc_walk.specs.Findings.{SameRows, IsFinding, now_in, outcome_in, said_in, spent};
 ghost use Rattle.dc_walk.specs.Rooms.{key_bytes, HasWords};
 ghost use Rattle.dc_walk.specs.Sights.{AnswersIn, Fails, GivesUp, LookedWhole};
-ghost use Rattle.dc_names.specs.declared.limits.TheConstants.{BUCKET_ROWS};
-ghost use Rattle.dc_walk.specs.declared.TheConstants.{MOST_USED};
+ghost use Rattle.dc_names.specs.declared.limits.TheConstants.{BUCKET_ROWS, MOST_USED};
 
 use crate::probe::Extent;
 use crate::row::{Seen, look_at, words_of};

@@ -8,20 +8,17 @@ ghost use Rattle.dc_walk.specs.Looks.{look_shown};
 ghost use Rattle.dc_walk.specs.Sources.{Rests};
 ghost use Rattle.dc_walk.specs.Unpins.{rows_in, rows_used, with_spare, IsUnpinned, GivesBack};
 
-use crate::MOST_USED;
 use crate::answer::Fast;
 use crate::look::Look;
 use crate::pinned::Pinning;
 use crate::used::Room;
 use crate::walk::walk_by;
 use arrayvec::ArrayVec;
+use dc_names::MOST_PINNED;
 use dc_rows::unpin_all;
 use dc_table::{Pass, Shared};
 use std::alloc::Global;
 use std::sync::Wait;
-
-/// The most rows that a walk pins: those that it uses, and one that didn't tell of its key.
-const MOST_PINNED: usize = MOST_USED + 1;
 
 /// Takes back the pins of the rows that a walk used, and that of a row which it had and didn't use, all
 /// under one hold of the lock.

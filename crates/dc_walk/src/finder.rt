@@ -6,7 +6,7 @@ ghost use Rattle.dc_table.specs.Holders.{table_of};
 ghost use Rattle.dc_walk.specs.Becomings.{Becomes, KeepsPinned, MayAskRows, stays_so, goes_so, keeps_so};
 ghost use Rattle.dc_walk.specs.Findings.{said_in};
 ghost use Rattle.dc_walk.specs.Rooms.{less_words, HasWords};
-ghost use Rattle.dc_row.specs.declared.TheConstants.{ROW_TEXT};
+ghost use Rattle.dc_names.specs.declared.limits.TheConstants.{ROW_TEXT};
 
 use crate::link::LinkText;
 use crate::question::{key_of, text_key, told};

@@ -28,8 +28,8 @@ mod why;
 
 pub use answer::Fast;
 pub use counted::walk_counted;
-use dc_names::{BUCKET_ROWS, MOST_LINKS, PATH_MAX};
-use dc_row::{ROW_TEXT, ROW_WORDS};
+pub use dc_names::{MOST_LOADS, MOST_USED};
+use dc_names::{MOST_USED_BYTES, ROW_WORDS};
 pub use locked::walk_locked;
 pub use look::Look;
 pub use placing::{are_as_noted, change_by_rows};
@@ -37,18 +37,6 @@ pub use unlocked::{walk_briefly, walk_fast};
 pub use used::Room;
 pub use why::Why;
 
-/// The most rows whose answers a walk rests on.
-pub const MOST_USED: usize = 256;
-
-/// The most bytes of names and texts in the rows that a walk rests on: of the dot-dot by which it asks
-/// for its base, of the names of its path, and, for each link that it follows, of a text and of the names
-/// in it.
-pub(crate) const MOST_BYTES: usize = 2 + PATH_MAX + MOST_LINKS as usize * 2 * ROW_TEXT;
-
 /// How many words a walk's room has: for each row the four before its text and one that the text may end
 /// in, those that are full of texts, and those of a whole row that is being read.
-pub(crate) const ROOM_WORDS: usize = 5 * MOST_USED + MOST_BYTES / 8 + ROW_WORDS;
-
-/// The most loads of `walk_fast`: for each question of all words of the rows of a bucket and once more
-/// of one's count, and of the clock.
-pub const MOST_LOADS: u64 = MOST_USED as u64 * (BUCKET_ROWS * ROW_WORDS as u64 + 1) + 1;
+pub(crate) const ROOM_WORDS: usize = 5 * MOST_USED + MOST_USED_BYTES / 8 + ROW_WORDS;

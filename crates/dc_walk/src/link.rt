@@ -3,7 +3,7 @@
 ghost use Rattle.std.specs.Prelude.{◌≤◌, Some, length};
 ghost use Rattle.dc_row.specs.Narrow.{widened};
 ghost use Rattle.dc_row.specs.Spelling.{SpellsText, TellsText};
-ghost use Rattle.dc_row.specs.declared.TheConstants.{ROW_WORDS};
+ghost use Rattle.dc_names.specs.declared.limits.TheConstants.{ROW_WORDS};
 
 use dc_resolve::Bytes;
 use dc_row::{RowText, spelled_text};

@@ -4,7 +4,7 @@ ghost use Rattle.std.specs.Prelude.{◌≡◌, ◌<◌, ◌≤◌, [], ◌∷◌
 ghost use Rattle.dc_events.specs.Effects.{begins, faulted};
 ghost use Rattle.dc_events.specs.Views.Fault.{Busy};
 ghost use Rattle.dc_plain.specs.Requests.{request_of};
-ghost use Rattle.dc_row.specs.declared.TheConstants.{ROW_WORDS};
+ghost use Rattle.dc_names.specs.declared.limits.TheConstants.{ROW_WORDS};
 ghost use Rattle.dc_table.specs.Holders.{table_of};
 ghost use Rattle.dc_table.specs.Passes.{view, share, Fits, IsIdle, StaysOut};
 ghost use Rattle.dc_walk.specs.Probes.{IsEarly, IsReading, IsReadingTop, ReadsBehind, ReadsMore, ReadsRest, ReadsTop};

@@ -12,8 +12,7 @@ ghost use Rattle.dc_walk.specs.Findings.{SameRows, IsFinding, now_in, outcome_in
 ghost use Rattle.dc_walk.specs.Probes.{IsReadingTop, IsShort, SpellsShort, TakesRow};
 ghost use Rattle.dc_walk.specs.Rooms.{key_bytes, HasWords};
 ghost use Rattle.dc_walk.specs.Sights.{Saw};
-ghost use Rattle.dc_names.specs.declared.limits.TheConstants.{BUCKET_ROWS};
-ghost use Rattle.dc_walk.specs.declared.TheConstants.{MOST_USED};
+ghost use Rattle.dc_names.specs.declared.limits.TheConstants.{BUCKET_ROWS, MOST_USED};
 
 use crate::probe::{Extent, Top, may_tell, read_short, read_top};
 use crate::rows::Rows;

@@ -7,14 +7,13 @@ ghost use Rattle.dc_plain.specs.Trees.{told_of, Tree};
 ghost use Rattle.dc_resolve.specs.Needs.{IsUntold};
 ghost use Rattle.dc_row.specs.Narrow.{widened};
 ghost use Rattle.dc_row.specs.Spelling.{SpellsText, TellsOf, TellsTarget, TellsText};
-ghost use Rattle.dc_row.specs.declared.TheConstants.{ROW_WORDS};
+ghost use Rattle.dc_names.specs.declared.limits.TheConstants.{ROW_WORDS, MOST_USED, MOST_USED_BYTES};
 ghost use Rattle.dc_table.specs.Holders.{table_of};
 ghost use Rattle.dc_table.specs.Passes.{view, share, Fits, IsIdle, StaysOut};
 ghost use Rattle.dc_walk.specs.Finds.{told_in, AllSpelled, StandsAt};
 ghost use Rattle.dc_walk.specs.Placing.{AreTrue};
 ghost use Rattle.dc_walk.specs.Probes.{IsReading, ReadsRest};
 ghost use Rattle.dc_walk.specs.Rooms.{used_at};
-ghost use Rattle.dc_walk.specs.declared.TheConstants.{MOST_USED, MOST_BYTES};
 
 use crate::link::LinkText;
 use crate::probe::{are_past, read_words};
@@ -241,7 +240,7 @@ impl Room {
     pub(crate) fn keep(&mut self, row: u64, place: u64, told: usize) -> usize
         requires some { length self.old.items < MOST_USED }
         requires told { (4 ≤ told) × (told ≤ ROW_WORDS) }
-        requires fits { 8 * (self.old.spent + told) ≤ 40 * MOST_USED + MOST_BYTES }
+        requires fits { 8 * (self.old.spent + told) ≤ 40 * MOST_USED + MOST_USED_BYTES }
         ensures kept { self.new.items ≡ self.old.items
             ++ record { row = row; place = place; words = widened (take told self.old.next) } ∷ [] }
         ensures spent { self.new.spent ≡ self.old.spent + told }

@@ -7,7 +7,6 @@ use crate::fault::Fault;
 use crate::gate::Gate;
 use crate::race::{Course, Race, answer};
 use crate::report::RaceRow;
-use crate::rows::INODES;
 use crate::tally::{Tally, nanoseconds};
 use crate::threads::{Job, spread};
 use crate::tree::{lines_in, plant};
@@ -58,7 +57,7 @@ fn row_on<R: Threads + Wait + Clock + Sync>(
 ) -> Result<RaceRow, Fault>
     requires { IsSync R.row }
 {
-    let (cache, mut pass) = Dcache::new(alloc, 256, INODES)?;
+    let (cache, mut pass) = Dcache::new(alloc, 256, MOST_INODES)?;
     plant(rt, alloc, &cache, &mut pass, lines)?;
     let begin = Instant::now(rt).map_err(|_| Fault::NoClock)?;
     let tally = run_race(rt, alloc, task, course, &cache, pass)?;

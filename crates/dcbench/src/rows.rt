@@ -11,14 +11,12 @@ use crate::threads::{Job, spread};
 use crate::tree::{plant, warm};
 use crate::work::{Miss, Shape, Work};
 use dc_cache::{Dcache, Pass, PathText};
+use dc_names::MOST_INODES;
 use std::alloc::Global;
 use std::rt::Clock;
 use std::sync::Wait;
 use std::thread::Threads;
 use std::time::Duration;
-
-/// How many inodes may live.
-pub const INODES: u64 = 1_048_576;
 
 /// A tree and the paths that are looked up in it.
 #[derive(Clone, Copy)]
@@ -76,7 +74,7 @@ pub fn look_row<R: Threads + Wait + Clock + Sync>(
 ) -> Result<LookRow, Fault>
     requires { IsSync R.row }
 {
-    let (cache, mut pass) = Dcache::with_buckets(alloc, plan.shape.buckets, INODES)?;
+    let (cache, mut pass) = Dcache::with_buckets(alloc, plan.shape.buckets, MOST_INODES)?;
     plant(rt, alloc, &cache, &mut pass, plan.lines)?;
     warm(rt, alloc, &cache, &mut pass, plan.paths);
     Ok(timed_row(rt, alloc, plan, threads, &cache, pass))

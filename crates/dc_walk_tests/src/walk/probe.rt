@@ -3,7 +3,7 @@
 ghost use Rattle.std.specs.Prelude.{◌≡◌, ◌<◌, length, IfOk};
 ghost use Rattle.dc_events.specs.Effects.{begins};
 ghost use Rattle.dc_plain.specs.Requests.{request_of};
-ghost use Rattle.dc_row.specs.declared.TheConstants.{ROW_WORDS};
+ghost use Rattle.dc_names.specs.declared.limits.TheConstants.{ROW_WORDS};
 ghost use Rattle.dc_table.specs.Holders.{table_of};
 ghost use Rattle.dc_table.specs.Passes.{view, share, Fits, IsIdle, StaysOut};
 ghost use Rattle.dc_walk.specs.Probes.{IsEarly, seen_whole};

@@ -1,6 +1,6 @@
 use Rattle.std.proofs.Common.{ℕ, List, ◌++◌, length, ap₂}
 use Rattle.std.proofs.lemmas.List.{drop-replicate}
-use Rattle.dc_row.specs.declared.TheConstants.{ROW_WORDS}
+use Rattle.dc_names.specs.declared.limits.TheConstants.{ROW_WORDS}
 use Rattle.dc_row.proofs.narrow.widened.Goals as goal
 
 pub returns : goal.returns

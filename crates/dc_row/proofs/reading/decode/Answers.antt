@@ -2,7 +2,7 @@ use Rattle.std.proofs.Common.{◌≡◌, ◌-◌, drop, length, take, arith, sub
 use Rattle.std.proofs.lemmas.Slice.Eq.{bytes_eq-Decides}
 use Rattle.dc_row.specs.Rows.{row_shown}
 use Rattle.dc_row.specs.Spelling.{Spells}
-use Rattle.dc_row.specs.declared.TheConstants.{ROW_WORDS}
+use Rattle.dc_names.specs.declared.limits.TheConstants.{ROW_WORDS}
 use Rattle.dc_row.proofs.Compared.{spells_too, spelled_alike}
 use Rattle.dc_row.proofs.reading.decode.Goals as goal
 

@@ -2,7 +2,7 @@ use Rattle.std.proofs.Common.{arith, rules}
 use Rattle.std.specs.Io.KnownBytes.{Appends}
 use Rattle.dc_cache.specs.Passes.{known, share}
 use Rattle.dc_lang.specs.Phases.{ordered}
-use Rattle.dc_lang.specs.declared.TheConstants.{SESSIONS}
+use Rattle.dc_names.specs.declared.limits.TheConstants.{SESSIONS}
 use Rattle.dc_serve.specs.Bytes.{IsServiceFault, WritesFront}
 use Rattle.dc_serve.specs.Served.{ObeysBelow}
 use Rattle.dc_serve.specs.Threads.{book}

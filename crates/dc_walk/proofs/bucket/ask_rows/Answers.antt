@@ -6,7 +6,7 @@ use Rattle.dc_walk.specs.Causes.{Looked}
 use Rattle.dc_walk.specs.Findings.{IsFinding, now_in}
 use Rattle.dc_walk.specs.Finds.{told_in}
 use Rattle.dc_walk.specs.Sights.{Fails, LookedWhole}
-use Rattle.dc_walk.specs.declared.TheConstants.{MOST_USED}
+use Rattle.dc_names.specs.declared.limits.TheConstants.{MOST_USED}
 use Rattle.dc_walk.specs.Rooms.{key_bytes, Used}
 use Rattle.dc_walk.proofs.Seats.{row_still, untried_still}
 use Rattle.dc_walk.specs.Becomings.{same_again, untried_again}

@@ -2,7 +2,7 @@ use Rattle.std.proofs.Common.{◌<◌, List, length, sym, ◌∙◌, subst}
 use Rattle.dc_plain.specs.KeysShown.{key_shown}
 use Rattle.dc_walk.specs.Becomings.{goes_so}
 use Rattle.dc_walk.specs.Findings.{outcome_in, said_in}
-use Rattle.dc_walk.specs.declared.TheConstants.{MOST_USED}
+use Rattle.dc_names.specs.declared.limits.TheConstants.{MOST_USED}
 use Rattle.dc_walk.specs.Rooms.{key_bytes, Used}
 use Rattle.dc_walk.proofs.Questions.{needed_now, needed_still, untold_still, unlooked, same_between, stops, looked_cause, answered_becomes, filled_becomes, within_full, within_two, is_below}
 use Rattle.dc_walk.proofs.Rooms.{keeps_from, words_still}

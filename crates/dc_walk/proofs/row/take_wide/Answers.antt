@@ -4,7 +4,7 @@ use Rattle.dc_row.specs.Narrow.{told_words, widened}
 use Rattle.dc_row.specs.Spelling.{TellsOf}
 use Rattle.dc_table.specs.Passes.{view}
 use Rattle.dc_walk.specs.Rooms.{Used}
-use Rattle.dc_walk.specs.declared.TheConstants.{MOST_BYTES, MOST_USED}
+use Rattle.dc_names.specs.declared.limits.TheConstants.{MOST_USED_BYTES, MOST_USED}
 use Rattle.dc_walk.proofs.Probed.{top_read}
 use Rattle.dc_walk.proofs.Rooms.{has_room_for, key_size}
 use Rattle.dc_walk.proofs.Wides.{first_again, told_still, wide_with, zeros_behind}
@@ -29,7 +29,7 @@ keep-requires c = let key = key_shown c.args.key in let r = c.requires.reading i
     record {
       some = subst (λ (us : List Used). length us < MOST_USED) (sym (e.items.0 ∙ c.put.ensures.same.0)) c.requires.some;
       told = few;
-      fits = subst (λ (z : ℕ × ℕ). 8 * (z.0 + z.1) ≤ 40 * MOST_USED + MOST_BYTES) (λ i. (sym (e.items.1 ∙ c.put.ensures.same.1) i, sym still i))
+      fits = subst (λ (z : ℕ × ℕ). 8 * (z.0 + z.1) ≤ 40 * MOST_USED + MOST_USED_BYTES) (λ i. (sym (e.items.1 ∙ c.put.ensures.same.1) i, sym still i))
           (has_room_for c.args.room.now (told_words whole) key (key_size c.rows_end_in_zeros.ensures key tells) c.requires.some c.requires.words);
     }
 

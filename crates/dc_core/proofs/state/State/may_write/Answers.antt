@@ -1,5 +1,5 @@
 use Rattle.std.proofs.Common.{◌≡◌, ◌≤◌, ◌⊎◌, refl, sym, ap, ◌∙◌}
-use Rattle.dc_row.specs.declared.TheConstants.{ROW_WORDS}
+use Rattle.dc_names.specs.declared.limits.TheConstants.{ROW_WORDS}
 use Rattle.dc_core.specs.Machine.{Actor}
 use Rattle.dc_core.specs.Shown.{state_of}
 use Rattle.dc_core.proofs.Acted.{this_one}

@@ -1,6 +1,6 @@
 use Rattle.std.proofs.Common.{◌≡◌, ◌+◌, ◌-◌, List, ℕ, ap, sym, subst, take, length, slice_range, ◌∙◌, arith}
 use borrow.Rule.Slice.PartMut.{put_mid, take_put}
-use Rattle.dc_row.specs.declared.TheConstants.{ROW_WORDS}
+use Rattle.dc_names.specs.declared.limits.TheConstants.{ROW_WORDS}
 use Rattle.dc_walk.specs.Rooms.{Kept}
 use Rattle.dc_walk.proofs.Rooms.{next_begins, rows_kept}
 use Rattle.dc_walk.proofs.used.Room.put.Goals as goal

@@ -1,5 +1,5 @@
 use Rattle.std.proofs.Common.{◌≡◌, get_or, length}
-use Rattle.dc_row.specs.declared.TheConstants.{ROW_WORDS}
+use Rattle.dc_names.specs.declared.limits.TheConstants.{ROW_WORDS}
 use Rattle.dc_events.specs.Effects.{begins}
 use Rattle.dc_plain.specs.Requests.{request_of}
 use Rattle.dc_table.specs.Holders.{table_of}
