@@ -12,6 +12,7 @@ use crate::threads::{Job, spread};
 use crate::tree::{lines_in, plant};
 use crate::work::RaceTask;
 use dc_cache::{Dcache, Pass, parse};
+use dc_names::MOST_INODES;
 use std::alloc::Global;
 use std::rt::Clock;
 use std::sync::Wait;
