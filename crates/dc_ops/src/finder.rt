@@ -45,10 +45,8 @@ pub(crate) fn entry<S: Store>(store: &S, dir: u64, name: Name<'_>) -> Option<Tar
     ensures named { IfSome result (λ target. 1 ≤ names_of (S.tree store.now) target.0) }
     ensures well { IsWellFormed (S.tree store.now) }
 {
-    names_lead_to_the_living();
-    let number = store.find(dir, name)?;
-    let kind = store.kind(number)?;
-    Some((number, kind))
+    let (target, _) = entry_at(store, dir, name)?;
+    Some(target)
 }
 
 /// The directory that a directory's dot-dot leads to.
