@@ -8,13 +8,13 @@ ghost use Rattle.dc_plain.specs.Trees.{told_of};
 ghost use Rattle.dc_rows.specs.Guards.{kept_by};
 ghost use Rattle.dc_rows.specs.RowChanges.{LeadsTo};
 
-use dc_names::{Kind, Part};
+use dc_names::{Kind, Part, hash};
 use dc_ops::StoreFinder;
 use dc_plain::{Key, Label, Target};
 use dc_resolve::{Bytes, Finder, Stop};
 use dc_row::RowText;
 use dc_rows::Guard;
-use dc_walk::Room;
+use dc_walk::{Room, key_of};
 use std::alloc::Global;
 
 /// The text of a link, by value, as far as a row has room for it.
@@ -97,13 +97,17 @@ impl Finder for Filler<'_> {
     ghost link_bytes = { 0 };
 
     fn find(&mut self, dir: u64, part: Part<'_>) -> Result<Option<(u64, Kind)>, Stop> {
-        let label = match part {
-            Part::Normal(name) => Label::Name(name),
-            Part::DotDot => Label::DotDot,
-            // A walk stays where it is at a dot, and asks nothing: `is_asked` says so.
-            Part::Dot => unreachable!(),
-        };
-        let key = Key { number: dir, label };
+        let key = key_of(dir, part);
+        self.find_hashed(dir, part, hash(dir, key.label.bytes()))
+    }
+
+    fn find_hashed(
+        &mut self,
+        dir: u64,
+        part: Part<'_>,
+        hash: u64,
+    ) -> Result<Option<(u64, Kind)>, Stop> {
+        let key = key_of(dir, part);
         // Of a dot-dot no row says that it leads to a directory: the tree does.
         if let Some(target) = self.told(key)
             && let Part::Normal(_) = part
@@ -113,7 +117,7 @@ impl Finder for Filler<'_> {
         let mut finder = StoreFinder {
             store: self.guard.store(),
         };
-        let found = finder.find(dir, part);
+        let found = finder.find_hashed(dir, part, hash);
         let StoreFinder { store: _ } = finder;
         // A store has an answer to each question, so its finder never stops.
         let Ok(target) = found else { unreachable!() };

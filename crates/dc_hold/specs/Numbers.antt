@@ -3,6 +3,7 @@ use Rattle.std.specs.Prelude.{ℕ, zero, suc, ◌+◌, ◌-◌, ◌^◌, ℤ, po
 use Rattle.std.specs.Global.{Vec}
 use Rattle.dc_names.specs.declared.kind.Kind.{Kind}
 use Rattle.dc_names.specs.declared.kind.Kind.TheVariants.{Dir, File, Link}
+use Rattle.dc_names.specs.declared.limits.TheConstants.{MOST_ERRNO}
 use Rattle.dc_names.specs.declared.sizes.MakeFault.{MakeFault}
 use Rattle.dc_names.specs.declared.sizes.MakeFault.TheVariants as makes
 use Rattle.dc_names.specs.Tables.{fit_a_table}
@@ -16,10 +17,10 @@ use Rattle.dc_walk.specs.declared.why.Why.TheVariants as causes
 use Rattle.dc_hold.specs.declared.status.Status.{Status}
 use Rattle.dc_hold.specs.declared.status.Status.TheVariants as statuses
 
--- 0 of an answer, the number of an error of a refusal, which is 4095 at most, and below 0 where nothing is recorded
+-- 0 of an answer, the number of an error of a refusal, at most the most that Linux has, and below 0 where nothing is recorded
 abbrev pub status_number : Status → ℤ
 status_number statuses.Done = pos 0
-status_number (statuses.Refused number) = pos (min number 4095)
+status_number (statuses.Refused number) = pos (min number MOST_ERRNO)
 status_number statuses.Busy = negsuc 0
 status_number statuses.Again = negsuc 1
 status_number statuses.NoMemory = negsuc 2

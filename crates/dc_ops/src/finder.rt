@@ -4,6 +4,7 @@ ghost use Rattle.std.specs.Prelude.{◌≡◌, ◌≤◌, false, refl, Some, opt
 ghost use Rattle.dc_plain.specs.Facts.Label.{Entry, Parent};
 ghost use Rattle.dc_plain.specs.IsWellFormed.{IsWellFormed};
 ghost use Rattle.dc_plain.specs.Trees.{told_of, entry_of, target_at, names_of};
+ghost use Rattle.dc_names.specs.Hash.{hash_of};
 ghost use Rattle.dc_names.specs.Paths.Part.{DotDot};
 ghost use Rattle.dc_resolve.specs.Asked.{may_be_found};
 ghost use Rattle.dc_ops.specs.Found.{number_at};
@@ -49,6 +50,18 @@ pub(crate) fn entry<S: Store>(store: &S, dir: u64, name: Name<'_>) -> Option<Tar
     Some(target)
 }
 
+/// Where a name in a directory leads, for a caller that has the hash of the directory's number and the
+/// name.
+fn entry_by<S: Store>(store: &S, dir: u64, name: Name<'_>, hash: u64) -> Option<Target>
+    requires { hash ≡ hash_of dir name.bytes.now }
+    ensures { result ≡ entry_of (S.tree store.now) dir (Entry name.entry.bytes.now) }
+{
+    names_lead_to_the_living();
+    let number = store.find_hashed(dir, name, hash)?;
+    let kind = store.kind(number)?;
+    Some((number, kind))
+}
+
 /// The directory that a directory's dot-dot leads to.
 fn up<S: Store>(store: &S, dir: u64) -> Option<Target>
     ensures up { result ≡ entry_of (S.tree store.now) dir Parent }
@@ -79,6 +92,13 @@ impl<'a, S: Store> Finder for StoreFinder<'a, S> {
             Part::DotDot => Ok(up(self.store, dir)),
             // A walk stays where it is at a dot, and asks nothing: `is_asked` says so.
             Part::Dot => unreachable!(),
+        }
+    }
+
+    fn find_hashed(&mut self, dir: u64, part: Part<'_>, hash: u64) -> Result<Option<Target>, Stop> {
+        match part {
+            Part::Normal(name) => Ok(entry_by(self.store, dir, name, hash)),
+            Part::DotDot | Part::Dot => self.find(dir, part),
         }
     }
 

@@ -1,15 +1,14 @@
 -- A name that stands at an index of a map: what is found once its entry goes or leads elsewhere.
-use Rattle.std.proofs.Common.{◌≡◌, ℕ, List, [], ◌∷◌, zero, suc, Bool, true, false, cond, nat_eq, slice_get, Option, Some, None, is_some, IsSomeAnd, refl, ap, sym, subst, ◌∙◌}
+use Rattle.std.proofs.Common.{◌≡◌, ℕ, List, [], ◌∷◌, zero, suc, Bool, true, false, cond, nat_eq, slice_get, Option, Some, is_some, IsSomeAnd, refl, ap, sym, subst, ◌∙◌}
 use Rattle.std.proofs.lemmas.Map.{lookup-none}
 use Rattle.std.proofs.lemmas.Map.Entries.{none_past_head}
 use Rattle.std.proofs.lemmas.Map.Keys.{IsDistinct-tail}
 use Rattle.std.specs.Cmp.Lexicographic.{pointwise, nat_list_eq_equiv, on_texts_equal}
-use Rattle.std.specs.FinMap.Entries.{put}
 use Rattle.std.specs.List.{IsDistinct}
 use Rattle.std.specs.Map.{keys_of, lookup_key}
 use Rattle.indexmap.specs.IndexMap.{set_value_at}
-use Rattle.dc_store.specs.Names.{found_by, in_order, name_cmp, without_name, StandsAt}
-use Rattle.dc_store.proofs.Named.{changed, same_bytes}
+use Rattle.dc_store.specs.Names.{found_by, StandsAt}
+use Rattle.dc_store.proofs.Named.{same_bytes}
 
 -- a key that was found is the one that was sought
 pub sought : (name : List ℕ) (es : List (List ℕ × ℕ)) (key : List ℕ) → lookup_key (λ (k : List ℕ). pointwise nat_eq name k) es ≡ Some key → key ≡ name
@@ -20,7 +19,7 @@ sought name (e ∷ es) key found = elim (pointwise nat_eq name e.0) as (λ b. po
 ] refl found
 
 -- what stands at an index is found
-stands : (es : List (List ℕ × ℕ)) (i : ℕ) (e : List ℕ × ℕ) → slice_get es i ≡ Some e → is_some (found_by e.0 es) ≡ true
+pub stands : (es : List (List ℕ × ℕ)) (i : ℕ) (e : List ℕ × ℕ) → slice_get es i ≡ Some e → is_some (found_by e.0 es) ≡ true
 stands [] i e at = cc
 stands (x ∷ es) zero e at = (let same : x ≡ e = cc in ap (λ (k : List ℕ × ℕ). is_some (cond (pointwise nat_eq e.0 k.0) (Some k.1) (found_by e.0 es))) same ∙ ap (λ b. is_some (cond b (Some e.1) (found_by e.0 es))) (nat_list_eq_equiv.refl e.0))
 stands (x ∷ es) (suc i) e at = elim (pointwise nat_eq e.0 x.0) as (λ b. is_some (cond b (Some x.1) (found_by e.0 es)) ≡ true) [
@@ -63,22 +62,3 @@ stands_at es name key i v at same found =
 -- what stands at an index is what is taken out there
 pub stood : (es : List (List ℕ × ℕ)) (name key : List ℕ) (i v : ℕ) → StandsAt name i es → slice_get es i ≡ Some (key, v) → (key ≡ name) × (found_by name es ≡ Some v)
 stood es name key i v stands at = subst (λ (o : Option (List ℕ × ℕ)). IsSomeAnd o (λ e. (e.0 ≡ name) × (found_by name es ≡ Some e.1))) at stands
-
--- a name that leads nowhere may be taken out as well
-pub none_taken : (es : List (List ℕ × ℕ)) (name : List ℕ) → found_by name es ≡ None → in_order es ≡ without_name name (in_order es)
-none_taken es name none = changed es es name None (λ q. elim (pointwise nat_eq name q) as (λ b. pointwise nat_eq name q ≡ b → found_by q es ≡ cond b None (found_by q es)) [
-  | true ↦ λ same. ap (λ k. found_by k es) (sym (same_bytes name q same)) ∙ none
-  | false ↦ λ other. refl
-] refl)
-
--- a name is taken out by a key that is the same
-pub taken : (es fs : List (List ℕ × ℕ)) {key name : List ℕ} → key ≡ name → ((q : List ℕ) → found_by q fs ≡ cond (pointwise nat_eq key q) None (found_by q es)) → in_order fs ≡ without_name name (in_order es)
-taken es fs {key} same by_name = changed es fs key None by_name ∙ ap (λ k. without_name k (in_order es)) same
-
--- the name that stands at an index leads elsewhere
-pub redirected : (es : List (List ℕ × ℕ)) (name : List ℕ) (i w : ℕ) → StandsAt name i es → IsDistinct (λ (a b : List ℕ). pointwise nat_eq a b) (keys_of es) → in_order (set_value_at es i w) ≡ put name_cmp name w (in_order es)
-redirected es name i w stands distinct = by_entry (slice_get es i) refl stands
-  where
-    by_entry : (o : Option (List ℕ × ℕ)) → slice_get es i ≡ o → IsSomeAnd o (λ e. (e.0 ≡ name) × (found_by name es ≡ Some e.1)) → in_order (set_value_at es i w) ≡ put name_cmp name w (in_order es)
-    by_entry None at none = absurd none
-    by_entry (Some e) at (same, found) = changed es (set_value_at es i w) e.0 (Some w) (written es i w e at distinct) ∙ ap (λ k. put name_cmp k w (in_order es)) same

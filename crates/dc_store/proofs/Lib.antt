@@ -16,6 +16,7 @@ pub mod Slots
 pub mod SlotSteps
 pub mod Named
 pub mod Indexed
+pub mod Hashed
 pub mod Ordered
 pub mod Changes
 pub mod Entered

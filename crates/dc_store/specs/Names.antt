@@ -1,10 +1,11 @@
 -- The names in a directory, in the order of their bytes.
-use Rattle.std.specs.Prelude.{◌≡◌, ℕ, List, [], ◌∷◌, Option, Some, not, nat_eq, slice_get, IsSomeAnd}
+use Rattle.std.specs.Prelude.{◌≡◌, ℕ, List, [], ◌∷◌, map, Option, Some, not, nat_eq, slice_get, IsSome, IsSomeAnd}
 use Rattle.std.specs.Cmp.Lexicographic.{pointwise, slice_cmp}
 use Rattle.std.specs.FinMap.Entries.{put, where_key}
 use Rattle.std.specs.Map.{lookup}
 use Rattle.std.specs.Ordering.{nat_cmp, eq_by_cmp}
 use Rattle.std.specs.declared.cmp.Ordering.{Ordering}
+use Rattle.dc_names.specs.Hash.{hash_of}
 
 -- names by their bytes
 abbrev pub name_cmp : List ℕ → List ℕ → Ordering
@@ -21,6 +22,27 @@ without_name name = where_key name_cmp (λ other. not (eq_by_cmp name_cmp name o
 -- what the map finds under some bytes
 abbrev pub found_by : List ℕ → List (List ℕ × ℕ) → Option ℕ
 found_by name es = lookup (λ (k : List ℕ). pointwise nat_eq name k) es
+
+-- a name of a directory with its hash in front, as a map keeps it
+abbrev pub hashed : ℕ → List ℕ → List ℕ
+hashed d name = hash_of d name ∷ name
+
+-- the hash in front, and the name behind it
+abbrev pub hash_in : List ℕ → ℕ
+hash_in [] = 0
+hash_in (h ∷ name) = h
+
+abbrev pub unhashed : List ℕ → List ℕ
+unhashed [] = []
+unhashed (h ∷ name) = name
+
+-- the entries of a map by the names alone
+abbrev pub by_names : List (List ℕ × ℕ) → List (List ℕ × ℕ)
+by_names es = map (λ e. (unhashed e.0, e.1)) es
+
+-- what a map finds are names of a directory with their hashes in front
+abbrev pub AreHashed : ℕ → List (List ℕ × ℕ) → Type 0
+AreHashed d es = (key : List ℕ) → IsSome (found_by key es) → key ≡ hashed d (unhashed key)
 
 -- a name stands at an index of a map, which finds it there
 abbrev pub StandsAt : List ℕ → ℕ → List (List ℕ × ℕ) → Type 0

@@ -48,7 +48,7 @@ impl SlabStore {
         let mut inodes = Inodes::new(alloc);
         let root = Inode {
             node: Node::Dir(1),
-            names: Names::new(alloc),
+            names: Names::new(alloc, 1),
             count: 0,
         };
         inodes.insert(1, root)?;
@@ -82,7 +82,7 @@ impl SlabStore {
         let number = self.next;
         let inode = Inode {
             node,
-            names: Names::new(alloc),
+            names: Names::new(alloc, number),
             count: 1,
         };
         self.inodes.insert(number, inode)?;
@@ -137,8 +137,8 @@ impl SlabStore {
 impl Store for SlabStore {
     ghost tree = { λ store. store };
 
-    fn find(&self, dir: u64, name: Name<'_>) -> Option<u64> {
-        self.inodes.get(dir)?.names.get(name)
+    fn find_hashed(&self, dir: u64, name: Name<'_>, hash: u64) -> Option<u64> {
+        self.inodes.get(dir)?.names.get(dir, name, hash)
     }
 
     fn seek(&self, dir: u64, name: Name<'_>) -> Option<(u64, Place)> {

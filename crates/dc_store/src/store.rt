@@ -1,6 +1,7 @@
 //! What a store of inodes and entries does, as calls on a plain tree.
 
 ghost use Rattle.std.specs.Prelude.{◌≡◌, ℕ, None, Some, length, option_map, IsTrue, IfSome, IfOk, OnOk, OnErr};
+ghost use Rattle.dc_names.specs.Hash.{hash_of};
 ghost use Rattle.dc_names.specs.Paths.{fault_of};
 ghost use Rattle.dc_plain.specs.BytesShown.{names_shown};
 ghost use Rattle.dc_plain.specs.Conditions.{CanSwap};
@@ -15,7 +16,7 @@ ghost use Rattle.dc_store.specs.Moved.{CanStandAt, tree_moved};
 ghost use Rattle.dc_plain.specs.Spots.{spot_at, spot_shown};
 
 use crate::place::Place;
-use dc_names::{Kind, Name, NoMemory, PathText};
+use dc_names::{Kind, Name, NoMemory, PathText, hash};
 use dc_plain::Spot;
 use std::alloc::Global;
 
@@ -40,6 +41,15 @@ pub trait Store {
     /// The number that a name in a directory leads to. `None` where there is no such entry, or no such
     /// directory.
     fn find(&self, dir: u64, name: Name<'_>) -> Option<u64>
+        ensures target { result ≡ entry_number (tree self.now) (spot_at dir name.entry.bytes.now) }
+        ensures well { IsWellFormed (tree self.now) }
+    {
+        self.find_hashed(dir, name, hash(dir, name.bytes()))
+    }
+
+    /// The same for a caller that has the hash of the directory's number and the name, as a walk makes it.
+    fn find_hashed(&self, dir: u64, name: Name<'_>, hash: u64) -> Option<u64>
+        requires { hash ≡ hash_of dir name.bytes.now }
         ensures target { result ≡ entry_number (tree self.now) (spot_at dir name.entry.bytes.now) }
         ensures well { IsWellFormed (tree self.now) };
 

@@ -25,8 +25,9 @@ use dc_plain::{Key, Label};
 use dc_resolve::Stop;
 use dc_row::words_have_the_fact_they_spell;
 
-/// The key under which a part is looked up in a directory.
-pub(crate) fn key_of<'a>(number: u64, part: Part<'a>) -> Key<'a>
+/// The key under which a part, a name or dot-dot, is looked up in the directory of a number.
+#[must_use]
+pub fn key_of<'a>(number: u64, part: Part<'a>) -> Key<'a>
     requires asked { part_shown part ≢ Dot }
     ensures key { key_shown result ≡ record { number = number; label = label_of (part_shown part.entry) } }
     ensures entry { (key_shown result).label ≢ Text }

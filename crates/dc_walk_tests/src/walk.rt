@@ -12,10 +12,10 @@ mod probe;
 mod spoiled;
 mod steps;
 
-use dc_names::{Kind, NAME_MAX, Name, parse};
-use dc_plain::{Call, Follow, Key, Label, Reply};
+use dc_names::{Kind, NAME_MAX, Name, Part, parse};
+use dc_plain::{Call, Follow, Key, Reply};
 use dc_table::{Pass, Shared};
-use dc_walk::{Fast, Look, Room, Why, change_by_rows, walk_counted, walk_fast};
+use dc_walk::{Fast, Look, Room, Why, change_by_rows, key_of, walk_counted, walk_fast};
 use std::alloc::Global;
 use std::sync::Wait;
 use std::test::Fail;
@@ -136,10 +136,7 @@ fn a_name_is_sought_or_no_name(rt: HostRuntime) -> Result<(), Fail> {
 
 /// The key of a name in the root.
 fn in_root(name: &[u8]) -> Option<Key<'_>> {
-    Some(Key {
-        number: 1,
-        label: Label::Name(Name::new(name)?),
-    })
+    Some(key_of(1, Part::Normal(Name::new(name)?)))
 }
 
 static FILLED: [Step; 12] = [

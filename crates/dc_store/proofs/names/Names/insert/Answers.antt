@@ -1,16 +1,16 @@
-use Rattle.std.proofs.Common.{◌≡◌, Some, sym, ◌∙◌}
+use Rattle.std.proofs.Common.{Some, ap, ◌∙◌}
 use Rattle.std.specs.FinMap.Entries.{find, put}
-use Rattle.dc_store.specs.Names.{name_cmp}
-use Rattle.dc_store.proofs.Named.{changed, found_in}
+use Rattle.dc_store.specs.Names.{found_by, name_cmp}
+use Rattle.dc_store.proofs.Hashed.{by_same, changed_hashed, found_names, still_hashed}
 use Rattle.dc_store.proofs.names.Names.insert.Goals as goal
 
+pub invariant_of-self-2 : goal.invariant_of-self-2
+invariant_of-self-2 c = still_hashed _ _ _ c.args.name.bytes.now _ c.self.invariant (by_same _ _ (Some c.args.number) c.in_ok-key.ensures c.in_ok-insert.ensures.updates.0)
+
 pub returns-clause-ok : goal.returns-clause-ok
-returns-clause-ok c =
-    let is : c.in_ok-key.key ≡ c.args.name.bytes.now = c.in_ok-key.ensures in
-    changed c.self.inside.by_name.entries c.insert.new.self.entries c.in_ok-key.key (Some c.args.number) c.in_ok-insert.ensures.updates.0
-    ∙ (λ i. put name_cmp (is i) c.args.number (c.self.view_is i))
+returns-clause-ok c = changed_hashed _ _ _ c.args.name.bytes.now _ c.self.invariant (by_same _ _ (Some c.args.number) c.in_ok-key.ensures c.in_ok-insert.ensures.updates.0) ∙ ap (put name_cmp _ _) c.self.view_is
 
 pub returns-clause-before : goal.returns-clause-before
 returns-clause-before c =
-    let is : c.in_ok-key.key ≡ c.args.name.bytes.now = c.in_ok-key.ensures in
-    c.in_ok-insert.ensures.old ∙ sym (found_in c.self.inside.by_name.entries c.in_ok-key.key) ∙ (λ i. find name_cmp (is i) (c.self.view_is i))
+    c.in_ok-insert.ensures.old ∙ ap (λ key. found_by key c.self.inside.by_name.entries) c.in_ok-key.ensures
+    ∙ found_names _ _ c.self.invariant c.args.name.bytes.now ∙ ap (find name_cmp _) c.self.view_is
