@@ -1,18 +1,15 @@
 //! Rows with keys, call by call.
 
-ghost use Rattle.std.specs.Prelude.{◌≡◌, ◌≢◌, ◌*◌, ◌/◌, ℕ, ◌<◌, ◌≤◌, IfOk, OnOk, IsTrue, length, not, true, slice_set};
+ghost use Rattle.std.specs.Prelude.{◌≡◌, ◌≢◌, ◌*◌, ◌/◌, ℕ, ◌<◌, ◌≤◌, IfOk, OnOk, length, slice_set};
 ghost use Rattle.dc_names.specs.declared.limits.TheConstants.{MOST_TABLE_BUCKETS};
 ghost use Rattle.dc_plain.specs.KeysShown.{key_shown};
-ghost use Rattle.dc_shrink.specs.Listings.{is_used};
-ghost use Rattle.dc_shrink.specs.Uses.{KeepsUse, SetsUse, UsesNone};
-ghost use Rattle.dc_index.specs.Slots.{slot_of, bucket_in, has_key};
+ghost use Rattle.dc_index.specs.Slots.{slot_of, bucket_in};
 ghost use Rattle.dc_index.specs.Slots.Slot.{Free, Retired, Holds};
 
-use crate::shrink::{add_again, new_again, pin_again};
+use crate::shrink::new_again;
 use dc_index::{Index, bucket_at, bucket_of};
 use dc_names::{BUCKET_ROWS, Name, NoMemory, hash};
 use dc_plain::{Key, Label};
-use dc_shrink::{PinFault, Shrinker};
 use std::alloc::Global;
 use std::test::*;
 
@@ -127,118 +124,6 @@ fn a_text_is_no_longer_than_its_key_lets_it_be(rt: HostRuntime) -> Result<(), Fa
     ] {
         let texts = most_texts(rt.alloc(), &Key { number: 7, label })?;
         assert_eq!(rt; texts, [0, most]);
-    }
-    Ok(())
-}
-
-/// An index and a shrinker in which the same rows are in use.
-#[derive(Drop)]
-struct Rows {
-    index: Index,
-    shrinker: Shrinker,
-    ghost agree: { (row : ℕ) → has_key (slot_of index row) ≡ is_used shrinker row },
-    ghost as_many: { length index ≡ shrinker.rows },
-}
-
-/// The key of the text of a link.
-fn text_of(number: u64) -> Key<'static> {
-    Key {
-        number,
-        label: Label::Text,
-    }
-}
-
-impl Rows {
-    fn new(alloc: Global) -> Result<Rows, NoMemory> {
-        let index = new_index_again(alloc, 1024)?;
-        let shrinker = new_again(alloc, 4096)?;
-        Ok(Rows { index, shrinker })
-    }
-
-    /// The row that is chosen for a text.
-    fn choose(&self, number: u64) -> Option<u64> {
-        self.index.choose(&self.shrinker, &text_of(number))
-    }
-
-    /// Gives a text without a row the one that is chosen for it, as the most recently used.
-    fn give(self, alloc: Global, number: u64) -> Result<Rows, NoMemory> {
-        let Rows {
-            mut index,
-            mut shrinker,
-        } = self;
-        let key = text_of(number);
-        let (Some(row), None) = (index.choose(&shrinker, &key), index.row_of(&key)) else {
-            return Ok(Rows { index, shrinker });
-        };
-        shrinker.remove(row);
-        set_again(&mut index, alloc, row, &key)?;
-        add_again(&mut shrinker, row)?;
-        Ok(Rows { index, shrinker })
-    }
-
-    /// Pins the row of a text.
-    fn pin(self, number: u64) -> Result<Rows, PinFault> {
-        let Some(row) = self.index.row_of(&text_of(number)) else {
-            return Ok(self);
-        };
-        let Rows {
-            index,
-            mut shrinker,
-        } = self;
-        pin_again(&mut shrinker, row)?;
-        Ok(Rows { index, shrinker })
-    }
-}
-
-/// The next number after this one whose text is of a bucket.
-fn next_in(bucket: u64, after: u64) -> u64 {
-    (after..100_000)
-        .find(|number| *number > after && hash(*number, b"") % 1024 == bucket)
-        .unwrap_or(0)
-}
-
-/// Six numbers whose texts are of a bucket.
-fn rivals(bucket: u64) -> [u64; 6] {
-    let mut rivals = [0; 6];
-    let mut last = 0;
-    for at in 0..6 {
-        last = next_in(bucket, last);
-        rivals[at] = last;
-    }
-    rivals
-}
-
-/// The rows that are chosen for six texts of a bucket: for each of the first five, which is given
-/// its row, and for the last one before and after each of the four rows is pinned.
-fn chosen_in(alloc: Global, bucket: u64) -> Result<[Option<u64>; 10], Fail> {
-    let texts = rivals(bucket);
-    let mut rows = Rows::new(alloc)?;
-    let mut chosen = [None; 10];
-    for at in 0..5 {
-        chosen[at] = rows.choose(texts[at]);
-        rows = rows.give(alloc, texts[at])?;
-    }
-    for at in 1..5 {
-        chosen[at + 4] = rows.choose(texts[5]);
-        rows = rows.pin(texts[at])?;
-    }
-    chosen[9] = rows.choose(texts[5]);
-    Ok(chosen)
-}
-
-static BUCKETS: [u64; 3] = [959, 767, 519];
-
-#[test]
-fn chooses_the_least_recently_used_unpinned_row(rt: HostRuntime) -> Result<(), Fail> {
-    for bucket in BUCKETS.iter() {
-        let chosen = chosen_in(rt.alloc(), *bucket)?;
-        for at in 0..9 {
-            assert!(rt;
-                chosen[at] == Some(bucket.saturating_mul(4).saturating_add(at as u64 % 4)),
-                "{at}"
-            );
-        }
-        assert!(rt; chosen[9].is_none());
     }
     Ok(())
 }

@@ -25,7 +25,7 @@ pub(crate) fn new_again(alloc: Global, rows: u64) -> Result<Shrinker, NoMemory>
     }
 }
 
-pub(crate) fn add_again(rows: &mut Shrinker, row: u64) -> Result<(), NoMemory>
+fn add_again(rows: &mut Shrinker, row: u64) -> Result<(), NoMemory>
     requires within { row < rows.old.rows }
     requires unused { IsTrue (not (is_used rows.old row)) }
     ensures first { OnOk result (rows.new ≡ added rows.old row) }
@@ -44,7 +44,7 @@ pub(crate) fn add_again(rows: &mut Shrinker, row: u64) -> Result<(), NoMemory>
     }
 }
 
-pub(crate) fn pin_again(rows: &mut Shrinker, row: u64) -> Result<(), PinFault>
+fn pin_again(rows: &mut Shrinker, row: u64) -> Result<(), PinFault>
     requires { IsTrue (is_used rows.old row) }
     ensures pinned { OnOk result (rows.new ≡ pinned_once rows.old row) }
     ensures same_use { KeepsUse rows.old rows.new }

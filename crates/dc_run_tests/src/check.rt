@@ -1,6 +1,5 @@
 //! Records that are read and judged. The verdicts on records of lines alone are in examples/records.
 
-mod hostile;
 mod slow;
 
 use crate::runs::{INODES, phased_verdict};

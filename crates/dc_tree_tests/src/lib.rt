@@ -10,5 +10,3 @@ mod ops;
 mod plain;
 #[cfg(test)]
 mod resolve;
-#[cfg(test)]
-mod store;

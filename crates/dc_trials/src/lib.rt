@@ -7,8 +7,6 @@ mod answers;
 #[cfg(test)]
 mod chains;
 #[cfg(test)]
-mod changes;
-#[cfg(test)]
 mod holds;
 #[cfg(test)]
 mod links;
