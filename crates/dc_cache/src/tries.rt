@@ -107,6 +107,7 @@ pub(crate) fn try_change(
     match Guard::try_lock(shared, &mut pass.seat) {
         Ok(guard) => {
             let (back, made) = guard.change(alloc, call);
+            // For the proof, here and below: the seat is back as it is bound.
             let _seat = back;
             Some(match made {
                 Ok((reply, at)) => Ok(Stamped { reply, at }),

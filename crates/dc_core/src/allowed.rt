@@ -23,6 +23,7 @@ impl State {
     pub fn may_begin(&self, actor: u64, call: &Call) -> Result<(), Refused>
         ensures { AnsweredAs (state_of self.now) (event_by actor (Begin (request_of call.now))) result }
     {
+        // For the proof: the event carries the call, of which nothing is tested.
         let _whatever = call;
         refuse(actor >= self.actors.len() as u64, Refused::Actor)?;
         let one = &self.actors[actor as usize];

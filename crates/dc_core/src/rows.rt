@@ -22,6 +22,7 @@ impl State {
         requires room { row < self.now.rows }
         ensures { result ≡ base_of row }
     {
+        // For the proof: the words are so few that their places are no numbers too great.
         let _words = self.words.len();
         2 + row as usize * ROW_WORDS
     }

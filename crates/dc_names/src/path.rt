@@ -77,6 +77,7 @@ fn has_zero_by<const N: usize>(bytes: &[u8]) -> Option<bool>
 }
 
 /// Whether one of these bytes is zero. It looks at all of them, so that several are looked at at a time.
+// Inlined: the loop is one over as many bytes as its caller knows.
 #[inline(always)]
 fn is_any_zero(bytes: &[u8]) -> bool
     ensures { result ≡ list_any (λ b. b == 0) bytes.now }

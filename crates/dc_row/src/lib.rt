@@ -1,5 +1,6 @@
 //! Rows of the cache as words of 64 bits: what they spell, how a fact is spelled, and how it is sought
-//! without being decoded. Nothing here takes memory. The file `layout` has the table of the words.
+//! without being decoded. Nothing here takes memory. The file `layout` has the table of the words. The small
+//! functions that a look-up calls for each row are inlined: a call would hand its words through memory.
 #![tactic(auto)]
 
 mod entry;
