@@ -12,6 +12,22 @@ use dc_row::{
     words_spell_one_row,
 };
 
+/// Whether the row is spelled by these words, whatever the sequence count is.
+fn is_spelled_by(row: &Row, words: &[u64; ROW_WORDS]) -> bool {
+    match encode(row) {
+        Some(spelled) => spelled[1..] == words[1..],
+        None => false,
+    }
+}
+
+/// Whether the words spell nothing, or a row that is spelled by just them.
+fn is_nothing_or_spelled(words: &[u64; ROW_WORDS]) -> bool {
+    match decode(words) {
+        Some(row) => is_spelled_by(&row, words),
+        None => true,
+    }
+}
+
 fn named(dir: u64, name: &[u8], target: Option<(u64, Kind)>) -> Option<Row> {
     Some(Row::Entry(dir, RowLabel::Name(RowText::of(name)?), target))
 }
@@ -196,7 +212,7 @@ fn tells_no_longer_text_than_a_name(rt: HostRuntime) {
     words[ROW_WORDS - 1] >>= 8;
     let text = text_of(&words);
     assert!(rt; text == RowText::of(&[b'a'; ROW_TEXT]) && text_in(&words) == text);
-    assert!(rt; decode(&words).is_some());
+    assert!(rt; is_nothing_or_spelled(&words) && decode(&words).is_some());
     words[ROW_WORDS - 1] = 0x6161616161616161;
     words[1] = 2 + 256 * (ROW_TEXT as u64 + 1);
     assert!(rt; text_of(&words).is_none() && text_in(&words).is_none());
@@ -254,4 +270,65 @@ fn spells_nothing_with_a_byte_after_the_text(rt: HostRuntime) {
     let mut words = wide(EXAMPLES[1]);
     words[5] = 1;
     assert!(rt; decode(&words).is_none());
+}
+
+#[test]
+fn spells_with_one_bit_turned_just_what_is_read(rt: HostRuntime) {
+    for first in EXAMPLES.iter() {
+        for at in 1..ROW_WORDS {
+            for bit in 0..64u32 {
+                let mut turned = wide(*first);
+                turned[at] ^= 1u64 << bit;
+                assert!(rt; is_nothing_or_spelled(&turned));
+            }
+        }
+    }
+}
+
+/// The next number of a fixed sequence.
+fn next(seed: u64) -> u64 {
+    seed.wrapping_mul(6364136223846793005)
+        .wrapping_add(1442695040888963407)
+}
+
+/// Eight letters, of which the first `used` stand.
+fn letters(seed: u64, used: u64) -> u64 {
+    let all = (seed | 0x4040404040404040) & 0x7f7f7f7f7f7f7f7f;
+    if used == 0 {
+        0
+    } else if used < 8 {
+        all & (u64::MAX >> (64 - 8 * used))
+    } else {
+        all
+    }
+}
+
+/// Words such as a row has, where the text is now and then longer than its length.
+fn likely(seed: u64) -> [u64; ROW_WORDS] {
+    let len = seed % 300;
+    let mut left = len + seed / 40500 % 2;
+    let mut words = [0; ROW_WORDS];
+    words[1] = seed / 300 % 3 + 256 * len + 16777216 * (seed / 900 % 5);
+    words[2] = seed / 4500 % 3;
+    words[3] = seed / 13500 % 3;
+    for word in words[4..].iter_mut() {
+        *word = letters(next(seed), left);
+        left = left.saturating_sub(8);
+    }
+    words
+}
+
+#[test]
+fn spells_at_random_just_what_is_read(rt: HostRuntime) {
+    let mut seed = 1;
+    let mut rows: u64 = 0;
+    for _ in 0..20000 {
+        seed = next(seed);
+        let words = likely(seed >> 20);
+        assert!(rt; is_nothing_or_spelled(&words));
+        if decode(&words).is_some() {
+            rows = rows.wrapping_add(1);
+        }
+    }
+    assert!(rt; rows > 100);
 }

@@ -1,5 +1,7 @@
 //! A table as it is made and ended, its lock, and its steps by hand.
 
+mod lock;
+
 use crate::calls::look;
 use dc_store::Store;
 use dc_table::{MakeFault, Shared};

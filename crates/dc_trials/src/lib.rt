@@ -7,6 +7,8 @@ mod answers;
 #[cfg(test)]
 mod chains;
 #[cfg(test)]
+mod changes;
+#[cfg(test)]
 mod holds;
 #[cfg(test)]
 mod links;
