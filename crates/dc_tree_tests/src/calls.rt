@@ -3,16 +3,6 @@
 use dc_names::Kind;
 use dc_plain::{Call, Flags, Follow, Reply};
 
-/// A slash and 255 letters.
-pub(crate) const LONGEST: &[u8] = b"/\
-    nnnnnnnnnnnnnnnnnnnnnnnnnnnnnnnnnnnnnnnnnnnnnnnnnnnnnnnnnnnnnnnn\
-    nnnnnnnnnnnnnnnnnnnnnnnnnnnnnnnnnnnnnnnnnnnnnnnnnnnnnnnnnnnnnnnn\
-    nnnnnnnnnnnnnnnnnnnnnnnnnnnnnnnnnnnnnnnnnnnnnnnnnnnnnnnnnnnnnnnn\
-    nnnnnnnnnnnnnnnnnnnnnnnnnnnnnnnnnnnnnnnnnnnnnnnnnnnnnnnnnnnnnnn";
-
-/// The longest text of a link.
-pub(crate) const LONGEST_TEXT: &[u8] = &[b'/'; 4095];
-
 /// A call from the root.
 #[derive(Clone, Copy)]
 pub(crate) enum Ask<'a> {

@@ -10,3 +10,5 @@ mod ops;
 mod plain;
 #[cfg(test)]
 mod resolve;
+#[cfg(test)]
+mod store;

@@ -4,7 +4,7 @@
 ghost use Rattle.std.specs.Prelude.{IfOk};
 ghost use Rattle.dc_ops.specs.Plans.{CanCarry};
 
-use crate::calls::{Ask, LONGEST, LONGEST_TEXT, Want};
+use crate::calls::{Ask, Want};
 use dc_names::{Kind, NoMemory};
 use dc_ops::{Plan, ask, carry, plan, seek};
 use dc_plain::{Call, Key, Label, Reply, Sort};
@@ -95,22 +95,10 @@ static TEXTS_AND_NAMES: [Row; 5] = [
     (Ask::List(b"/"), Want::Names(&[b"a", b"d", b"s"])),
 ];
 
-static LONGEST_NAME_AND_TEXT: [Row; 8] = [
-    (Ask::Symlink(LONGEST_TEXT, LONGEST), Want::Done(2)),
-    (Ask::Link(LONGEST, b"/l"), Want::Done(2)),
-    (Ask::Readlink(b"/l"), Want::Text(LONGEST_TEXT)),
-    (Ask::Unlink(LONGEST), Want::Unit),
-    (Ask::Rename(b"/l", LONGEST), Want::Unit),
-    (Ask::Kept(LONGEST), Want::Found(2, Kind::Link)),
-    (Ask::Unlink(LONGEST), Want::Unit),
-    (Ask::List(b"/"), Want::Names(&[])),
-];
-
 #[test]
 fn each_call_is_answered(rt: HostRuntime) -> Result<(), Fail> {
     answer_by_both(rt.alloc(), &CHANGES_AND_LOOK_UPS)?;
-    answer_by_both(rt.alloc(), &TEXTS_AND_NAMES)?;
-    answer_by_both(rt.alloc(), &LONGEST_NAME_AND_TEXT)
+    answer_by_both(rt.alloc(), &TEXTS_AND_NAMES)
 }
 
 /// The number of a key, and a letter for its label: the first of a name, `.` for dot-dot, `=` for a text.

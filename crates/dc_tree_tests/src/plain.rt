@@ -2,7 +2,7 @@
 
 ghost use Rattle.std.specs.Prelude.{◌≤◌};
 
-use crate::calls::{Ask, LONGEST, LONGEST_TEXT, Want};
+use crate::calls::{Ask, Want};
 use dc_names::{Kind, Last, Name, Refusal};
 use dc_plain::{Key, Label, PlainTree, ROOT, Sort, Spot, Where, is_directory, present, refuse};
 use std::alloc::Global;
@@ -28,6 +28,13 @@ fn answer_all(alloc: Global, max_inodes: u64, rows: &[Row]) -> Result<(), Fail>
     Ok(())
 }
 
+/// A slash and 255 letters.
+const LONGEST: &[u8] = b"/\
+    nnnnnnnnnnnnnnnnnnnnnnnnnnnnnnnnnnnnnnnnnnnnnnnnnnnnnnnnnnnnnnnn\
+    nnnnnnnnnnnnnnnnnnnnnnnnnnnnnnnnnnnnnnnnnnnnnnnnnnnnnnnnnnnnnnnn\
+    nnnnnnnnnnnnnnnnnnnnnnnnnnnnnnnnnnnnnnnnnnnnnnnnnnnnnnnnnnnnnnnn\
+    nnnnnnnnnnnnnnnnnnnnnnnnnnnnnnnnnnnnnnnnnnnnnnnnnnnnnnnnnnnnnnn";
+
 /// Each call once, in one tree, and the longest name and text.
 static EACH_CALL: [Row; 23] = [
     (Ask::Look(b"/f"), Want::Refused(2), false),
@@ -51,7 +58,7 @@ static EACH_CALL: [Row; 23] = [
     (Ask::Exchange(b"/d", b"/f"), Want::Unit, true),
     (Ask::Rmdir(b"/d"), Want::Unit, true),
     (Ask::Mkdir(LONGEST), Want::Done(5), true),
-    (Ask::Symlink(LONGEST_TEXT, b"/t"), Want::Done(6), true),
+    (Ask::Symlink(&[b'/'; 4095], b"/t"), Want::Done(6), true),
     (Ask::ListIn(2), Want::Refused(2), false),
 ];
 
