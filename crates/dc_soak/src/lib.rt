@@ -14,3 +14,4 @@ pub use draw::Draw;
 pub use replay::agree;
 pub use round::{BUCKETS, INODES, Played, Round, SORTS, Shaken, Wrong, judge};
 pub use tally::{KINDS, NAMES, Tally, sum};
+pub use threads::Answers;

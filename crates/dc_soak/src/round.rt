@@ -2,6 +2,7 @@
 
 ghost use Rattle.std.specs.Prelude.{◌≡◌, None, IfOk};
 ghost use Rattle.std.specs.Thread.{IsSync};
+ghost use Rattle.dc_cache.specs.Passes.{Fits};
 ghost use Rattle.dc_check.specs.Stamps.{stamps_of};
 ghost use Rattle.dc_plain.specs.Legal.{IsLegal};
 
@@ -9,7 +10,7 @@ use crate::gate::Gate;
 use crate::replay::{Replay, agree};
 use crate::tally::Tally;
 use crate::threads::{Answers, Job, spread};
-use dc_cache::{Dcache, Ended, MakeFault};
+use dc_cache::{Dcache, Ended, MakeFault, Pass};
 use dc_check::{Stamp, Verdict, check};
 use dc_names::NoMemory;
 use std::alloc::Global;
@@ -111,6 +112,29 @@ impl Round {
         BUCKETS.get(self.place).copied().unwrap_or(1)
     }
 
+    /// Has the threads shake a cache. Each has a pass that is split off, and that ends with it.
+    pub fn storm<R: Threads + Wait + Sync>(
+        &self,
+        rt: &R,
+        alloc: Global,
+        cache: &Dcache,
+        pass: &mut Pass,
+    ) -> Result<Answers, NoMemory>
+        requires sync { IsSync R.row }
+        requires pass { Fits cache.now pass.old }
+        ensures { Fits cache.now pass.new }
+    {
+        let gate = Gate::new(self.threads);
+        let job = Job {
+            alloc,
+            seed: self.seed,
+            steps: self.steps,
+            gate: &gate,
+        };
+        let other = cache.split(pass);
+        spread(rt, cache, job, other, 0, self.threads.saturating_sub(1))
+    }
+
     /// Makes a cache, has the threads shake it, and closes it. Its size is right, so that only memory can
     /// be refused.
     pub fn shake<R: Threads + Wait + Sync>(
@@ -121,19 +145,10 @@ impl Round {
         requires { IsSync R.row }
     {
         let (cache, mut pass) = Dcache::new(alloc, self.buckets(), INODES)?;
-        let gate = Gate::new(self.threads);
-        let job = Job {
-            alloc,
-            seed: self.seed,
-            steps: self.steps,
-            gate: &gate,
-        };
-        let other = cache.split(&mut pass);
-        let answers = spread(rt, &cache, job, other, 0, self.threads.saturating_sub(1))?;
+        let Answers { stamps, mut tally } = self.storm(rt, alloc, &cache, &mut pass)?;
         let counts = cache.counts();
         let ended = cache.close(pass);
         let changes = ended.as_ref().map_or(0, |ended| ended.clock);
-        let Answers { stamps, mut tally } = answers;
         tally.count_cache(&counts, changes);
         Ok(Shaken {
             stamps,

@@ -1,5 +1,7 @@
-//! Trials of the cache: tests alone. One pass takes steps whose answers come from the rules of POSIX, threads
-//! change one table and are judged by the checker or by what can't be, and holds are told in numbers.
+//! Trials of names and lines, the cache, the server and the checker: tests alone. One pass takes steps whose
+//! answers come from the rules of POSIX, threads change one table and are judged by the checker or by what can't
+//! be, and holds are told in numbers. Tests of lines alone are files of examples/, as are sessions at once, whose
+//! replies the checker judges.
 #![tactic(auto)]
 
 #[cfg(test)]
@@ -7,17 +9,23 @@ mod answers;
 #[cfg(test)]
 mod chains;
 #[cfg(test)]
-mod changes;
+mod check;
 #[cfg(test)]
 mod holds;
 #[cfg(test)]
+mod lang;
+#[cfg(test)]
 mod links;
 #[cfg(test)]
-mod numbers;
+mod names;
 #[cfg(test)]
 mod passes;
 #[cfg(test)]
 mod races;
+#[cfg(test)]
+mod runs;
+#[cfg(test)]
+mod serve;
 #[cfg(test)]
 mod soak;
 #[cfg(test)]

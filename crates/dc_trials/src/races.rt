@@ -6,8 +6,7 @@
 ghost use Rattle.std.specs.Thread.{IsSync};
 ghost use Rattle.dc_cache.specs.Passes.{Fits, IsChange};
 
-use crate::answers::{Want, create, mkdir, rename, unlink};
-use crate::steps::{Act, Step, play};
+use crate::answers::{create, mkdir, rename, unlink};
 use dc_cache::{Call, Dcache, Fast, Follow, Pass, ROOT, Reply, Stamped, Store, parse};
 use std::alloc::{AllocError, Global};
 use std::sync::Wait;
@@ -152,57 +151,6 @@ fn run<R: Threads + Wait + Sync>(
     (pass, made && absent)
 }
 
-static DIRECTORIES: [Step<'static>; 5] = [
-    Step::Change(Act::Mkdir(b"/p"), Want::Done(2), 0),
-    Step::Change(Act::Mkdir(b"/p/d"), Want::Done(3), 1),
-    Step::Change(Act::Mkdir(b"/p/d/d"), Want::Done(4), 2),
-    Step::Change(Act::Mkdir(b"/p/d/d/d"), Want::Done(5), 3),
-    Step::Change(Act::Mkdir(b"/p/d/d/d/d"), Want::Done(6), 4),
-];
-
-const NEAR: Race<'static> = Race {
-    first: b"/p",
-    second: b"/q",
-    file: b"/p/d/f",
-    file_then: b"/q/d/f",
-};
-
-const FAR: Race<'static> = Race {
-    first: b"/p",
-    second: b"/q",
-    file: b"/p/d/d/d/d/f",
-    file_then: b"/q/d/d/d/d/f",
-};
-
-/// Two races, one after the other, with the same pass.
-fn run_both<R: Threads + Wait + Sync>(
-    rt: &R,
-    alloc: Global,
-    cache: &Dcache,
-    pass: Pass,
-) -> (Pass, bool)
-    requires sync { IsSync R.row }
-    requires pass { Fits cache.now pass }
-    ensures { Fits cache.now result.0 }
-{
-    let (pass, near) = run(rt, alloc, cache, pass, NEAR);
-    let (pass, far) = run(rt, alloc, cache, pass, FAR);
-    (pass, near && far)
-}
-
-/// The file is one and four directories below the one that is renamed.
-#[test]
-fn a_name_that_never_stands_is_never_found(rt: HostRuntime) -> Result<(), Fail> {
-    let (cache, mut pass) = Dcache::new(rt.alloc(), 16, 1024).expect(&rt, "memory");
-    play(&rt, rt.alloc(), &cache, &mut pass, &DIRECTORIES)?;
-    let (pass, right) = run_both(&rt, rt.alloc(), &cache, pass);
-    assert!(rt; right);
-    let ended = cache.close(pass).expect(&rt, "the lock is free");
-    // Five directories, and four changes in each of forty rounds of both races.
-    assert!(rt; ended.clock == 5 + 2 * 40 * 4 && ended.store.live() == 6);
-    Ok(())
-}
-
 /// The path of a file in the last of so many directories, each in the one before, below a directory of
 /// the root.
 fn file_below(alloc: Global, name: u8, depth: u32) -> Result<Vec<u8>, AllocError> {
@@ -253,10 +201,10 @@ fn race_below<R: Threads + Wait + Sync>(rt: &R, alloc: Global, depth: u32) -> Op
     }
 }
 
-/// The file is sixteen and sixty-four directories below the one that is renamed.
+/// The file is so many directories below the one that is renamed.
 #[test]
-fn a_name_far_below_that_never_stands_is_never_found(rt: HostRuntime) -> Result<(), Fail> {
-    for depth in [16, 64] {
+fn a_name_that_never_stands_is_never_found(rt: HostRuntime) -> Result<(), Fail> {
+    for depth in [1, 4, 16, 64] {
         // The renamed directory and those below it, and four changes in each of forty rounds.
         let ended = race_below(&rt, rt.alloc(), depth);
         let depth = u64::from(depth);

@@ -3,8 +3,9 @@
 ghost use Rattle.std.specs.Thread.{IsSync};
 
 use dc_cache::{Ended, SlabStore};
+use dc_check::Stamp;
 use dc_names::NoMemory;
-use dc_plain::{OwnCall, Reply};
+use dc_plain::{OwnCall, Reply, Sort};
 use dc_soak::{BUCKETS, Draw, NAMES, Round, Shaken, Tally, Wrong, agree, judge};
 use std::alloc::{AllocError, Global};
 use std::sync::Wait;
@@ -55,6 +56,35 @@ fn rounds_are_legal(rt: HostRuntime) -> Result<(), Fail> {
             "{name}: {refused} of {made}"
         );
     }
+    Ok(())
+}
+
+/// How many changes a thread was answered.
+fn changes_of(stamps: &[Stamp], session: u64) -> u64 {
+    let mut count = 0u64;
+    for stamp in stamps {
+        if stamp.session == session && stamp.call.as_call().sort() == Sort::Change {
+            count = count.saturating_add(1);
+        }
+    }
+    count
+}
+
+/// Threads that make, link, rename and remove in shared directories, beside their look-ups.
+const FOUR: Round = Round {
+    seed: 1,
+    place: 1,
+    threads: 4,
+    steps: 6_000,
+};
+
+#[test]
+fn four_threads_change_what_one_plain_tree_explains(rt: HostRuntime) -> Result<(), Fail> {
+    let Shaken { stamps, ended, .. } = FOUR.shake(&rt, rt.alloc())?;
+    for session in 0..FOUR.threads {
+        assert!(rt; changes_of(&stamps, session) >= 2_000);
+    }
+    assert!(rt; judge(rt.alloc(), stamps, ended)?.is_none());
     Ok(())
 }
 

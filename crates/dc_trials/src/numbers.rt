@@ -1,7 +1,0 @@
-//! Numbers of a fixed sequence, for what a trial chooses.
-
-/// The next number of a fixed sequence.
-pub fn next(seed: u64) -> u64 {
-    seed.wrapping_mul(6_364_136_223_846_793_005)
-        .wrapping_add(1_442_695_040_888_963_407)
-}
