@@ -17,9 +17,9 @@ use std::alloc::Global;
 use std::sync::Wait;
 
 impl Dcache {
-    /// Makes a change. It looks the directory of the change's name up by rows, and then waits for the
-    /// lock, which it has for the name alone where the rows told. `Spent` where it would alter the tree for more than the
-    /// 2^62nd time, `NoMemory` where memory was refused: then nothing has changed. A change that is
+    /// Makes a change. It looks the directory of the change's name up by rows, and then waits for the lock,
+    /// which it has for the name alone if the rows told. `Spent` if it would alter the tree for more than
+    /// the 2^62nd time, `NoMemory` if memory was refused: then nothing has changed. A change that is
     /// refused, an `Unlink`, a `Rmdir` and an exchange take no memory.
     pub fn change<R: Wait>(
         &self,
@@ -47,8 +47,9 @@ impl Dcache {
         Ok(Stamped { reply, at })
     }
 
-    /// Empties up to so many rows, the least recently used first, and answers how many. It waits for
-    /// the lock, and takes no memory.
+    /// Empties up to so many of the unpinned rows, the least recently used first, and answers how many. A
+    /// row counts as used when it is filled for a key and when it loses its last pin, not when a walk reads
+    /// it. It waits for the lock, and takes no memory.
     pub fn shrink<R: Wait>(&self, rt: &R, pass: &mut Pass, most: u64) -> u64
         requires pass { Fits self.now pass.old }
         ensures same { Fits self.now pass.new × (share pass.new ≡ share pass.old) }

@@ -118,6 +118,7 @@ impl Finder for Filler<'_> {
             store: self.guard.store(),
         };
         let found = finder.find_hashed(dir, part, hash);
+        // The store's finder has no `Drop`, so it can't be let go, but is taken apart.
         let StoreFinder { store: _ } = finder;
         // A store has an answer to each question, so its finder never stops.
         let Ok(target) = found else { unreachable!() };
@@ -134,6 +135,7 @@ impl Finder for Filler<'_> {
             store: self.guard.store(),
         };
         let told = finder.link_text(number);
+        // Taken apart, as it has no `Drop`.
         let StoreFinder { store: _ } = finder;
         match RowText::of(told?) {
             Some(text) => Ok(ShortText { text }),

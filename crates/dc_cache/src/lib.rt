@@ -20,7 +20,7 @@
 //!
 //! `made` is `Done(2)` at 0: the new directory has the number 2, and no change came before. `found` is
 //! `Found(2, Dir)` at 1, and so is `quick`, whose row the look-up before it has filled. `CALLING.md` shows
-//! a caller that is proved, and the crate `dc_uses` has five more, one in each file.
+//! a caller that is proved, and the crate `dc_uses` has it and four more, one in each file.
 //!
 //! # Passes
 //!

@@ -32,8 +32,9 @@ impl Dcache {
 
     /// A cache as `new` makes it, with rows for as many names as the work looks up: buckets may be any
     /// power of two from 1 to 1,048,576. As a name stands in one of four rows, some 4 look-ups in 100
-    /// miss where there are twice as many rows as names, and 4 in 1,000 where there are four times as
-    /// many. A row takes some 350 bytes, and 90 more once it is filled.
+    /// miss if there are twice as many rows as names, and 4 in 1,000 if there are four times as many. A
+    /// row takes 380 bytes, and 64 more once it is filled; with a name of 32 bytes or more some 45 and
+    /// those of the name.
     pub fn with_buckets(
         alloc: Global,
         buckets: u64,

@@ -218,8 +218,9 @@ impl Sleepless {
         tries::try_change_telling(&self.shared, alloc, pass, call)
     }
 
-    /// Empties up to so many rows, the least recently used first, and answers how many. `None` if another
-    /// pass has the lock: then nothing at all has changed.
+    /// Empties up to so many of the unpinned rows, the least recently used first, and answers how many. A
+    /// row counts as used when it is filled for a key and when it loses its last pin, not when a walk reads
+    /// it. `None` if another pass has the lock: then nothing at all has changed.
     #[must_use]
     pub fn try_shrink(&self, pass: &mut Pass, most: u64) -> Option<u64>
         requires pass { FitsSleepless self.now pass.old }

@@ -74,7 +74,7 @@ pub enum Judged {
 impl PhasedVerdict {
     ghost use Rattle.std.specs.Prelude.{◌≡◌, ◌↔◌};
 
-    /// The same of stamps with phases.
+    /// A verdict on stamps, as one on stamps with phases.
     pub fn of(verdict: Verdict) -> PhasedVerdict
         ensures { (result ≡ PhasedVerdict.Legal) ↔ (verdict ≡ Verdict.Legal) }
     {

@@ -221,6 +221,7 @@ fn apply(alloc: Global, tree: &mut PlainTree, one: &Actor) -> Result<Reply, NoMe
 {
     match &one.call {
         Some(call) => tree.apply(alloc, &call.as_call()),
+        // The caller knows that the actor has a call.
         None => unreachable!(),
     }
 }

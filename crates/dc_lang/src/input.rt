@@ -104,7 +104,7 @@ pub fn phases(alloc: Global, lines: &[Line]) -> Result<Vec<&[Line]>, AllocError>
 }
 
 /// A command as it is served.
-#[derive(Clone, Copy, Debug)]
+#[derive(Clone, Copy)]
 pub struct Served<'a> {
     /// Its phase, counted from 0.
     pub phase: u64,

@@ -134,7 +134,7 @@ pub fn read_line(alloc: Global, line: &[u8]) -> Result<Line, LineFault>
     // What is read is what the line means.
     ensures ok { IfOk result (λ meaning. Means line.now (meaning_of meaning)) }
     ensures bad { IsErrOf result LineFault.Bad → (meaning : Meaning) → Means line.now meaning → ⊥ }
-    // The same as the definition computes it.
+    // What is read, as the definition computes it.
     ensures exact { Reads meaning_of result (meaning_in line.now) }
 {
     read(alloc, line)

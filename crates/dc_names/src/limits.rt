@@ -68,7 +68,7 @@ pub const MOST_COUNT: u64 = 1 << 62;
 /// How many sessions an input has: they are numbered from 0. This project's own.
 pub const SESSIONS: u64 = 16;
 
-/// The same, as the length of an array.
+/// `SESSIONS`, as the length of an array.
 pub const SESSION_COUNT: usize = SESSIONS as usize;
 
 /// The most bytes that an input has. This project's own.

@@ -58,8 +58,8 @@ fn has_zero(bytes: &[u8]) -> bool
 }
 
 /// Whether a zero byte stands there, by so many bytes at a time, or `None` where there are fewer.
-// The last ones may overlap those before (measured): a loop over what is left behind the others would end
-// at another place for each path, which no processor guesses.
+// Inlined, as is `is_any_zero`. The last ones may overlap those before (measured): a loop over what is left
+// behind the others would end at another place for each path, which no processor guesses.
 #[inline(always)]
 fn has_zero_by<const N: usize>(bytes: &[u8]) -> Option<bool>
     requires { (0 < N) × (N ≤ 16) }

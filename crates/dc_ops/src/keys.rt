@@ -5,20 +5,21 @@ ghost use Rattle.dc_plain.specs.Spots.{spot_shown};
 ghost use Rattle.dc_plain.specs.TouchedKeys.{spot_key};
 ghost use Rattle.std.specs.Option.{option_to_list};
 ghost use Rattle.arrayvec.specs.ArrayVec.{array_vec_len};
+ghost use Rattle.dc_names.specs.declared.limits.TheConstants.{MOST_TOUCHED};
 ghost use Rattle.dc_plain.specs.KeysShown.{keys_in};
 ghost use Rattle.dc_ops.specs.Keys.{keys_at, keys_made, keys_of, keys_reparented, keys_shown};
 
 use crate::{Moved, Plan};
 use arrayvec::ArrayVec;
 use dc_names::Kind;
-use dc_plain::{Key, Spot};
+use dc_plain::{Key, MOST_TOUCHED, Spot};
 use dc_store::New;
 
 impl<'a> Plan<'a> {
     /// The keys whose facts it alters, four at most: its names, the dot-dot of a directory that
     /// comes, goes or gets another parent, and the text of a link that comes or goes.
     #[must_use]
-    pub fn keys(&self) -> ArrayVec<Key<'a>, 4>
+    pub fn keys(&self) -> ArrayVec<Key<'a>, MOST_TOUCHED>
         ensures { keys_shown result.items ≡ keys_of self.now }
     {
         match *self {
@@ -53,7 +54,7 @@ impl<'a> Plan<'a> {
 }
 
 /// The keys of a name and of an inode's own, if there is one.
-fn one_name<'a>(name: Spot<'a>, own: Option<Key<'a>>) -> ArrayVec<Key<'a>, 4>
+fn one_name<'a>(name: Spot<'a>, own: Option<Key<'a>>) -> ArrayVec<Key<'a>, MOST_TOUCHED>
     ensures { keys_shown result.items ≡ spot_key (spot_shown name.entry) ∷ keys_in own.entry }
 {
     let mut keys = ArrayVec::new();
@@ -68,7 +69,7 @@ fn two_names<'a>(
     to: Spot<'a>,
     own: Option<Key<'a>>,
     other: Option<Key<'a>>,
-) -> ArrayVec<Key<'a>, 4>
+) -> ArrayVec<Key<'a>, MOST_TOUCHED>
     ensures { keys_shown result.items
         ≡ keys_at from.entry to.entry ++ keys_in own.entry ++ keys_in other.entry }
 {
@@ -90,8 +91,8 @@ impl Moved {
 }
 
 /// Adds a key, if there is one.
-fn push_some<'a>(keys: &mut ArrayVec<Key<'a>, 4>, key: Option<Key<'a>>)
-    requires { array_vec_len keys.old < 4 }
+fn push_some<'a>(keys: &mut ArrayVec<Key<'a>, MOST_TOUCHED>, key: Option<Key<'a>>)
+    requires { array_vec_len keys.old < MOST_TOUCHED }
     ensures items { keys.new.items ≡ keys.old.items ++ option_to_list key.entry }
     ensures len { array_vec_len keys.new ≤ array_vec_len keys.old + 1 }
 {

@@ -35,6 +35,7 @@ pub(crate) fn walk_path<S: Store>(
 {
     let mut finder = StoreFinder { store };
     let walked = walk(&mut finder, base, path, follow);
+    // A finder has no `Drop`, so it can't be let go, but is taken apart.
     let StoreFinder { store: _ } = finder;
     match walked {
         Walked::Found(number, kind) => Ok((number, kind)),
@@ -64,6 +65,7 @@ pub(crate) fn place_path<'p, S: Store>(
     }
     let mut finder = StoreFinder { store };
     let placed = place(&mut finder, base, path);
+    // Taken apart, as it has no `Drop`.
     let StoreFinder { store: _ } = finder;
     match placed {
         Placed::At(at) => Ok(at),

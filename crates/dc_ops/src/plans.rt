@@ -5,7 +5,7 @@ use dc_plain::{Key, Spot};
 use dc_store::{New, Place};
 
 /// An inode that gets another name.
-#[derive(Clone, Copy, Debug, PartialEq, Eq)]
+#[derive(Clone, Copy)]
 pub struct Moved {
     /// Its number.
     pub number: u64,
@@ -16,7 +16,7 @@ pub struct Moved {
 }
 
 /// What a change is to do to a store.
-#[derive(Clone, Copy, Debug, PartialEq, Eq)]
+#[derive(Clone, Copy)]
 pub enum Plan<'a> {
     /// An entry comes to a directory.
     Add {

@@ -202,7 +202,8 @@ fn is_inside<S: Store>(store: &S, dir: u64, target: Target) -> bool
     is_directory(target) && is_beneath(store, dir, target.0)
 }
 
-/// Whether going up from a directory one meets an inode.
+/// Whether going up from a directory one meets an inode. The slow machine of `dc_plain` has a copy of its
+/// own, on purpose: a mistake in one of the two isn't one of both.
 fn is_beneath<S: Store>(store: &S, dir: u64, number: u64) -> bool
     requires { IsTrue (is_live_directory (S.tree store.now) dir) }
     ensures { result ≡ lies_beneath (S.tree store.now) dir number }

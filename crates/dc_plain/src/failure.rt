@@ -8,7 +8,7 @@ use dc_names::{NoMemory, Refusal, TextFault};
 use std::alloc::AllocError;
 
 /// Why the slow machine carries no call out.
-#[derive(Clone, Copy, Debug, PartialEq, Eq)]
+#[derive(Clone, Copy)]
 pub(crate) enum Failure {
     /// The call is refused.
     Refused(Refusal),

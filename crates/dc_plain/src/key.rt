@@ -8,7 +8,7 @@ ghost use Rattle.dc_plain.specs.TouchedKeys.{own_keys, parent_key};
 use dc_names::{Kind, Name};
 
 /// What is asked of an inode.
-#[derive(Clone, Copy, Debug, PartialEq, Eq)]
+#[derive(Clone, Copy, PartialEq, Eq)]
 pub enum Label<'a> {
     /// The entry of this name in a directory.
     Name(Name<'a>),
@@ -35,7 +35,7 @@ impl<'a> Label<'a> {
 
 /// What a row of the cache tells of: an entry, a dot-dot or a link's text, of the inode of a
 /// number.
-#[derive(Clone, Copy, Debug, PartialEq, Eq)]
+#[derive(Clone, Copy)]
 pub struct Key<'a> {
     /// The inode's number.
     pub number: u64,

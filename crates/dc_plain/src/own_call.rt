@@ -9,9 +9,10 @@ ghost use Rattle.dc_plain.specs.Requests.Request.{Look, Rename};
 use crate::{Call, Flags, Follow};
 use dc_names::NoMemory;
 use std::alloc::Global;
+use std::fmt;
 
 /// A [`Call`] that owns its bytes, for one who keeps it.
-#[derive(Debug, Drop, PartialEq, Eq)]
+#[derive(Drop, PartialEq, Eq)]
 pub enum OwnCall {
     /// Where a path leads.
     Look {
@@ -73,6 +74,12 @@ pub enum OwnCall {
         new: Vec<u8>,
         flags: Flags,
     },
+}
+
+impl fmt::Debug for OwnCall {
+    fn fmt<W: fmt::Write>(&self, f: &mut fmt::Formatter<W>) -> fmt::Result {
+        self.as_call().fmt(f)
+    }
 }
 
 /// The path of a call with nothing beside it, or its two paths, or its text with its path.

@@ -131,7 +131,8 @@ impl PlainTree {
         }))
     }
 
-    /// Whether going up from a directory one meets an inode, or doesn't come to the root.
+    /// Whether going up from a directory one meets an inode, or doesn't come to the root. `dc_ops` has a copy
+    /// of its own for stores, on purpose: a mistake in one of the two isn't one of both.
     #[tactic(auto, using(crate::proofs::Climbs::climbs))]
     fn is_beneath(&self, dir: u64, number: u64) -> bool
         ensures { result

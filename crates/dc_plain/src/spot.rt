@@ -9,7 +9,7 @@ use crate::{Key, Label};
 use dc_names::{Last, Name};
 
 /// A name in a directory, whether an entry stands there or not.
-#[derive(Clone, Copy, Debug, PartialEq, Eq)]
+#[derive(Clone, Copy, PartialEq, Eq)]
 pub struct Spot<'a> {
     /// The directory's number.
     pub dir: u64,
@@ -29,7 +29,7 @@ impl<'a> From<Spot<'a>> for Key<'a> {
 }
 
 /// Where the last part of a path is to be looked up.
-#[derive(Clone, Copy, Debug, PartialEq, Eq)]
+#[derive(Clone, Copy)]
 pub struct Where<'a> {
     /// The number of the directory that the other parts lead to.
     pub dir: u64,

@@ -15,7 +15,7 @@ use dc_names::{Last, PathText, Refusal};
 use dc_plain::{Follow, ROOT, Where};
 
 /// Where the last component of a path is to be looked up.
-#[derive(Clone, Copy, Debug, PartialEq, Eq)]
+#[derive(Clone, Copy)]
 pub enum Placed<'p> {
     /// The last component in its directory.
     At(Where<'p>),

@@ -12,7 +12,7 @@ use dc_names::{Kind, PathText, Refusal};
 use dc_plain::Follow;
 
 /// Where a path leads.
-#[derive(Clone, Copy, Debug, PartialEq, Eq)]
+#[derive(Clone, Copy, PartialEq, Eq)]
 pub enum Walked {
     /// An inode's number and its kind.
     Found(u64, Kind),

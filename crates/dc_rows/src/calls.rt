@@ -41,8 +41,8 @@ pub fn change<R: Wait>(
     made
 }
 
-/// Empties up to so many rows, the least recently used first, and answers how many. It waits for the lock,
-/// and takes no memory.
+/// Empties up to so many rows, the least recently used first, as `Guard::shrink`, and answers how many. It
+/// waits for the lock, and takes no memory.
 pub fn shrink<R: Wait>(shared: &Shared, rt: &R, pass: &mut Pass, most: u64) -> u64
     requires pass { Fits shared.now pass.old × IsIdle pass.old }
     ensures same { IsSamePass pass.old pass.new × IsIdle pass.new }

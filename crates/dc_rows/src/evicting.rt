@@ -97,7 +97,8 @@ impl Guard<'_> {
     }
 
     /// Empties up to so many of the unpinned rows in use, the least recently used first, and answers how
-    /// many. It takes no memory.
+    /// many. A row counts as used when it is filled for a key and when it loses its last pin, not when a
+    /// walk reads it. It takes no memory.
     #[tactic(auto, using(crate::proofs::Held::keeps_then))]
     pub fn shrink(&mut self, most: u64) -> u64
         ensures same_reference { self.new.holder.pass.ghost_name ≡ self.old.holder.pass.ghost_name }

@@ -128,7 +128,8 @@ fn fill_row(
     fill_new(holder, kept, alloc, key, &words)
 }
 
-/// The same of an entry of which the caller knows where it leads.
+/// The row of an entry's key, which is filled if no row has the key, for a caller that knows where the entry
+/// leads.
 fn fill_entry_row(
     holder: &mut Holder<'_>,
     kept: &mut Guarded,

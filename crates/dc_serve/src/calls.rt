@@ -18,8 +18,8 @@ use std::sync::Wait;
 /// Answers a look-up by the steps that the cache's `look` takes, and says which of them it took.
 fn look<R: Wait>(
     rt: &R,
-    cache: &Dcache,
     alloc: Global,
+    cache: &Dcache,
     pass: &mut Pass,
     base: u64,
     path: &[u8],
@@ -52,8 +52,8 @@ fn look<R: Wait>(
 /// recorded.
 pub fn answer<R: Wait, G: Gate>(
     rt: &R,
-    cache: &Dcache,
     alloc: Global,
+    cache: &Dcache,
     pass: &mut Pass,
     call: &Call<'_>,
     gate: &G,
@@ -66,7 +66,7 @@ pub fn answer<R: Wait, G: Gate>(
 {
     match *call {
         Call::Look { base, path, follow } => {
-            let (stamped, looked) = look(rt, cache, alloc, pass, base, path, follow);
+            let (stamped, looked) = look(rt, alloc, cache, pass, base, path, follow);
             gate.looked(looked);
             Ok(stamped)
         }

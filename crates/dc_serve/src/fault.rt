@@ -14,7 +14,7 @@ pub enum ServeFault {
     /// This line, counted from 1, is none of the grammar.
     #[error("bad line {0}")]
     BadLine(u64),
-    /// Memory was refused.
+    /// Memory or a thread was refused.
     #[error("no memory")]
     NoMemory,
     /// The clock stands at its limit, which no input is long enough to bring it to.

@@ -24,8 +24,8 @@ use std::thread::Threads;
 /// replies to each once it is served.
 fn serve_phases<R: Threads + Wait + Sync, G: Gate, W: Write>(
     rt: &R,
-    cache: &Dcache,
     alloc: Global,
+    cache: &Dcache,
     mut pass: Pass,
     phases: &[&[Line]],
     gate: &G,
@@ -97,7 +97,7 @@ pub fn serve<R: Threads + Wait + Sync, G: Gate, W: Write>(
     records_are_legal();
     let phases = phases(alloc, lines)?;
     let (cache, pass) = Dcache::new(alloc, options.buckets, options.inodes)?;
-    let (mut pass, result) = serve_phases(rt, &cache, alloc, pass, &phases, gate, writer);
+    let (mut pass, result) = serve_phases(rt, alloc, &cache, pass, &phases, gate, writer);
     tell_rows(rt, &cache, &mut pass, options, gate);
     // What was answered, after a fault too, is known to be a run once the cache is closed with the
     // pass that took all others in.

@@ -54,7 +54,7 @@ impl<'a, G: Gate> Phase<'a, G> {
         ensures err { IfErr result (IsServiceFault (book pass.new).seen) }
     {
         let (cache, alloc, gate) = (self.cache, self.alloc, self.gate);
-        let stamped = answer(rt, cache, alloc, pass, &call(command, replies.base), gate)?;
+        let stamped = answer(rt, alloc, cache, pass, &call(command, replies.base), gate)?;
         let line = write_reply(alloc, command.session, &stamped)?;
         replies.text.extend_from_slice(&line)?;
         replies.base = base_after(command, &stamped.reply, replies.base);

@@ -13,7 +13,7 @@ const INNER: [&[u8]; 8] = [b"a", b"a", b"a", b"b", b"b", b"c", b"l", b".."];
 /// What a path ends in.
 const LAST: [&[u8]; 8] = [b"a", b"b", b"c", b"x", b"y", b"l", b"m", b".."];
 
-/// A name that no row has room for.
+/// A path with a name too long to be compared as its row is read.
 const WIDE: &[u8] = b"/a/a-name-of-more-bytes-than-a-row-has-room-for";
 
 /// The calls of a thread.

@@ -21,7 +21,7 @@ use dc_plain::Spot;
 use std::alloc::Global;
 
 /// What a new entry leads to.
-#[derive(Clone, Copy, Debug, PartialEq, Eq)]
+#[derive(Clone, Copy)]
 pub enum New<'a> {
     /// A new directory.
     Dir,
@@ -47,7 +47,8 @@ pub trait Store {
         self.find_hashed(dir, name, hash(dir, name.bytes()))
     }
 
-    /// The same for a caller that has the hash of the directory's number and the name, as a walk makes it.
+    /// The number that a name in a directory leads to, for a caller that has the hash of the directory's
+    /// number and the name, as a walk makes it. `None` if there is no such entry, or no such directory.
     fn find_hashed(&self, dir: u64, name: Name<'_>, hash: u64) -> Option<u64>
         requires { hash ≡ hash_of dir name.bytes.now }
         ensures target { result ≡ entry_number (tree self.now) (spot_at dir name.entry.bytes.now) }

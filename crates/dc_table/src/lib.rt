@@ -36,8 +36,9 @@
 //! # Who may take which step
 //!
 //! `Holder` has the steps of the one that has the lock, `Reader` those of a walk without it, and both take
-//! them for a `Pass`. Nothing else of the table is public but its beginning, its end, and how passes are
-//! cut and put together.
+//! them for a `Pass`. `Shared` makes them: `lock` and `try_lock` the one, `reader` the other. Else it has
+//! its beginning and its end, its sizes and counts, how passes are cut and put together, `learn`, which
+//! loads the clock, and `wake`, which ends the sleep of one who waits for the lock.
 #![tactic(auto)]
 
 mod holder;

@@ -56,7 +56,8 @@ impl Shared {
         Shared::with_buckets(alloc, buckets, max_inodes)
     }
 
-    /// The same table, with as many buckets as the work wants: any power of two from 1 to 1,048,576.
+    /// A table as `new` makes it, with as many buckets as the work wants: any power of two from 1 to
+    /// 1,048,576.
     pub fn with_buckets(
         alloc: Global,
         buckets: u64,
@@ -128,6 +129,7 @@ impl Shared {
     }
 
     /// A pass for another thread, which has seen what this one has. It gets half of the share.
+    #[must_use]
     pub fn split(&self, pass: &mut Pass) -> Pass
         requires pass { Fits self.now pass.old × IsIdle pass.old }
         ensures same { Fits self.now pass.new × IsIdle pass.new × (pass.new.id ≡ pass.old.id) }
@@ -152,6 +154,7 @@ impl Shared {
     /// Ends the table: the tree, and how many calls altered it, are those of a history in which the
     /// records of the pass stand. `None` where another pass has the lock and so the tree; never where
     /// this one has the whole share.
+    #[must_use]
     pub fn close(self, pass: Pass) -> Option<Guarded>
         requires pass { Fits self pass × IsIdle pass }
         ensures tree { IfSome result (λ x. Ends (share pass).limit (known pass) x.store x.clock) }

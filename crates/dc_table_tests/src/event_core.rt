@@ -152,7 +152,7 @@ fn play(core: &mut Core, alloc: Global, steps: &[Step]) -> Result<(), Fail> {
     Ok(())
 }
 
-/// The same of a core of two actors. The steps come in two lists.
+/// Takes the steps of two lists on a new core of two actors, and fails if one goes otherwise.
 fn play_two(alloc: Global, first: &[Step], then: &[Step]) -> Result<(), Fail> {
     let mut core = Core::new(alloc, 1, 2, 16)?;
     play(&mut core, alloc, first)?;

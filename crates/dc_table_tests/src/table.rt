@@ -23,7 +23,7 @@ fn a_table_has_its_sizes(rt: HostRuntime) {
     }
 }
 
-/// The same of tables as large as one wishes.
+/// Buckets and inodes of which `with_buckets` makes no table.
 static BAD_BUCKETS: [(u64, u64); 5] = [
     (0, 16),
     (3072, 16),

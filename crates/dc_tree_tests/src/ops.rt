@@ -50,12 +50,12 @@ fn answer_all<S: Store>(alloc: Global, store: &mut S, rows: &[Row]) -> Result<()
     Ok(())
 }
 
-/// The same on a new store of one kind.
+/// Makes each call on a new `SlabStore`, and fails if one has another reply.
 fn answer_by_slab(alloc: Global, rows: &[Row]) -> Result<(), Fail> {
     answer_all(alloc, &mut SlabStore::new(alloc)?, rows)
 }
 
-/// And of the other.
+/// Makes each call on a new `MapStore`, and fails if one has another reply.
 fn answer_by_map(alloc: Global, rows: &[Row]) -> Result<(), Fail> {
     answer_all(alloc, &mut MapStore::new(alloc)?, rows)
 }

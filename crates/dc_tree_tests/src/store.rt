@@ -138,7 +138,7 @@ enum To<'a> {
 }
 
 impl<'a> To<'a> {
-    /// The same as the stores take it. A text that is none counts as want of memory.
+    /// The new entry, as the stores take it. A text that is no path counts as want of memory.
     fn new_entry(self) -> Result<New<'a>, NoMemory> {
         match self {
             To::Dir => Ok(New::Dir),

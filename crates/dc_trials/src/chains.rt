@@ -90,7 +90,8 @@ fn look<R: Wait>(rt: &R, alloc: Global, cache: &Dcache, pass: &mut Pass) -> Opti
     first_other(rt, alloc, cache, pass, &LOOKS)
 }
 
-/// The same in a thread with the smallest stack that there is, or `None` where none can be started.
+/// Looks up as `look` does, in a thread with the smallest stack that there is. `None` if no thread can be
+/// started.
 fn look_in_a_thread<R: Threads + Wait + Sync>(
     rt: &R,
     alloc: Global,

@@ -28,7 +28,7 @@ fn a_cache_has_its_sizes(rt: HostRuntime) {
     }
 }
 
-/// The same of caches with as many buckets as one wishes.
+/// Buckets and inodes of which `with_buckets` makes no cache.
 static BAD_BUCKETS: [(u64, u64); 5] = [
     (0, 16),
     (3 * 1024, 16),

@@ -267,7 +267,8 @@ pub fn play<R: Wait>(
     }
 }
 
-/// The same of one pass over a new cache of so many buckets and inodes.
+/// Takes the steps with the first pass of a new cache of so many buckets and inodes, and fails if one comes
+/// to something else.
 pub fn play_anew<R: Wait>(
     rt: &R,
     alloc: Global,

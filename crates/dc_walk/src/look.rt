@@ -5,7 +5,7 @@ use dc_plain::{Call, Follow};
 
 /// What a look-up asks: where a path leads from a starting directory, the number of an inode, and
 /// whether it follows a link that the path ends in.
-#[derive(Clone, Copy, Debug)]
+#[derive(Clone, Copy)]
 pub struct Look<'a> {
     pub base: u64,
     pub path: PathText<'a>,

@@ -24,7 +24,8 @@ impl<'a, R: Wait> Source for Pinning<'a, R> {
 
     ghost serves = { λ source table. source.shared.now ≡ table };
 
-    /// No row where none can be had.
+    /// No row if none can be had. The hash that the walk has isn't used: `pin` finds the row by its key in
+    /// the index, under the lock, and the index hashes the key itself, as its calls take keys alone.
     fn rows_of(
         &self,
         _reader: Reader<'_>,

@@ -35,6 +35,7 @@ pub fn key_of<'a>(number: u64, part: Part<'a>) -> Key<'a>
     let label = match part {
         Part::Normal(name) => Label::Name(name),
         Part::DotDot => Label::DotDot,
+        // The caller knows that it is no dot: for a dot nothing is looked up.
         Part::Dot => unreachable!(),
     };
     Key { number, label }

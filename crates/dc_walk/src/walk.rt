@@ -64,6 +64,7 @@ pub(crate) fn walk_rows<'x, S: Source>(
         Walked::Refused(refusal) => Ok((Reply::Refused(refusal.number()), begun)),
         Walked::Stopped => match why {
             Some(why) => Err((why, spare)),
+            // The finder keeps the cause before it stops.
             None => unreachable!(),
         },
     }

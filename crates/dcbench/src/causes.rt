@@ -9,7 +9,7 @@ pub struct Causes {
     /// No row had a name, or a link's text.
     pub miss: u64,
     pub link: u64,
-    /// A name has no room in a row, or a walk rests on too many of them.
+    /// A walk would rest on too many rows.
     pub long: u64,
     /// A change came between.
     pub busy: u64,

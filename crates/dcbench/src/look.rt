@@ -33,6 +33,7 @@ pub struct Looks<'a> {
 
 /// Looks a path up after the rows gave up: by rows that are filled for it one by one, else as `look` goes
 /// on.
+// Kept out of the loop that is timed: few look-ups come to it.
 #[cold]
 #[inline(never)]
 fn look_slowly<R: Wait>(
@@ -134,6 +135,7 @@ fn look_each<R: Wait>(
 }
 
 /// Whether a text is a path that leads somewhere.
+// Inlined, as is `finds`.
 #[inline(always)]
 fn finds_text<R: Wait>(
     rt: &R,

@@ -7,7 +7,7 @@ use std::time::Duration;
 pub enum Work {
     /// Files that are there.
     Read,
-    /// The same, each by a text that is tested first, as in a call from C.
+    /// Files that are there, each by a text that is tested first, as in a call from C.
     Texts,
     /// Names that never stand, whose absence has rows.
     Absent,

@@ -176,7 +176,8 @@ pub(super) fn play<R: Wait>(
     None
 }
 
-/// The same over a new table of so many buckets. Without memory for it the first step fails.
+/// Takes the steps as `play` does, over a new table of so many buckets. Without memory for the table the
+/// first step fails.
 pub(super) fn play_anew<R: Wait>(
     rt: &R,
     alloc: Global,

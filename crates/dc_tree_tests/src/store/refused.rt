@@ -23,7 +23,7 @@ fn agree<S: Store, T: Store>(one: &S, other: &T, alloc: Global) -> Result<bool, 
     Ok((one.next(), one.live()) == (other.next(), other.live()))
 }
 
-/// The same, once more if memory is refused.
+/// Whether two stores are one tree, asked once more if memory is refused.
 fn agree_again<S: Store, T: Store>(one: &S, other: &T, alloc: Global) -> Result<bool, NoMemory> {
     match agree(one, other, alloc) {
         Ok(same) => Ok(same),
