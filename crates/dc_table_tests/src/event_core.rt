@@ -367,12 +367,20 @@ static STOPS: [(usize, Result<(), (u64, Refused)>); 4] = [
     (3, Err((0, Refused::Even))),
 ];
 
+/// Whether the events come to that from each of the places.
+fn stop_so(core: &mut Core, alloc: Global) -> bool {
+    for (place, want) in STOPS.iter() {
+        if first_from(core, alloc, *place) != *want {
+            return false;
+        }
+    }
+    true
+}
+
 #[test]
 fn a_list_stops_at_the_first_refusal(rt: HostRuntime) -> Result<(), Fail> {
     let mut core = Core::new(rt.alloc(), 1, 1, 16)?;
-    for (place, want) in STOPS.iter() {
-        assert!(rt; first_from(&mut core, rt.alloc(), *place) == *want);
-    }
+    assert!(rt; stop_so(&mut core, rt.alloc()));
     assert!(rt; core.rows() == 4 && core.count(0) == 4);
     assert!(rt; core.count(4) == 0 && core.count(u64::MAX) == 0);
     Ok(())

@@ -88,63 +88,53 @@ fn fill<R: Wait>(rt: &R, alloc: Global, shared: &Shared, mut pass: Pass, letter:
     pass
 }
 
-/// Two passes fill the table in two threads.
+/// A pass and one that is split off it fill the table in two threads.
 fn fill_both<R: Threads + Wait + Sync>(
     rt: &R,
     alloc: Global,
     table: &Shared,
-    a: Pass,
-    b: Pass,
+    mut pass: Pass,
     first: u8,
     second: u8,
-) -> (Pass, Pass)
-    requires a { Fits table.now a × IsIdle a }
-    requires b { Fits table.now b × IsIdle b }
+) -> Pass
+    requires pass { Fits table.now pass × IsIdle pass }
     requires sync { IsSync R.row }
-    ensures a { Fits table.now result.0 × IsIdle result.0 }
-    ensures b { Fits table.now result.1 × IsIdle result.1 }
+    ensures { Fits table.now result × IsIdle result }
 {
-    join(
+    let other = table.split(&mut pass);
+    let (mut pass, other) = join(
         rt,
         move || -> Pass
-            requires { Fits table.now a × IsIdle a }
+            requires { Fits table.now pass × IsIdle pass }
             ensures { Fits table.entry.now result × IsIdle result }
-        { fill(rt, alloc, table, a, first) },
+        { fill(rt, alloc, table, pass, first) },
         move || -> Pass
-            requires { Fits table.now b × IsIdle b }
+            requires { Fits table.now other × IsIdle other }
             ensures { Fits table.entry.now result × IsIdle result }
-        { fill(rt, alloc, table, b, second) },
-    )
+        { fill(rt, alloc, table, other, second) },
+    );
+    table.join(&mut pass, other);
+    pass
 }
 
 #[test]
 fn four_threads_fill_one_table(rt: HostRuntime) -> Result<(), Fail> {
     let (shared, mut p) = Shared::new(rt.alloc(), 16, 1024).expect(&rt, "memory");
-    let a = shared.split(&mut p);
-    let b = shared.split(&mut p);
-    let c = shared.split(&mut p);
-    let d = shared.split(&mut p);
+    let q = shared.split(&mut p);
     let table = &shared;
     let alloc = rt.alloc();
-    let ((a, b), (c, d)) = join(
+    let (mut p, q) = join(
         &rt,
-        move || -> (Pass, Pass)
-            requires a { Fits table.now a × IsIdle a }
-            requires b { Fits table.now b × IsIdle b }
-            ensures a { Fits table.entry.now result.0 × IsIdle result.0 }
-            ensures b { Fits table.entry.now result.1 × IsIdle result.1 }
-        { fill_both(&rt, alloc, table, a, b, b'a', b'b') },
-        move || -> (Pass, Pass)
-            requires c { Fits table.now c × IsIdle c }
-            requires d { Fits table.now d × IsIdle d }
-            ensures c { Fits table.entry.now result.0 × IsIdle result.0 }
-            ensures d { Fits table.entry.now result.1 × IsIdle result.1 }
-        { fill_both(&rt, alloc, table, c, d, b'c', b'd') },
+        move || -> Pass
+            requires { Fits table.now p × IsIdle p }
+            ensures { Fits table.entry.now result × IsIdle result }
+        { fill_both(&rt, alloc, table, p, b'a', b'b') },
+        move || -> Pass
+            requires { Fits table.now q × IsIdle q }
+            ensures { Fits table.entry.now result × IsIdle result }
+        { fill_both(&rt, alloc, table, q, b'c', b'd') },
     );
-    shared.join(&mut p, a);
-    shared.join(&mut p, b);
-    shared.join(&mut p, c);
-    shared.join(&mut p, d);
+    shared.join(&mut p, q);
     let value = shared.close(p).expect(&rt, "the lock is free");
     assert!(rt; value.clock == 400 && value.store.live() == 401);
     Ok(())

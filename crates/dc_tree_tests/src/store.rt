@@ -187,29 +187,68 @@ fn holds<S: Store>(store: &S, alloc: Global, dir: u64, want: &[&[u8]]) -> Result
     Ok(names.len() == want.len() && pairs.all(|(name, want)| name.as_slice() == *want))
 }
 
-/// Whether a change answers so.
-fn answers<S: Store>(store: &mut S, alloc: Global, step: Step<'_>) -> Result<bool, NoMemory> {
+/// Whether an entry is added so.
+fn adds<S: Store>(
+    store: &mut S,
+    alloc: Global,
+    dir: u64,
+    name: &[u8],
+    new: To<'_>,
+    want: Option<u64>,
+) -> Result<bool, NoMemory> {
+    let new = new.new_entry()?;
+    Ok(add_to(store, alloc, dir, named(name)?, new)? == want)
+}
+
+/// Whether an entry goes so, by the place of another.
+fn drops_by<S: Store>(
+    store: &mut S,
+    dir: u64,
+    name: &[u8],
+    other: &[u8],
+    want: bool,
+) -> Result<bool, NoMemory> {
+    Ok(drop_by(store, dir, named(name)?, named(other)?) == want)
+}
+
+/// Whether an entry moves so.
+fn moves<S: Store>(
+    store: &mut S,
+    alloc: Global,
+    old: (u64, &[u8]),
+    new: (u64, &[u8]),
+    want: bool,
+) -> Result<bool, NoMemory> {
+    Ok(move_to(store, alloc, spot(old)?, spot(new)?)? == want)
+}
+
+/// Whether a step answers so.
+fn answers<S: Store>(store: &mut S, alloc: Global, step: &Step<'_>) -> Result<bool, NoMemory> {
     match step {
-        Step::Add(dir, name, new, want) => {
-            Ok(add_to(store, alloc, dir, named(name)?, new.new_entry()?)? == want)
-        }
-        Step::Drop(dir, name, want) => Ok(drop_from(store, dir, named(name)?) == want),
-        Step::DropBy(dir, name, other, want) => {
-            Ok(drop_by(store, dir, named(name)?, named(other)?) == want)
-        }
-        Step::Move(old, new, want) => { Ok(move_to(store, alloc, spot(old)?, spot(new)?)? == want) }
+        Step::Add(dir, name, new, want) => adds(store, alloc, *dir, name, *new, *want),
+        Step::Drop(dir, name, want) => Ok(drop_from(store, *dir, named(name)?) == *want),
+        Step::DropBy(dir, name, other, want) => drops_by(store, *dir, name, other, *want),
+        Step::Move(old, new, want) => moves(store, alloc, *old, *new, *want),
+        read => tells(store, alloc, read),
+    }
+}
+
+/// Whether a read answers so.
+fn tells<S: Store>(store: &S, alloc: Global, step: &Step<'_>) -> Result<bool, NoMemory> {
+    match step {
         Step::Seen(number, kind, parent, count) => {
             let seen = (
-                store.kind(number),
-                store.parent(number),
-                store.count(number),
+                store.kind(*number),
+                store.parent(*number),
+                store.count(*number),
             );
-            Ok(seen == (kind, parent, count))
+            Ok(seen == (*kind, *parent, *count))
         }
-        Step::Find(dir, name, want) => Ok(store.find(dir, named(name)?) == want),
-        Step::Text(number, want) => Ok(store.text(number) == want),
-        Step::List(dir, want) => holds(store, alloc, dir, want),
-        Step::Size(next, live) => Ok((store.next(), store.live()) == (next, live)),
+        Step::Find(dir, name, want) => Ok(store.find(*dir, named(name)?) == *want),
+        Step::Text(number, want) => Ok(store.text(*number) == *want),
+        Step::List(dir, want) => holds(store, alloc, *dir, want),
+        Step::Size(next, live) => Ok((store.next(), store.live()) == (*next, *live)),
+        Step::Add(..) | Step::Drop(..) | Step::DropBy(..) | Step::Move(..) => Ok(false),
     }
 }
 
@@ -237,7 +276,11 @@ fn fails_at(alloc: Global, steps: &[Step<'_>]) -> Result<Option<usize>, NoMemory
 
 /// Whether a step answers so. One that is refused memory is taken once more, and answers then as if it
 /// hadn't been.
-fn answers_again<S: Store>(store: &mut S, alloc: Global, step: Step<'_>) -> Result<bool, NoMemory> {
+fn answers_again<S: Store>(
+    store: &mut S,
+    alloc: Global,
+    step: &Step<'_>,
+) -> Result<bool, NoMemory> {
     match answers(store, alloc, step) {
         Ok(right) => Ok(right),
         Err(NoMemory) => answers(store, alloc, step),
@@ -251,7 +294,7 @@ fn fails_in<S: Store>(
     steps: &[Step<'_>],
 ) -> Result<Option<usize>, NoMemory> {
     for (place, step) in steps.iter().enumerate() {
-        if !answers_again(store, alloc, *step)? {
+        if !answers_again(store, alloc, step)? {
             return Ok(Some(place));
         }
     }

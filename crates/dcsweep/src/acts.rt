@@ -115,6 +115,18 @@ fn do_events(alloc: Global, core: &mut Core, events: &[Event], by_one_call: bool
     }
 }
 
+/// Whether a new core comes to the same by these events.
+fn is_as_anew(
+    alloc: Global,
+    core: &Core,
+    events: &[Event],
+    by_one_call: bool,
+) -> Result<bool, Fault> {
+    let mut twin = Core::new(alloc, 1, 1, 16)?;
+    let done = do_events(alloc, &mut twin, events, by_one_call);
+    Ok(done.is_some() && are_same(core, &twin))
+}
+
 /// Does a list of events, an allocation of which is refused, and compares what it comes to.
 pub fn trial(alloc: Global, plan: &Plan<'_>) -> Result<Told, Fault> {
     let events = events(alloc)?;
@@ -127,9 +139,7 @@ pub fn trial(alloc: Global, plan: &Plan<'_>) -> Result<Told, Fault> {
         return Ok(Told::Wrong("an event is refused"));
     };
     let place = plan.place(alloc);
-    let mut twin = Core::new(alloc, 1, 1, 16)?;
-    let done = do_events(alloc, &mut twin, &events, by_one_call);
-    if done.is_none() || !are_same(&core, &twin) {
+    if !is_as_anew(alloc, &core, &events, by_one_call)? {
         return Ok(Told::Wrong("the core"));
     }
     Ok(told(place, answered))

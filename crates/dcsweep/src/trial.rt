@@ -21,20 +21,70 @@ const BUCKETS: u64 = 1;
 /// How many inodes may live in it.
 const INODES: u64 = 64;
 
+/// Makes the calls of some lines.
+fn make_each<R: Wait>(
+    rt: &R,
+    alloc: Global,
+    cache: &Dcache,
+    pass: &mut Pass,
+    lines: &[Line],
+) -> Result<(), Fault>
+    requires { Fits cache.now pass.old }
+    ensures { Fits cache.now pass.new }
+{
+    for line in lines {
+        let Line::Command(command) = line else {
+            return Err(Fault::Words);
+        };
+        if answer(rt, alloc, cache, pass, &call(command, ROOT)).is_err() {
+            return Err(Fault::Setup);
+        }
+    }
+    Ok(())
+}
+
 /// A cache after the calls of some lines.
 fn made<R: Wait>(rt: &R, alloc: Global, lines: &[Line]) -> Result<(Dcache, Pass), Fault>
     ensures { IfOk result (λ r. Fits r.0 r.1) }
 {
     let (cache, mut pass) = Dcache::new(alloc, BUCKETS, INODES)?;
-    for line in lines {
-        let Line::Command(command) = line else {
-            return Err(Fault::Words);
-        };
-        if answer(rt, alloc, &cache, &mut pass, &call(command, ROOT)).is_err() {
-            return Err(Fault::Setup);
-        }
-    }
+    make_each(rt, alloc, &cache, &mut pass, lines)?;
     Ok((cache, pass))
+}
+
+/// What isn't as with a twin, which makes the call now if it was answered.
+fn difference<R: Wait>(
+    rt: &R,
+    alloc: Global,
+    way: Way,
+    asked: &Call<'_>,
+    came: &Result<Stamped, Unanswered>,
+    cache: &Dcache,
+    pass: &mut Pass,
+    twin: &Dcache,
+    other: &mut Pass,
+) -> Result<Option<&'static str>, Fault>
+    requires pass { Fits cache.now pass.old }
+    requires other { Fits twin.now other.old }
+    ensures pass { Fits cache.now pass.new }
+    ensures other { Fits twin.now other.new }
+{
+    if came.is_ok() && answer_by(rt, alloc, way, twin, other, asked) != *came {
+        return Ok(Some("the reply"));
+    }
+    if let Way::Fills = way
+        && answer_by(rt, alloc, way, cache, pass, asked)
+            != answer_by(rt, alloc, way, twin, other, asked)
+    {
+        return Ok(Some("the rows filled afterwards"));
+    }
+    if !are_unpinned(rt, alloc, cache, pass) {
+        return Ok(Some("a pin stayed"));
+    }
+    if !answer_alike(rt, alloc, cache, pass, twin, other)? {
+        return Ok(Some("a later reply"));
+    }
+    Ok(None)
 }
 
 /// What isn't as in a run with the call, if it was answered, or without it.
@@ -51,25 +101,29 @@ fn fault_of<R: Wait>(
     requires { Fits cache pass }
 {
     let (twin, mut other) = made(rt, alloc, before)?;
-    if came.is_ok() && answer_by(rt, alloc, way, &twin, &mut other, asked) != *came {
-        return Ok(Some("the reply"));
+    let found = difference(
+        rt, alloc, way, asked, came, &cache, &mut pass, &twin, &mut other,
+    )?;
+    if found.is_some() {
+        return Ok(found);
     }
-    if let Way::Fills = way
-        && answer_by(rt, alloc, way, &cache, &mut pass, asked)
-            != answer_by(rt, alloc, way, &twin, &mut other, asked)
-    {
-        return Ok(Some("the rows filled afterwards"));
-    }
-    if !are_unpinned(rt, alloc, &cache, &mut pass) {
-        return Ok(Some("a pin stayed"));
-    }
-    if !answer_alike(rt, alloc, &cache, &mut pass, &twin, &mut other)? {
-        return Ok(Some("a later reply"));
-    }
-    if !end_alike(cache, pass, twin, other) {
-        return Ok(Some("the end"));
-    }
-    Ok(None)
+    Ok((!end_alike(cache, pass, twin, other)).then_some("the end"))
+}
+
+/// Whether a walk that answered, and met the refusal as it took a pin back, left the row filled, which then
+/// has no place in the list.
+fn is_left(
+    way: Way,
+    place: Option<u64>,
+    came: &Result<Stamped, Unanswered>,
+    cache: &Dcache,
+    pass: &mut Pass,
+    asked: &Call<'_>,
+) -> bool
+    requires { Fits cache.now pass.old }
+    ensures { Fits cache.now pass.new }
+{
+    matches!(way, Way::Fills) && came.is_ok() && place.is_none() && is_told(cache, pass, asked)
 }
 
 /// Makes a call where an allocation is refused, and compares the cache with one that never met that.
@@ -90,12 +144,7 @@ pub fn trial<R: Wait>(
     if came == Err(Unanswered::Strange) {
         return Ok(Told::Wrong("no answer"));
     }
-    // A walk that answered met the refusal as it took a pin back, and so that row is empty.
-    if matches!(way, Way::Fills)
-        && came.is_ok()
-        && place.is_none()
-        && is_told(&cache, &mut pass, &asked)
-    {
+    if is_left(way, place, &came, &cache, &mut pass, &asked) {
         return Ok(Told::Wrong("a row without a place in the list"));
     }
     match fault_of(rt, alloc, way, input.before(), &asked, cache, pass, &came)? {

@@ -28,6 +28,13 @@ fn named(dir: u64, name: &[u8], target: Option<(u64, Kind)>) -> Result<[u64; ROW
     Ok(words)
 }
 
+/// The words of a row for the text that each link has.
+fn linked(link: u64) -> Result<[u64; ROW_WORDS], Fail> {
+    let text = RowText::of(b"b").ok_or("a long text")?;
+    let words = encode(&Row::Link(link, text)).ok_or("no such row")?;
+    Ok(words)
+}
+
 /// The next number of a fixed row in which none seems to follow from the one before.
 fn drawn(number: u32) -> u32 {
     number.wrapping_mul(1_664_525).wrapping_add(1_013_904_223)
@@ -86,11 +93,7 @@ fn words_of(alloc: Global, tree: &mut PlainTree, number: u32) -> Result<[u64; RO
     };
     let target = found(alloc, tree, path_of(number))?;
     match target {
-        Some((link, Kind::Link)) if number % 2 == 0 => {
-            let text = RowText::of(b"b").ok_or("a long text")?;
-            let words = encode(&Row::Link(link, text)).ok_or("no such row")?;
-            Ok(words)
-        }
+        Some((link, Kind::Link)) if number % 2 == 0 => linked(link),
         _ => named(dir, name, target),
     }
 }
@@ -122,32 +125,77 @@ fn push_row(plan: &mut Plan, row: u64, words: &[u64; ROW_WORDS]) -> Result<(), N
     Ok(())
 }
 
+/// A look-up.
+fn push_look(plan: &mut Plan, number: u32) -> Result<(), NoMemory> {
+    plan.push(Act::Quit)?;
+    push_walk(plan)?;
+    plan.push(Act::Begin(look(path_of(number))))?;
+    Ok(())
+}
+
+/// What comes after the beginning of a change, the last first.
+static CHANGE: [Act<'static>; 5] = [
+    Act::Quit,
+    Act::Give(false),
+    Act::Give(true),
+    Act::Commit,
+    Act::Take,
+];
+
+/// A change, or now and then a read.
+fn push_change(plan: &mut Plan, number: u32) -> Result<(), NoMemory> {
+    plan.extend_from_slice(&CHANGE)?;
+    plan.push(Act::Begin(change_of(number)))?;
+    Ok(())
+}
+
+/// Another fact for a row.
+fn push_shut(plan: &mut Plan, row: u64) -> Result<(), NoMemory> {
+    plan.push(Act::Give(false))?;
+    plan.push(Act::Shut(row))?;
+    plan.push(Act::Take)?;
+    Ok(())
+}
+
 /// A look-up, a change, or another fact for a row.
 fn push_call(plan: &mut Plan, number: u32) -> Result<(), NoMemory> {
     match (number >> 16) % 4 {
-        0 => {
-            plan.push(Act::Quit)?;
-            push_walk(plan)?;
-            plan.push(Act::Begin(look(path_of(number))))?;
-        }
-        1 | 2 => {
-            for act in [
-                Act::Quit,
-                Act::Give(false),
-                Act::Give(true),
-                Act::Commit,
-                Act::Take,
-            ] {
-                plan.push(act)?;
-            }
-            plan.push(Act::Begin(change_of(number)))?;
-        }
-        _ => {
-            plan.push(Act::Give(false))?;
-            plan.push(Act::Shut(number as u64 % 4))?;
-            plan.push(Act::Take)?;
-        }
+        0 => push_look(plan, number),
+        1 | 2 => push_change(plan, number),
+        _ => push_shut(plan, number as u64 % 4),
     }
+}
+
+/// An act is done again, after another.
+fn push_again(plan: &mut Plan, act: Act<'static>, first: Act<'static>) -> Result<(), Fail> {
+    plan.push(act)?;
+    plan.push(first)?;
+    Ok(())
+}
+
+/// A walk begins anew.
+fn push_anew(plan: &mut Plan) -> Result<(), Fail> {
+    push_walk(plan)?;
+    plan.push(Act::Again)?;
+    Ok(())
+}
+
+/// A row that is in the way is opened empty.
+fn push_empty(plan: &mut Plan, row: u64) -> Result<(), Fail> {
+    push_row(plan, row, &EMPTY_ROW)?;
+    Ok(())
+}
+
+/// A row that is in the way is opened with what a tree tells.
+fn push_told(
+    alloc: Global,
+    plan: &mut Plan,
+    tree: &mut PlainTree,
+    row: u64,
+    number: u32,
+) -> Result<(), Fail> {
+    let words = words_of(alloc, tree, number)?;
+    push_row(plan, row, &words)?;
     Ok(())
 }
 
@@ -220,27 +268,20 @@ impl Three {
             return Ok(());
         };
         match why {
-            Refused::Touched(row) => {
-                plan.push(act)?;
-                plan.push(Act::Shut(row))?;
-            }
+            Refused::Touched(row) => push_again(plan, act, Act::Shut(row)),
             Refused::OddRow(row) => {
+                let evicts = (number >> 8) % 4 == 0;
+                self.evictions = self.evictions.saturating_add(u64::from(evicts));
                 plan.push(act)?;
-                let mut words = EMPTY_ROW;
-                if (number >> 8) % 4 == 0 {
-                    self.evictions = self.evictions.saturating_add(1);
+                if evicts {
+                    push_empty(plan, row)
                 } else {
-                    words = words_of(alloc, &mut self.tree, number)?;
+                    push_told(alloc, plan, &mut self.tree, row, number)
                 }
-                push_row(plan, row, &words)?;
             }
-            Refused::Changed(..) => {
-                push_walk(plan)?;
-                plan.push(Act::Again)?;
-            }
-            _ => {}
+            Refused::Changed(..) => push_anew(plan),
+            _ => Ok(()),
         }
-        Ok(())
     }
 }
 
@@ -285,14 +326,13 @@ fn look_ups(records: &[Finished]) -> (u64, u64) {
 }
 
 /// All turns. A row's words are one event each: with fewer turns hardly a row is written.
-fn play(alloc: Global) -> Result<Three, Fail> {
-    let mut three = Three::new(alloc)?;
+fn play(alloc: Global, three: &mut Three) -> Result<(), Fail> {
     let mut number = 7;
     for _ in 0..100_000 {
         number = drawn(number);
         three.turn(alloc, number)?;
     }
-    Ok(three)
+    Ok(())
 }
 
 /// Fails where the records of a point are not the slow machine's replies.
@@ -307,12 +347,18 @@ fn compare(alloc: Global, core: &Core) -> Result<(), Fail> {
     Ok(())
 }
 
+/// Whether enough came of all turns: events, evictions, changes, look-ups of each kind.
+fn is_rich(three: &Three) -> bool {
+    let (found, refused) = look_ups(three.core.finished());
+    let many = three.done >= 5000 && three.evictions >= 20 && three.core.clock() >= 20;
+    many && found >= 20 && refused >= 4
+}
+
 #[test]
 fn schedules_are_one_tree(rt: HostRuntime) -> Result<(), Fail> {
-    let three = play(rt.alloc())?;
+    let mut three = Three::new(rt.alloc())?;
+    play(rt.alloc(), &mut three)?;
     compare(rt.alloc(), &three.core)?;
-    let (found, refused) = look_ups(three.core.finished());
-    assert!(rt; three.done >= 5000 && three.evictions >= 20 && three.core.clock() >= 20);
-    assert!(rt; found >= 20 && refused >= 4);
+    assert!(rt; is_rich(&three));
     Ok(())
 }

@@ -23,16 +23,20 @@ use dc_walk::{Fast, Why};
 use std::test::Fail;
 
 /// What look-ups came to while a row was odd.
-#[derive(Drop)]
+#[derive(Clone, Copy)]
 struct Met {
     row: u64,
     odd: u64,
-    /// Of `/a`, whose row it is.
-    own: Option<Fast>,
-    /// Of `/z`, of which no row tells.
-    none: Option<Fast>,
-    /// Of `/b`, of which another row tells.
-    other: Option<Fast>,
+    /// Whether those of `/a`, whose row it is, and of `/z`, of which no row tells, gave up since it is
+    /// written.
+    busy: bool,
+    /// Whether that of `/b`, of which another row tells, was answered.
+    answered: bool,
+}
+
+/// Whether a walk gave up since row 0 was being written.
+fn is_busy(found: &Option<Fast>) -> bool {
+    matches!(found, Some(Fast::Again(Why::Busy(0))))
 }
 
 /// Looks three paths up while a row has this odd count.
@@ -40,15 +44,14 @@ fn meet(shared: &Shared, pass: &mut Pass, row: u64, odd: u64) -> Met
     requires { CanWalk shared.now pass.old }
     ensures { CanWalk shared.now pass.new }
 {
-    let own = look(shared, pass, b"/a");
-    let none = look(shared, pass, b"/z");
-    let other = look(shared, pass, b"/b");
+    let own = is_busy(&look(shared, pass, b"/a"));
+    let none = is_busy(&look(shared, pass, b"/z"));
+    let answered = is_answered(&look(shared, pass, b"/b"), &Reply::Refused(2), 1);
     Met {
         row,
         odd,
-        own,
-        none,
-        other,
+        busy: own && none,
+        answered,
     }
 }
 
@@ -194,11 +197,6 @@ fn evict_under_lock(
     met
 }
 
-/// Whether a walk gave up since row 0 was being written.
-fn is_busy(found: &Option<Fast>) -> bool {
-    matches!(found, Some(Fast::Again(Why::Busy(0))))
-}
-
 /// Where no other row tells of the key, the walk gives up; where one does, it answers.
 #[test]
 fn a_row_that_is_written_is_busy(rt: HostRuntime) -> Result<(), Fail> {
@@ -213,8 +211,7 @@ fn a_row_that_is_written_is_busy(rt: HostRuntime) -> Result<(), Fail> {
     let a = in_root(b"a").expect(&rt, "a name");
     let met = evict_under_lock(&shared, &mut p, &mut q, &a).expect(&rt, "a row with the key");
     assert!(rt; met.row == 0 && met.odd == 3);
-    assert!(rt; is_busy(&met.own) && is_busy(&met.none));
-    assert!(rt; is_answered(&met.other, &Reply::Refused(2), 1));
+    assert!(rt; met.busy && met.answered);
     let found = look(&shared, &mut p, b"/a");
     assert!(rt; matches!(found, Some(Fast::Again(Why::Miss(0)))));
     let found = look(&shared, &mut p, b"/b");

@@ -134,25 +134,27 @@ fn is_pinned<R: Wait>(
 }
 
 /// Whether a step comes to what it should.
-fn is_so<R: Wait>(rt: &R, alloc: Global, shared: &Shared, pass: &mut Pass, step: Step) -> bool
+fn is_so<R: Wait>(rt: &R, alloc: Global, shared: &Shared, pass: &mut Pass, step: &Step) -> bool
     requires { CanWalk shared.now pass.old }
     ensures { CanWalk shared.now pass.new }
 {
     match step {
         Step::Change(act, want, at) => {
-            is_made(&change(rt, alloc, shared, pass, &act.call()), want, at)
+            is_made(&change(rt, alloc, shared, pass, &act.call()), *want, *at)
         }
-        Step::Look(path, want, at) => is_done(&look(shared, pass, path), want, at),
-        Step::Lost(path, why) => is_lost(&look(shared, pass, path), why),
-        Step::Count(path, want, at) => { is_done(&count(rt, alloc, shared, pass, path), want, at) }
-        Step::CountLost(path, why) => is_lost(&count(rt, alloc, shared, pass, path), why),
-        Step::Pin(name, row) => is_pinned(rt, alloc, shared, pass, name, row),
+        Step::Look(path, want, at) => is_done(&look(shared, pass, path), *want, *at),
+        Step::Lost(path, why) => is_lost(&look(shared, pass, path), *why),
+        Step::Count(path, want, at) => {
+            is_done(&count(rt, alloc, shared, pass, path), *want, *at)
+        }
+        Step::CountLost(path, why) => is_lost(&count(rt, alloc, shared, pass, path), *why),
+        Step::Pin(name, row) => is_pinned(rt, alloc, shared, pass, name, *row),
         Step::Unpin(rows) => {
             unpin_all(shared, rt, pass, rows);
             true
         }
-        Step::Shrink(most, emptied) => shrink(shared, rt, pass, most) == emptied,
-        Step::Learn(at) => shared.learn(pass) == at,
+        Step::Shrink(most, emptied) => shrink(shared, rt, pass, *most) == *emptied,
+        Step::Learn(at) => shared.learn(pass) == *at,
     }
 }
 
@@ -169,7 +171,7 @@ pub(super) fn play<R: Wait>(
     ensures { CanWalk shared.now pass.new }
 {
     for (number, step) in steps.iter().enumerate() {
-        if !is_so(rt, alloc, shared, pass, *step) {
+        if !is_so(rt, alloc, shared, pass, step) {
             return Some(number);
         }
     }

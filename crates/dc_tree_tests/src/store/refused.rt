@@ -37,7 +37,7 @@ fn takes<S: Store, T: Store>(
     store: &mut S,
     other: &T,
     alloc: Global,
-    step: Step<'_>,
+    step: &Step<'_>,
 ) -> Result<bool, NoMemory> {
     if let Ok(right) = answers(store, alloc, step) {
         return Ok(right);
@@ -48,18 +48,28 @@ fn takes<S: Store, T: Store>(
     answers(store, alloc, step)
 }
 
-/// The place of the first step after which two new stores are no longer one tree.
-fn parts_at(alloc: Global, steps: &[Step<'_>]) -> Result<Option<usize>, NoMemory> {
-    let mut map = new_map(alloc)?;
-    let mut slab = new_slab(alloc)?;
+/// The place of the first step after which two stores are no longer one tree.
+fn apart_at<S: Store, T: Store>(
+    one: &mut S,
+    other: &mut T,
+    alloc: Global,
+    steps: &[Step<'_>],
+) -> Result<Option<usize>, NoMemory> {
     for (place, step) in steps.iter().enumerate() {
-        let taken = takes(&mut slab, &map, alloc, *step)?;
-        let also = answers_again(&mut map, alloc, *step)?;
-        if !taken || !also || !agree_again(&slab, &map, alloc)? {
+        let taken = takes(one, other, alloc, step)?;
+        let also = answers_again(other, alloc, step)?;
+        if !taken || !also || !agree_again(one, other, alloc)? {
             return Ok(Some(place));
         }
     }
     Ok(None)
+}
+
+/// The place of the first step after which two new stores are no longer one tree.
+fn parts_at(alloc: Global, steps: &[Step<'_>]) -> Result<Option<usize>, NoMemory> {
+    let mut map = new_map(alloc)?;
+    let mut slab = new_slab(alloc)?;
+    apart_at(&mut slab, &mut map, alloc, steps)
 }
 
 static CHANGES: [Step<'static>; 20] = [
