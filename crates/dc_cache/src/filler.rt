@@ -8,6 +8,7 @@ ghost use Rattle.dc_plain.specs.Trees.{told_of};
 ghost use Rattle.dc_rows.specs.Guards.{kept_by};
 ghost use Rattle.dc_rows.specs.RowChanges.{LeadsTo};
 
+use dc_index::HashedKey;
 use dc_names::{Kind, Part, hash};
 use dc_ops::StoreFinder;
 use dc_plain::{Key, Label, Target};
@@ -63,7 +64,7 @@ impl Filler<'_> {
     }
 
     /// Fills the row of a key, if one can be had.
-    fn fill(&mut self, key: &Key<'_>)
+    fn fill(&mut self, key: &HashedKey<'_>)
         ensures fills { Fills self.old self.new }
         ensures stopped { self.new.stopped ≡ self.old.stopped }
     {
@@ -72,8 +73,8 @@ impl Filler<'_> {
     }
 
     /// Fills the row of an entry that leads there, if one can be had.
-    fn fill_entry(&mut self, key: &Key<'_>, target: Option<Target>)
-        requires target { LeadsTo (kept_by self.old.guard).store (key_shown key.now) target }
+    fn fill_entry(&mut self, key: &HashedKey<'_>, target: Option<Target>)
+        requires target { LeadsTo (kept_by self.old.guard).store (key_shown key.now.key) target }
         ensures fills { Fills self.old self.new }
         ensures stopped { self.new.stopped ≡ self.old.stopped }
     {
@@ -122,15 +123,15 @@ impl Finder for Filler<'_> {
         let StoreFinder { store: _ } = finder;
         // A store has an answer to each question, so its finder never stops.
         let Ok(target) = found else { unreachable!() };
-        self.fill_entry(&key, target);
+        self.fill_entry(&HashedKey { key, hash }, target);
         Ok(target)
     }
 
     fn link_text(&mut self, number: u64) -> Result<ShortText, Stop> {
-        self.fill(&Key {
+        self.fill(&HashedKey::new(Key {
             number,
             label: Label::Text,
-        });
+        }));
         let mut finder = StoreFinder {
             store: self.guard.store(),
         };

@@ -6,8 +6,9 @@ ghost use Rattle.dc_ops.specs.Asked.{IsSought, IsToldAtLength};
 ghost use Rattle.dc_ops.specs.Settled.{DeclinesCall};
 ghost use Rattle.dc_plain.specs.Requests.{request_of};
 ghost use Rattle.dc_rows.specs.Guards.{seat_of, kept_by};
-ghost use Rattle.dc_table.specs.Changes.{IsTaken, NothingNew};
-ghost use Rattle.dc_table.specs.Passes.{view, share, IsIdle, IsSamePass};
+ghost use Rattle.dc_table.specs.Changes.{IsTaken};
+ghost use Rattle.dc_table.specs.Passes.{known, view, share, IsIdle, IsSamePass};
+ghost use Rattle.dc_table.specs.Shares.{tried};
 ghost use Rattle.dc_walk.specs.Findings.{CanWalk};
 ghost use Rattle.dc_walk.specs.Looks.{look_shown};
 ghost use Rattle.dc_walk.specs.Placing.{AreNoted};
@@ -139,7 +140,7 @@ pub(crate) fn try_further(
     requires noted { AreNoted (view seat.old) (share seat.old).rows room.now }
     ensures same { IsSamePass seat.old seat.new × IsIdle seat.new }
     ensures recorded { IfSome result (Records seat.old seat.new (look_shown look.entry)) }
-    ensures held { IfNone result (NothingNew (view seat.old) (view seat.new)) }
+    ensures held { IfNone result (known seat.new ≡ tried (known seat.old)) }
 {
     match Guard::try_lock(shared, seat) {
         Ok(guard) => {

@@ -3,7 +3,7 @@
 ghost use Rattle.std.specs.Prelude.{◌≡◌, ◌*◌, ◌+◌, ◌≤◌, ◌↔◌, [], true, false, Err, None, IsOk, IfOk, IfErr, IfSome, IfNone, IsSome};
 ghost use Rattle.dc_cache.specs.Answers.{Answered, IfFast, Loaded, Made, Told};
 ghost use Rattle.dc_cache.specs.Losses.{TakesAway};
-ghost use Rattle.dc_cache.specs.Passes.{buckets_of, known, view, share, FitsSleepless, Missed, Shrinks};
+ghost use Rattle.dc_cache.specs.Passes.{buckets_of, known, view, share, FitsSleepless, Missed, ReadAndMissed, Shrinks};
 ghost use Rattle.dc_events.specs.Rows.{most};
 ghost use Rattle.dc_names.specs.Tables.{fit_a_table};
 ghost use Rattle.dc_names.specs.declared.limits.TheConstants.{BUCKET_ROWS, MOST_LOADS};
@@ -148,7 +148,8 @@ impl Sleepless {
     }
 
     /// Where a path leads. It goes by the rows alone, else it asks the tree and fills the rows of the
-    /// path. `None` if the rows don't answer and another pass has the lock: then nothing is recorded.
+    /// path. `None` if the rows don't answer and another pass has the lock: then nothing is
+    /// recorded, and no row has changed.
     #[must_use]
     pub fn try_look(
         &self,
@@ -161,7 +162,7 @@ impl Sleepless {
         requires pass { FitsSleepless self.now pass.old }
         ensures same { FitsSleepless self.now pass.new × (share pass.new ≡ share pass.old) }
         ensures answered { IfSome result (Answered pass.old pass.new (Look base path.now follow)) }
-        ensures held { IfNone result (NothingNew (view pass.old) (view pass.new)) }
+        ensures held { IfNone result (ReadAndMissed pass.old pass.new) }
     {
         let text = match parse(path) {
             Ok(text) => text,

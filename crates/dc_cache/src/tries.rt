@@ -63,6 +63,7 @@ pub(crate) fn look_briefly(
     ensures answered { IfSome result (Answered pass.old pass.new
         (Look base path.entry.bytes.now follow)) }
     ensures nothing { IfNone result (NothingNew (view pass.old) (view pass.new)) }
+    ensures untried { HasNotTried (known pass.old) (known pass.new) }
     ensures noted { IfNone result (AreNoted (view pass.new) (share pass.new).rows pass.new.room) }
 {
     let look = dc_walk::Look { base, path, follow };
@@ -84,7 +85,7 @@ pub(crate) fn try_fill(
     ensures same { FitsTable shared.now pass.new × (share pass.new ≡ share pass.old) }
     ensures answered { IfSome result (Answered pass.old pass.new
         (Look base path.entry.bytes.now follow)) }
-    ensures held { IfNone result (NothingNew (view pass.old) (view pass.new)) }
+    ensures held { IfNone result (Missed pass.old pass.new) }
 {
     let look = dc_walk::Look { base, path, follow };
     try_further(shared, alloc, &mut pass.seat, &pass.room, look)

@@ -2,7 +2,7 @@
 
 ghost use Rattle.std.specs.Prelude.{◌≡◌, ◌≤◌, IfSome, IfNone};
 ghost use Rattle.dc_cache.specs.Answers.{Answered, Made, Told};
-ghost use Rattle.dc_cache.specs.Passes.{view, share, Fits, Missed, Shrinks};
+ghost use Rattle.dc_cache.specs.Passes.{view, share, Fits, Missed, ReadAndMissed, Shrinks};
 ghost use Rattle.dc_events.specs.Rows.{most};
 ghost use Rattle.dc_ops.specs.Asked.{IsChange};
 ghost use Rattle.dc_plain.specs.Requests.{request_of};
@@ -30,7 +30,7 @@ impl Dcache {
 
     /// Where a path leads. It goes by the rows alone, which takes no lock, else it asks the tree and
     /// fills the rows of the path, so that the next look-up finds them. `None` if the rows don't answer
-    /// and another pass has the lock: then nothing is recorded.
+    /// and another pass has the lock: then nothing is recorded, and no row has changed.
     #[must_use]
     pub fn try_look(
         &self,
@@ -43,7 +43,7 @@ impl Dcache {
         requires pass { Fits self.now pass.old }
         ensures same { Fits self.now pass.new × (share pass.new ≡ share pass.old) }
         ensures answered { IfSome result (Answered pass.old pass.new (Look base path.now follow)) }
-        ensures held { IfNone result (NothingNew (view pass.old) (view pass.new)) }
+        ensures held { IfNone result (ReadAndMissed pass.old pass.new) }
     {
         let text = match parse(path) {
             Ok(text) => text,

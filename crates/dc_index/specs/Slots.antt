@@ -50,9 +50,13 @@ cleared Free = Free
 cleared Retired = Retired
 cleared (Holds key) = Free
 
+-- the hash of a key
+abbrev pub key_hash : Key → ℕ
+key_hash key = hash_of key.number (label_bytes key.label)
+
 -- the bucket of a key, of so many
 abbrev pub bucket_of : Key → ℕ → ℕ
-bucket_of key buckets = hash_of key.number (label_bytes key.label) % buckets
+bucket_of key buckets = key_hash key % buckets
 
 -- the bucket of a key, of those that the rows make
 abbrev pub bucket_in : List Slot → Key → ℕ

@@ -3,13 +3,14 @@
 ghost use Rattle.std.specs.Prelude.{◌≡◌, ◌<◌, ◌≤◌, ◌*◌, ◌/◌, ◌%◌, ◌≢◌, ℕ, OnOk, OnErr, IfOk, IfSome, length, replicate, slice_set, map};
 ghost use Rattle.dc_names.specs.declared.limits.TheConstants.{MOST_TABLE_BUCKETS};
 ghost use Rattle.dc_plain.specs.KeysShown.{key_shown};
-ghost use Rattle.dc_index.specs.Slots.{slot_of, has_key, most_text, cleared, bucket_of, bucket_in, IsIndex, IsRowOf};
+ghost use Rattle.dc_index.specs.Slots.{slot_of, has_key, most_text, cleared, bucket_in, IsIndex, IsRowOf};
 ghost use Rattle.dc_index.specs.Slots.Slot.{Free as IsFree, Retired as IsRetired, Holds};
 ghost use Rattle.dc_index.specs.OwnKeys.{slot_shown};
 ghost use Rattle.dc_index.specs.Choices.{first_free, slots_in, choice, AgreeIn, MayTake};
 
+use crate::hashed::HashedKey;
 use crate::slot::{OwnKey, Slot, free_slots, place_of_free, place_of_key};
-use dc_names::{BUCKET_ROWS, NoMemory, hash};
+use dc_names::{BUCKET_ROWS, NoMemory};
 use dc_plain::Key;
 use dc_shrink::Shrinker;
 use std::alloc::Global;
@@ -31,19 +32,6 @@ impl Model for Index {
     ghost view = { λ i. map slot_shown i.slots.items };
 
     ghost invariant = { λ i. IsIndex (map slot_shown i.slots.items) };
-}
-
-/// The bucket of a key among so many, at least one: by the hash of its number and of its label's
-/// bytes, which are a name, the two dots of dot-dot, or none for a text.
-#[must_use]
-// Inlined, as is `bucket_at`: the test for a power of two is made once where the number is known.
-#[inline(always)]
-pub fn bucket_of(key: &Key<'_>, buckets: u64) -> u64
-    requires { 0 < buckets }
-    ensures bucket { result ≡ bucket_of (key_shown key.now) buckets }
-    ensures within { result < buckets }
-{
-    bucket_at(hash(key.number, key.label.bytes()), buckets)
 }
 
 /// The bucket of a key by its hash. The number of buckets is mostly a power of two, and then nothing is
@@ -74,11 +62,11 @@ impl Index {
     }
 
     /// The bucket of a key.
-    fn bucket(&self, key: &Key<'_>) -> u64
-        ensures bucket { result ≡ bucket_in self.now (key_shown key.now) }
+    fn bucket(&self, key: &HashedKey<'_>) -> u64
+        ensures bucket { result ≡ bucket_in self.now (key_shown key.now.key) }
         ensures within { result < length self.now / BUCKET_ROWS }
     {
-        bucket_of(key, self.slots.len() as u64 / BUCKET_ROWS)
+        key.bucket(self.slots.len() as u64 / BUCKET_ROWS)
     }
 
     /// The slots of a bucket.
@@ -92,14 +80,23 @@ impl Index {
         &slots[first..first + BUCKET_ROWS as usize]
     }
 
-    /// The row that has a key.
+    /// The row that has a key, which is hashed.
     #[must_use]
     pub fn row_of(&self, key: &Key<'_>) -> Option<u64>
         ensures row { IsRowOf self.now (key_shown key.now) result }
         ensures valid { IsIndex self.now }
     {
+        self.row_of_hashed(&HashedKey::new(*key))
+    }
+
+    /// The row that has a key, for a caller that has its hash.
+    #[must_use]
+    pub fn row_of_hashed(&self, key: &HashedKey<'_>) -> Option<u64>
+        ensures row { IsRowOf self.now (key_shown key.now.key) result }
+        ensures valid { IsIndex self.now }
+    {
         let bucket = self.bucket(key);
-        let place = place_of_key(self.slots_in(bucket), key)?;
+        let place = place_of_key(self.slots_in(bucket), &key.key)?;
         Some(BUCKET_ROWS * bucket + place as u64)
     }
 
@@ -135,10 +132,10 @@ impl Index {
     /// The row for a key that has none: the free row of its bucket with the lowest number, or else
     /// its bucket's least recently used unpinned row, or `None`.
     #[must_use]
-    pub fn choose(&self, shrinker: &Shrinker, key: &Key<'_>) -> Option<u64>
-        requires { AgreeIn (bucket_in self.now (key_shown key.now)) self.now shrinker.now }
-        ensures choice { result ≡ choice self.now shrinker.now (key_shown key.now) }
-        ensures safe { IfSome result (MayTake self.now shrinker.now (key_shown key.now)) }
+    pub fn choose(&self, shrinker: &Shrinker, key: &HashedKey<'_>) -> Option<u64>
+        requires { AgreeIn (bucket_in self.now (key_shown key.now.key)) self.now shrinker.now }
+        ensures choice { result ≡ choice self.now shrinker.now (key_shown key.now.key) }
+        ensures safe { IfSome result (MayTake self.now shrinker.now (key_shown key.now.key)) }
         ensures within { IfSome result (λ row. row < length self.now) }
     {
         let bucket = self.bucket(key);

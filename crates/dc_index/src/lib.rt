@@ -1,7 +1,9 @@
 //! Which key stands in which row of the cache.
 #![tactic(auto)]
 
+mod hashed;
 mod index;
 mod slot;
 
-pub use index::{Index, bucket_at, bucket_of};
+pub use hashed::HashedKey;
+pub use index::{Index, bucket_at};

@@ -9,8 +9,9 @@ ghost use Rattle.dc_table.specs.Passes.{known, view, Fits, IsSamePass, IsIdle};
 
 use crate::fault::ChangeFault;
 use crate::guard::Guard;
+use dc_index::HashedKey;
 use dc_names::NoMemory;
-use dc_plain::{Call, Key, Reply};
+use dc_plain::{Call, Reply};
 use dc_table::{Pass, Shared};
 use std::alloc::Global;
 use std::sync::Wait;
@@ -64,12 +65,12 @@ pub fn pin<R: Wait>(
     rt: &R,
     alloc: Global,
     pass: &mut Pass,
-    key: &Key<'_>,
+    key: &HashedKey<'_>,
 ) -> Result<Option<u64>, NoMemory>
     requires pass { Fits shared.now pass.old × IsIdle pass.old }
     ensures same { IsSamePass pass.old pass.new × IsIdle pass.new }
     ensures rested { Rested (view pass.old) (view pass.new) }
-    ensures pinned { Pins (key_shown key.now) pass.old pass.new result }
+    ensures pinned { Pins (key_shown key.now.key) pass.old pass.new result }
 {
     let mut guard = Guard::lock(shared, rt, pass);
     let row = guard.pin(alloc, key);

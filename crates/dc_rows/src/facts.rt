@@ -6,6 +6,7 @@ ghost use Rattle.dc_plain.specs.Trees.{Tree};
 ghost use Rattle.dc_rows.specs.RowChanges.{CanTell, LeadsTo};
 ghost use Rattle.dc_table.specs.Rows.{IsOf};
 
+use dc_index::HashedKey;
 use dc_names::Kind;
 use dc_plain::{Key, Label, Target};
 use dc_row::{ROW_WORDS, Row, RowLabel, RowText, encode};
@@ -32,8 +33,22 @@ pub(crate) fn words_for<S: Store>(store: &S, key: &Key<'_>) -> Option<[u64; ROW_
     ensures some { IfSome result (λ words. IsOf (S.tree store.now) words (key_shown key.now)) }
     ensures none { IfNone result (CanTell (S.tree store.now) (key_shown key.now) → ⊥) }
 {
+    words_for_hashed(store, &HashedKey::new(*key))
+}
+
+/// The words of a row as `words_for` gives them, for a caller that has the key's hash: the store seeks a
+/// name by it.
+pub(crate) fn words_for_hashed<S: Store>(
+    store: &S,
+    hashed: &HashedKey<'_>,
+) -> Option<[u64; ROW_WORDS]>
+    ensures some { IfSome result (λ words.
+        IsOf (S.tree store.now) words (key_shown hashed.now.key)) }
+    ensures none { IfNone result (CanTell (S.tree store.now) (key_shown hashed.now.key) → ⊥) }
+{
+    let key = &hashed.key;
     let target = match key.label {
-        Label::Name(name) => match store.find(key.number, name) {
+        Label::Name(name) => match store.find_hashed(key.number, name, hashed.hash) {
             Some(number) => store.kind(number).map(|kind| (number, kind)),
             None => None,
         },

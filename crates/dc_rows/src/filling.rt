@@ -18,9 +18,10 @@ ghost use Rattle.dc_table.specs.Holders.{pass_of, rows_held};
 ghost use Rattle.dc_table.specs.Rows.{IsOf};
 
 use crate::evicting::{empty, rewrite};
-use crate::facts::{entry_words, words_for};
+use crate::facts::{entry_words, words_for_hashed};
 use crate::guard::Guard;
 use crate::writing::most_words;
+use dc_index::HashedKey;
 use dc_names::NoMemory;
 use dc_plain::{Key, Target};
 use dc_row::{ROW_WORDS, empty_row_spells_nothing, rows_end_in_zeros, told_words};
@@ -70,19 +71,19 @@ fn fill_new(
     holder: &mut Holder<'_>,
     kept: &mut Guarded,
     alloc: Global,
-    key: &Key<'_>,
+    key: &HashedKey<'_>,
     words: &[u64; ROW_WORDS],
 ) -> Result<Option<u64>, NoMemory>
     requires rest { RestAt (pass_of holder.old) kept.old }
-    requires absent { IsRowOf kept.old.index (key_shown key.now) None }
-    requires words { IsOf (tree_now (pass_of holder.old)) words.now (key_shown key.now) }
+    requires absent { IsRowOf kept.old.index (key_shown key.now.key) None }
+    requires words { IsOf (tree_now (pass_of holder.old)) words.now (key_shown key.now.key) }
     ensures same_reference { holder.new.pass.ghost_name ≡ holder.old.pass.ghost_name }
     ensures pass { OnlyWrites (pass_of holder.old) (pass_of holder.new) }
     ensures tree { KeepsTree kept.old kept.new }
     ensures rest { RestAt (pass_of holder.new) kept.new }
     ensures row { IfOk result (λ found. IfSome found (λ row.
-        slot_of kept.new.index row ≡ Held (key_shown key.now))) }
-    ensures rows { Gets (key_shown key.now) 0 (rows_held holder.old kept.old)
+        slot_of kept.new.index row ≡ Held (key_shown key.now.key))) }
+    ensures rows { Gets (key_shown key.now.key) 0 (rows_held holder.old kept.old)
         (rows_held holder.new kept.new) result }
 {
     rows_end_in_zeros();
@@ -94,11 +95,11 @@ fn fill_new(
     let former = most_words(&kept.index, row);
     let end = told_words(words).max(former);
     let evicts = kept.index.has_key(row);
-    kept.index.set(alloc, row, key)?;
+    kept.index.set(alloc, row, &key.key)?;
     if evicts {
         holder.count_eviction();
     }
-    fill_given(holder, kept, row, key, words, end)
+    fill_given(holder, kept, row, &key.key, words, end)
 }
 
 /// The row of a key, which is filled where no row has the key.
@@ -106,7 +107,7 @@ fn fill_row(
     holder: &mut Holder<'_>,
     kept: &mut Guarded,
     alloc: Global,
-    key: &Key<'_>,
+    key: &HashedKey<'_>,
 ) -> Result<Option<u64>, NoMemory>
     requires store { kept.old.store ≡ tree_now (pass_of holder.old) }
     requires rest { RestAt (pass_of holder.old) kept.old }
@@ -115,14 +116,14 @@ fn fill_row(
     ensures tree { KeepsTree kept.old kept.new }
     ensures rest { RestAt (pass_of holder.new) kept.new }
     ensures row { IfOk result (λ found. IfSome found (λ row.
-        slot_of kept.new.index row ≡ Held (key_shown key.now))) }
-    ensures rows { Gets (key_shown key.now) 0 (rows_held holder.old kept.old)
+        slot_of kept.new.index row ≡ Held (key_shown key.now.key))) }
+    ensures rows { Gets (key_shown key.now.key) 0 (rows_held holder.old kept.old)
         (rows_held holder.new kept.new) result }
 {
-    if let Some(row) = kept.index.row_of(key) {
+    if let Some(row) = kept.index.row_of_hashed(key) {
         return Ok(Some(row));
     }
-    let Some(words) = words_for(&kept.store, key) else {
+    let Some(words) = words_for_hashed(&kept.store, key) else {
         return Ok(None);
     };
     fill_new(holder, kept, alloc, key, &words)
@@ -134,25 +135,25 @@ fn fill_entry_row(
     holder: &mut Holder<'_>,
     kept: &mut Guarded,
     alloc: Global,
-    key: &Key<'_>,
+    key: &HashedKey<'_>,
     target: Option<Target>,
 ) -> Result<Option<u64>, NoMemory>
     requires store { kept.old.store ≡ tree_now (pass_of holder.old) }
     requires rest { RestAt (pass_of holder.old) kept.old }
-    requires target { LeadsTo kept.old.store (key_shown key.now) target }
+    requires target { LeadsTo kept.old.store (key_shown key.now.key) target }
     ensures same_reference { holder.new.pass.ghost_name ≡ holder.old.pass.ghost_name }
     ensures pass { OnlyWrites (pass_of holder.old) (pass_of holder.new) }
     ensures tree { KeepsTree kept.old kept.new }
     ensures rest { RestAt (pass_of holder.new) kept.new }
     ensures row { IfOk result (λ found. IfSome found (λ row.
-        slot_of kept.new.index row ≡ Held (key_shown key.now))) }
-    ensures rows { Gets (key_shown key.now) 0 (rows_held holder.old kept.old)
+        slot_of kept.new.index row ≡ Held (key_shown key.now.key))) }
+    ensures rows { Gets (key_shown key.now.key) 0 (rows_held holder.old kept.old)
         (rows_held holder.new kept.new) result }
 {
-    if let Some(row) = kept.index.row_of(key) {
+    if let Some(row) = kept.index.row_of_hashed(key) {
         return Ok(Some(row));
     }
-    let Some(words) = entry_words(key, target) else {
+    let Some(words) = entry_words(&key.key, target) else {
         return Ok(None);
     };
     fill_new(holder, kept, alloc, key, &words)
@@ -161,12 +162,12 @@ fn fill_entry_row(
 impl Guard<'_> {
     /// The row of a key. One that has none gets a row of its bucket, which is filled with what the store
     /// has under the key. `None` where no row can be had, or no row can tell it.
-    pub fn fill(&mut self, alloc: Global, key: &Key<'_>) -> Result<Option<u64>, NoMemory>
+    pub fn fill(&mut self, alloc: Global, key: &HashedKey<'_>) -> Result<Option<u64>, NoMemory>
         ensures same_reference { self.new.holder.pass.ghost_name ≡ self.old.holder.pass.ghost_name }
         ensures keeps { Keeps self.old self.new }
         ensures row { IfOk result (λ found. IfSome found (λ row.
-            slot_of (kept_by self.new).index row ≡ Held (key_shown key.now))) }
-        ensures rows { Gets (key_shown key.now) 0 (rows_of self.old) (rows_of self.new) result }
+            slot_of (kept_by self.new).index row ≡ Held (key_shown key.now.key))) }
+        ensures rows { Gets (key_shown key.now.key) 0 (rows_of self.old) (rows_of self.new) result }
     {
         let holder = &mut self.holder;
         fill_row(holder, &mut self.guarded, alloc, key)
@@ -178,13 +179,13 @@ impl Guard<'_> {
     pub fn fill_entry(
         &mut self,
         alloc: Global,
-        key: &Key<'_>,
+        key: &HashedKey<'_>,
         target: Option<Target>,
     ) -> Result<Option<u64>, NoMemory>
-        requires target { LeadsTo (kept_by self.old).store (key_shown key.now) target }
+        requires target { LeadsTo (kept_by self.old).store (key_shown key.now.key) target }
         ensures same_reference { self.new.holder.pass.ghost_name ≡ self.old.holder.pass.ghost_name }
         ensures keeps { Keeps self.old self.new }
-        ensures fills { Fills (key_shown key.now) self.old self.new result }
+        ensures fills { Fills (key_shown key.now.key) self.old self.new result }
     {
         let holder = &mut self.holder;
         fill_entry_row(holder, &mut self.guarded, alloc, key, target)

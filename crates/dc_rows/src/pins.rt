@@ -13,8 +13,8 @@ ghost use Rattle.dc_table.specs.Passes.{share};
 use crate::evicting::empty;
 use crate::guard::Guard;
 use crate::writing::most_words;
+use dc_index::HashedKey;
 use dc_names::NoMemory;
-use dc_plain::Key;
 use dc_row::empty_row_spells_nothing;
 use dc_shrink::PinFault;
 use dc_table::{Guarded, Holder};
@@ -57,11 +57,11 @@ fn pin_row(kept: &mut Guarded, row: u64) -> Result<Option<u64>, NoMemory>
 impl Guard<'_> {
     /// Fills the row of a key with what the tree has under it, where no row has the key, and pins it.
     /// `None` where no row can be had or filled, or where the row has as many pins as a row may have.
-    pub fn pin(&mut self, alloc: Global, key: &Key<'_>) -> Result<Option<u64>, NoMemory>
+    pub fn pin(&mut self, alloc: Global, key: &HashedKey<'_>) -> Result<Option<u64>, NoMemory>
         ensures same_reference { self.new.holder.pass.ghost_name ≡ self.old.holder.pass.ghost_name }
         ensures keeps { Keeps self.old self.new }
         ensures row { IfOk result (λ found. IfSome found (λ row. row < (share (seat_of self.new)).rows)) }
-        ensures rows { Gets (key_shown key.now) 1 (rows_of self.old) (rows_of self.new) result }
+        ensures rows { Gets (key_shown key.now.key) 1 (rows_of self.old) (rows_of self.new) result }
     {
         let Some(row) = self.fill(alloc, key)? else {
             return Ok(None);

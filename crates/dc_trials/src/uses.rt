@@ -56,7 +56,7 @@ fn rows_answer_once_they_are_filled(rt: HostRuntime) -> Result<(), Fail> {
     let (cache, mut pass) = Dcache::new(rt.alloc(), 1, 16).expect(&rt, "memory");
     let path = parse(b"/a/..").ok().expect(&rt, "a path");
     assert!(rt; look_twice(&cache, &mut pass, path).is_none());
-    let found = cache.look(&rt, rt.alloc(), &mut pass, ROOT, b"/a/..", Follow::Yes);
+    let found = cache.look_missed(&rt, rt.alloc(), &mut pass, ROOT, path, Follow::Yes);
     assert!(rt; is(&found, &Reply::Refused(2), 0));
     let found = look_twice(&cache, &mut pass, path).expect(&rt, "the row is filled");
     assert!(rt; is(&found, &Reply::Refused(2), 0));

@@ -13,7 +13,8 @@ use Rattle.dc_resolve.specs.Needs.{IsUntold}
 use Rattle.dc_walk.specs.Uses.{facts_of}
 use Rattle.dc_walk.specs.Finds.{fact_or_none, fact_shown, use_shown, told_in, IsSpelled, AllSpelled, AllInside, AllHeld, IsTold, IsStanding, StandsAt}
 use Rattle.dc_walk.specs.Rooms.{no_use, used_at, Used}
-use Rattle.dc_walk.specs.Filters.{key_hash, MayHold}
+use Rattle.dc_index.specs.Slots.{key_hash}
+use Rattle.dc_walk.specs.Filters.{MayHold}
 use Rattle.dc_walk.specs.declared.filter.KeyFilter.{KeyFilter}
 use Rattle.dc_walk.proofs.Told.{same_test, same_itself, told_last, new_same}
 

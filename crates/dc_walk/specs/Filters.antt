@@ -1,13 +1,7 @@
 -- Filters of keys by their hashes.
 use Rattle.std.specs.Prelude.{◌≡◌, ℕ, ◌%◌, true, false, get_or}
-use Rattle.dc_names.specs.Hash.{hash_of}
-use Rattle.dc_plain.specs.Facts.{Key, label_bytes}
 use Rattle.dc_walk.specs.declared.filter.TheConstants.{FILTER_PLACES}
 use Rattle.dc_walk.specs.declared.filter.KeyFilter.{KeyFilter}
-
--- the hash of a key
-abbrev pub key_hash : Key → ℕ
-key_hash key = hash_of key.number (label_bytes key.label)
 
 -- a filter may hold the keys with a hash, whose place is set
 abbrev pub MayHold : KeyFilter → ℕ → Type 0

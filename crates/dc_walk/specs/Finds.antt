@@ -7,7 +7,8 @@ use Rattle.dc_row.specs.Decoding.{fact_in}
 use Rattle.dc_row.specs.Spelling.{Spells}
 use Rattle.dc_walk.specs.Uses.{Use, facts_of}
 use Rattle.dc_walk.specs.Rooms.{used_at, Used}
-use Rattle.dc_walk.specs.Filters.{key_hash, MayHold}
+use Rattle.dc_index.specs.Slots.{key_hash}
+use Rattle.dc_walk.specs.Filters.{MayHold}
 use Rattle.dc_walk.specs.declared.filter.KeyFilter.{KeyFilter}
 
 -- a fact that was read, or a fact of nobody

@@ -7,7 +7,7 @@ ghost use Rattle.dc_table.specs.Passes.{known, share};
 ghost use Rattle.dc_table.specs.Shares.{HasNotTried};
 ghost use Rattle.dc_walk.specs.Asking.{GoesOn};
 ghost use Rattle.dc_walk.specs.Causes.{Looked};
-ghost use Rattle.dc_walk.specs.Filters.{key_hash};
+ghost use Rattle.dc_index.specs.Slots.{key_hash};
 ghost use Rattle.dc_walk.specs.Findings.{SameRows, IsFinding, now_in, outcome_in, said_in, spent};
 ghost use Rattle.dc_walk.specs.Rooms.{key_bytes, HasWords};
 ghost use Rattle.dc_walk.specs.Sights.{AnswersIn, Fails, GivesUp, LookedWhole};

@@ -3,6 +3,7 @@
 ghost use Rattle.std.specs.Prelude.{◌≡◌, true};
 
 use crate::source::{Lane, Source};
+use dc_index::HashedKey;
 use dc_names::NoMemory;
 use dc_plain::Key;
 use dc_rows::pin;
@@ -24,16 +25,15 @@ impl<'a, R: Wait> Source for Pinning<'a, R> {
 
     ghost serves = { λ source table. source.shared.now ≡ table };
 
-    /// No row if none can be had. The hash that the walk has isn't used: `pin` finds the row by its key in
-    /// the index, under the lock, and the index hashes the key itself, as its calls take keys alone.
+    /// No row if none can be had.
     fn rows_of(
         &self,
         _reader: Reader<'_>,
         pass: &mut Pass,
         key: Key<'_>,
-        _hash: u64,
+        hash: u64,
     ) -> Result<Lane, NoMemory> {
-        match pin(self.shared, self.rt, self.alloc, pass, &key)? {
+        match pin(self.shared, self.rt, self.alloc, pass, &HashedKey { key, hash })? {
             Some(first) => Ok(Lane { first, many: 1 }),
             None => Ok(Lane { first: 0, many: 0 }),
         }

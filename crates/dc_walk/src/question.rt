@@ -10,7 +10,7 @@ ghost use Rattle.dc_table.specs.Holders.{table_of};
 ghost use Rattle.dc_table.specs.Passes.{share};
 ghost use Rattle.dc_walk.specs.Becomings.{Becomes, IsGood, KeepsPinned, MayAskRows, MayAskNew, Had};
 ghost use Rattle.dc_walk.specs.Causes.{TellsWhy};
-ghost use Rattle.dc_walk.specs.Filters.{key_hash};
+ghost use Rattle.dc_index.specs.Slots.{key_hash};
 ghost use Rattle.dc_walk.specs.Finds.{StandsAt};
 ghost use Rattle.dc_walk.specs.Rooms.{key_bytes, HasWords, Keeps};
 ghost use Rattle.dc_walk.specs.Sources.{PinsIts, Serves};

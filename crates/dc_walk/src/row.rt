@@ -7,7 +7,7 @@ ghost use Rattle.dc_table.specs.Holders.{table_of};
 ghost use Rattle.dc_table.specs.Passes.{known, view, share, Fits, IsIdle, StaysOut};
 ghost use Rattle.dc_table.specs.Shares.{HasNotTried};
 ghost use Rattle.dc_walk.specs.Asking.{GoesOn};
-ghost use Rattle.dc_walk.specs.Filters.{key_hash};
+ghost use Rattle.dc_index.specs.Slots.{key_hash};
 ghost use Rattle.dc_walk.specs.Findings.{SameRows, IsFinding, now_in, outcome_in, said_in};
 ghost use Rattle.dc_walk.specs.Probes.{IsReadingTop, IsShort, SpellsShort, TakesRow};
 ghost use Rattle.dc_walk.specs.Rooms.{key_bytes, HasWords};

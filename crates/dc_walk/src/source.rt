@@ -5,7 +5,7 @@ ghost use Rattle.dc_plain.specs.KeysShown.{key_shown};
 ghost use Rattle.dc_table.specs.Passes.{view, share, IsSamePass, IsIdle};
 ghost use Rattle.dc_table.specs.Holders.{table_of};
 ghost use Rattle.dc_table.specs.declared.shared.Shared.{Shared};
-ghost use Rattle.dc_walk.specs.Filters.{key_hash};
+ghost use Rattle.dc_index.specs.Slots.{key_hash};
 ghost use Rattle.dc_walk.specs.Findings.{CanWalk};
 ghost use Rattle.dc_walk.specs.Sources.{IsHead, IsUntried, PinsIts, Rests, Serves};
 

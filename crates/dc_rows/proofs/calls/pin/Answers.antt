@@ -8,5 +8,5 @@ returns-clause-pinned g c = record {
   once = search rules;
   row = search rules;
   rows = search rules;
-  pins = gets_pins (key_shown c.args.key.now) _ _ _ (search rules);
+  pins = gets_pins (key_shown c.args.key.now.key) _ _ _ (search rules);
 }

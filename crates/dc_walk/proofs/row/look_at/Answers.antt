@@ -8,7 +8,8 @@ use Rattle.dc_events.specs.Views.Fault.{Busy}
 use Rattle.dc_table.specs.Passes.{view, share}
 use Rattle.dc_walk.specs.Finds.{use_shown, AllSpelled, AllInside, AllHeld, StandsAt}
 use Rattle.dc_plain.specs.Facts.{key_of}
-use Rattle.dc_walk.specs.Filters.{key_hash, MayHold}
+use Rattle.dc_index.specs.Slots.{key_hash}
+use Rattle.dc_walk.specs.Filters.{MayHold}
 use Rattle.dc_names.specs.declared.limits.TheConstants.{MOST_USED}
 use Rattle.dc_walk.proofs.Rooms.{kept_so, key_size}
 use Rattle.dc_walk.specs.Rooms.{Used}

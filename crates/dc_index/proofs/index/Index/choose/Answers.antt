@@ -9,8 +9,8 @@ use Rattle.dc_index.proofs.index.Index.choose.Goals as goal
 pub returns-clause-safe : goal.returns-clause-safe
 returns-clause-safe c = let agree = subst (λ (b : ℕ). AgreeIn b c.args.self.now c.args.shrinker.now) (sym c.bucket-bucket.ensures.bucket) c.requires in
     let chosen = c.or.ensures ∙ ap (λ o. option_or o c.victim_of.result) c.first_free.ensures.row ∙ ap (λ v. option_or (first_free c.args.self.now c.bucket-bucket.result) v) c.victim_of.ensures.victim in
-    if_some c.or.result (λ row e. choice_safe c.first_free.ensures.valid c.victim_of.ensures.valid (key_shown c.args.key.now) c.bucket-bucket.result c.bucket-bucket.ensures.bucket c.bucket-bucket.ensures.within agree
+    if_some c.or.result (λ row e. choice_safe c.first_free.ensures.valid c.victim_of.ensures.valid (key_shown c.args.key.now.key) c.bucket-bucket.result c.bucket-bucket.ensures.bucket c.bucket-bucket.ensures.within agree
     (position is_free (slots_in c.args.self.now c.bucket-bucket.result)) refl row (sym chosen ∙ e))
 
 pub returns-clause-within : goal.returns-clause-within
-returns-clause-within c = some_within c.first_free.ensures.valid c.args.shrinker.now (key_shown c.args.key.now) c.or.result (returns-clause-safe c)
+returns-clause-within c = some_within c.first_free.ensures.valid c.args.shrinker.now (key_shown c.args.key.now.key) c.or.result (returns-clause-safe c)

@@ -15,7 +15,7 @@ invariant_of-self c = let e = c.deref_mut.ensures.value in let g = c.fill.new.se
 }
 
 pub returns-clause-rows : goal.returns-clause-rows
-returns-clause-rows c = let key = key_shown c.args.key.now in let s = rows_of c.args.self.now in let t = rows_of c.fill.new.self in let e = c.deref_mut.ensures.value in let p = c.pin_row in let after = p.new.kept.shrinker in let row = c.in-Some.row in
+returns-clause-rows c = let key = key_shown c.args.key.now.key in let s = rows_of c.args.self.now in let t = rows_of c.fill.new.self in let e = c.deref_mut.ensures.value in let p = c.pin_row in let after = p.new.kept.shrinker in let row = c.in-Some.row in
     gets_pin key s t (rows_at c.fill.new.self.holder.pass.now p.new.kept) row (subst (λ (o : Option ℕ). Gets key 0 s t (Ok o)) c.in-Some.is c.in_ok-row.ensures.rows) refl
     (p.ensures.tree.1 ∙ ap (λ (y : Guarded). y.index) e) (subst (λ (y : Guarded). KeepsUse y.shrinker after) e p.ensures.same_use.0) p.result p.ensures.row
     (subst (λ (y : Guarded). PinsOnce row y.shrinker after p.result) e p.ensures.pinned)
