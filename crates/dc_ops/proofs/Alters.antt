@@ -1,5 +1,5 @@
 -- What is carried out makes another tree.
-use Rattle.std.proofs.Common.{◌≡◌, ◌≢◌, ℕ, ◌==◌, List, Bool, true, false, not, cond, Option, Some, None, Result, Ok, Err, refl, ap, sym, ◌∙◌, IfSome, subst, if◌then◌else◌}
+use Rattle.std.proofs.Common.{◌≡◌, ◌≢◌, ℕ, ◌==◌, List, Bool, true, false, not, cond, Option, Some, None, Result, Ok, Err, refl, ap, sym, ◌∙◌, IfSome, IfOk, IfErr, subst, if◌then◌else◌}
 use Rattle.std.specs.Cmp.{IsTotalOrder, tied_itself}
 use Rattle.std.specs.Ordering.{eq_by_cmp, is_eq}
 use Rattle.std.specs.FinMap.Entries.{put, find-put, find-where_key}
@@ -25,7 +25,7 @@ use Rattle.dc_store.specs.declared.store.New as rust_new
 use Rattle.dc_store.specs.declared.store.New.TheVariants as news
 use Rattle.dc_ops.specs.declared.plans.Plan as rust_plan
 use Rattle.dc_ops.specs.declared.plans.Plan.TheVariants as plans
-use Rattle.dc_ops.specs.Plans.{effect, CanCarry, PlanTakesNoMemory, IsPlanOf, CallTakesNoMemory, SettlesIf, Plans, Declines}
+use Rattle.dc_ops.specs.Plans.{effect, CanCarry, PlanTakesNoMemory, IsPlanOf, CallTakesNoMemory, Settles, SettlesIf, Plans, Declines}
 use Rattle.dc_ops.proofs.Distinct.{plan_distinct}
 
 no_some : (n : ℕ) → ◌≡◌ {A = Option ℕ} None (Some n) → ⊥
@@ -135,9 +135,12 @@ idles_if decides limit t request (Some plan) is settles = absurd cc
 pub refuses_so : AltersDecides → (limit : ℕ) (t : Tree) (request : Request) (refusal : Refusal) → change_of limit t request ≡ Err refusal → Declines limit t request (Refused (refusal_number refusal))
 refuses_so decides limit t request refusal is = declines_so decides limit t request (Refused (refusal_number refusal)) (ap (settled t) is)
 
--- what a call comes to, by what it is found to be
-pub settles_as : (limit : ℕ) (t : Tree) (call asked : Call) (found other : Option rust_plan.Plan) → found ≡ other → call ≡ asked
-    → SettlesIf t (change_of limit t (request_of asked)) (listed t (request_of asked)) (Ok other) → SettlesIf t (change_of limit t (request_of call)) (listed t (request_of call)) (Ok found)
-settles_as limit t call asked found other same is settles =
-    subst (λ call. SettlesIf t (change_of limit t (request_of call)) (listed t (request_of call)) (Ok found)) (sym is)
-    (subst (λ found. SettlesIf t (change_of limit t (request_of asked)) (listed t (request_of asked)) (Ok found)) (sym same) settles)
+-- what a call comes to whose change is never idle
+pub settles_some : (limit : ℕ) (t : Tree) (call asked : Call) (plan : Result rust_plan.Plan Refusal) (found : Result (Option rust_plan.Plan) Refusal) → call ≡ asked → IfOk plan (λ p. found ≡ Ok (Some p)) → IfErr plan (λ r. found ≡ Err r)
+    → Settles t (change_of limit t (request_of asked)) (listed t (request_of asked)) plan → SettlesIf t (change_of limit t (request_of call)) (listed t (request_of call)) found
+settles_some limit t call asked plan found is ok err settles = subst (λ call. SettlesIf t (change_of limit t (request_of call)) (listed t (request_of call)) found) (sym is) (by plan ok err settles)
+  where
+    by : (plan : Result rust_plan.Plan Refusal) → IfOk plan (λ p. found ≡ Ok (Some p)) → IfErr plan (λ r. found ≡ Err r)
+        → Settles t (change_of limit t (request_of asked)) (listed t (request_of asked)) plan → SettlesIf t (change_of limit t (request_of asked)) (listed t (request_of asked)) found
+    by (Ok plan) is err settles = subst (SettlesIf t (change_of limit t (request_of asked)) (listed t (request_of asked))) (sym is) settles
+    by (Err refusal) ok is settles = subst (SettlesIf t (change_of limit t (request_of asked)) (listed t (request_of asked))) (sym is) settles
