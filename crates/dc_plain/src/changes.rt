@@ -2,15 +2,15 @@
 
 ghost use Rattle.std.specs.Prelude.{IfOk};
 ghost use Rattle.dc_plain.specs.Operations.{link, symlink, unlink, rmdir};
-ghost use Rattle.dc_plain.specs.Planned.{made_in};
+ghost use Rattle.dc_plain.specs.Planned.{link_from, made_in, FindsPlan};
 ghost use Rattle.dc_plain.specs.Plans.{planned, HasSpotsIfChange};
 ghost use Rattle.dc_plain.specs.Failures.{Finds};
 
 use crate::failure::Failure;
 use crate::place::path_of;
 use crate::plan::{Change, New, Plan};
-use crate::{MOST_NAMES, PlainTree, is_directory, present, refuse};
-use dc_names::Refusal;
+use crate::{MOST_NAMES, PlainTree, Where, is_directory, present, refuse};
+use dc_names::{Name, Refusal};
 use std::alloc::Global;
 
 impl PlainTree {
@@ -69,6 +69,21 @@ impl PlainTree {
         let to = self.place_on(alloc, base, new)?;
         let old = from.last.name_or(Refusal::NotPermitted)?;
         let new = to.last.name_or(Refusal::Exists)?;
+        self.link_at(from, old, to, new)
+    }
+
+    /// The further name once both names are known.
+    fn link_at<'c>(
+        &self,
+        from: Where<'c>,
+        old: Name<'c>,
+        to: Where<'c>,
+        new: Name<'c>,
+    ) -> Result<Plan<'c>, Failure>
+        ensures found { FindsPlan self.now.tree
+            (link_from from.entry old.entry to.entry new.entry) result }
+        ensures spots { IfOk result (HasSpotsIfChange self.now.tree) }
+    {
         let inode = present(self.entry(from.dir, old.bytes()), Refusal::NotFound)?;
         refuse(is_directory(inode), Refusal::NotPermitted)?;
         refuse(from.slash, Refusal::NotDirectory)?;
