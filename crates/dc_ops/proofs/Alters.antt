@@ -122,6 +122,11 @@ told t (Err refusal) = refl
 pub reads_so : AltersDecides → (limit : ℕ) (t : Tree) (request : Request) (r : Result Answer Refusal) (answer : Answer) → change_of limit t request ≡ left_alone t r → answer ≡ answered r → Declines limit t request answer
 reads_so decides limit t request r answer is e = declines_so decides limit t request answer (ap (settled t) is ∙ told t r ∙ ap (λ a. (a, t)) (sym e))
 
+pub reads_if : AltersDecides → (t : Tree) (request : Request) (r : Result Answer Refusal) {A E : Type 0} (shown : A → Answer) (found : Result A E) → ((limit : ℕ) → change_of limit t request ≡ left_alone t r)
+    → IfOk found (λ a. shown a ≡ answered r) → IfOk found (λ a. (limit : ℕ) → Declines limit t request (shown a))
+reads_if decides t request r shown (Ok a) is e = λ limit. reads_so decides limit t request r (shown a) (is limit) e
+reads_if decides t request r shown (Err fault) is e = e
+
 -- a change that may come to nothing
 pub plans_if : IsTotalOrder spot_cmp → AltersDecides → (limit : ℕ) (t : Tree) (request : Request) (found : Option rust_plan.Plan) (plan : rust_plan.Plan) → found ≡ Some plan
     → SettlesIf t (change_of limit t request) (listed t request) (Ok found) → (CallTakesNoMemory request → IfSome found PlanTakesNoMemory) → Plans limit t request plan
