@@ -1,12 +1,11 @@
-use Rattle.std.proofs.Common.{arith, rules, refl}
-use Rattle.std.proofs.lemmas.Grind.{common_steps}
+use Rattle.std.proofs.Common.{rules, refl}
 use Rattle.dc_ops.proofs.Rooms.{may_link}
 use Rattle.dc_ops.proofs.makes.link_at.Goals as goal
 
 pub returns : goal.returns
 returns g c =
     let t = g.S.Store.tree c.args.store.now in record {
-      does = first_of (search rules, grind (arith, common_steps));
+      does = search rules;
       can = (
         c.requires c.present.ensures.well,
         c.is_there.ensures.free c.in_ok-refuse-3.ensures.ok,

@@ -1,5 +1,4 @@
-use Rattle.std.proofs.Common.{arith, rules}
-use Rattle.std.proofs.lemmas.Grind.{common_steps}
+use Rattle.std.proofs.Common.{rules}
 use Rattle.dc_names.specs.Paths.{path_in}
 use Rattle.dc_plain.specs.Spots.{where_shown}
 use Rattle.dc_ops.proofs.Renamed.{settles_by}
@@ -11,4 +10,4 @@ link_at-requires g c well =
 
 pub returns : goal.returns
 returns g c =
-    settles_by (g.S.Store.tree c.args.store.now) _ _ _ _ c.link_at.result c.link_at.ensures (first_of (search rules, grind (arith, common_steps))) (first_of (search rules, grind (arith, common_steps)))
+    settles_by (g.S.Store.tree c.args.store.now) _ _ _ _ c.link_at.result c.link_at.ensures (search rules) (search rules)

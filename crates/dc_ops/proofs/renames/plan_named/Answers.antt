@@ -1,5 +1,4 @@
-use Rattle.std.proofs.Common.{arith, rules}
-use Rattle.std.proofs.lemmas.Grind.{common_steps}
+use Rattle.std.proofs.Common.{rules}
 use Rattle.dc_ops.proofs.Renamed.{settles_so}
 use Rattle.dc_ops.proofs.renames.plan_named.Goals as goal
 
@@ -14,4 +13,4 @@ plan_swap-requires-clause-old_held g c = c.requires.old_held c.present.ensures.w
 
 pub returns-clause-settled : goal.returns-clause-settled
 returns-clause-settled g c =
-    settles_so (g.S.Store.tree c.args.store.now) _ _ _ _ c.plan_move.result c.plan_move.ensures (first_of (search rules, grind (arith, common_steps))) (first_of (search rules, grind (arith, common_steps)))
+    settles_so (g.S.Store.tree c.args.store.now) _ _ _ _ c.plan_move.result c.plan_move.ensures (search rules) (search rules)

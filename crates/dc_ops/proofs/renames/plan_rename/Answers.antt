@@ -1,5 +1,4 @@
-use Rattle.std.proofs.Common.{arith, rules}
-use Rattle.std.proofs.lemmas.Grind.{common_steps}
+use Rattle.std.proofs.Common.{rules}
 use Rattle.dc_names.specs.Paths.{path_in}
 use Rattle.dc_plain.specs.Spots.{where_shown}
 use Rattle.dc_ops.proofs.Renamed.{settles_so}
@@ -15,4 +14,4 @@ plan_named-requires-clause-new_held g c well =
 
 pub returns-clause-settled : goal.returns-clause-settled
 returns-clause-settled g c =
-    settles_so (g.S.Store.tree c.args.store.now) _ _ _ _ c.plan_named.result c.plan_named.ensures.settled (first_of (search rules, grind (arith, common_steps))) (first_of (search rules, grind (arith, common_steps)))
+    settles_so (g.S.Store.tree c.args.store.now) _ _ _ _ c.plan_named.result c.plan_named.ensures.settled (search rules) (search rules)
