@@ -1,5 +1,5 @@
 -- What is carried out makes another tree.
-use Rattle.std.proofs.Common.{◌≡◌, ◌≢◌, ℕ, ◌==◌, List, Bool, true, false, not, cond, Option, Some, None, Result, Ok, Err, refl, ap, sym, ◌∙◌, IfSome, subst, if◌then◌else◌}
+use Rattle.std.proofs.Common.{◌≡◌, ◌≢◌, ℕ, ◌==◌, List, Bool, true, false, not, cond, Option, Some, None, Result, Ok, Err, refl, ap, sym, ◌∙◌, IfSome, IfOk, IfErr, subst, if◌then◌else◌}
 use Rattle.std.specs.Cmp.{IsTotalOrder, tied_itself}
 use Rattle.std.specs.Ordering.{eq_by_cmp, is_eq}
 use Rattle.std.specs.FinMap.Entries.{put, find-put, find-where_key}
@@ -25,7 +25,7 @@ use Rattle.dc_store.specs.declared.store.New as rust_new
 use Rattle.dc_store.specs.declared.store.New.TheVariants as news
 use Rattle.dc_ops.specs.declared.plans.Plan as rust_plan
 use Rattle.dc_ops.specs.declared.plans.Plan.TheVariants as plans
-use Rattle.dc_ops.specs.Plans.{effect, CanCarry, PlanTakesNoMemory, IsPlanOf, CallTakesNoMemory, SettlesIf, Plans, Declines}
+use Rattle.dc_ops.specs.Plans.{effect, CanCarry, PlanTakesNoMemory, IsPlanOf, CallTakesNoMemory, Settles, SettlesIf, Plans, Declines}
 use Rattle.dc_ops.proofs.Distinct.{plan_distinct}
 
 no_some : (n : ℕ) → ◌≡◌ {A = Option ℕ} None (Some n) → ⊥
@@ -122,6 +122,11 @@ told t (Err refusal) = refl
 pub reads_so : AltersDecides → (limit : ℕ) (t : Tree) (request : Request) (r : Result Answer Refusal) (answer : Answer) → change_of limit t request ≡ left_alone t r → answer ≡ answered r → Declines limit t request answer
 reads_so decides limit t request r answer is e = declines_so decides limit t request answer (ap (settled t) is ∙ told t r ∙ ap (λ a. (a, t)) (sym e))
 
+pub reads_if : AltersDecides → (t : Tree) (request : Request) (r : Result Answer Refusal) {A E : Type 0} (shown : A → Answer) (found : Result A E) → ((limit : ℕ) → change_of limit t request ≡ left_alone t r)
+    → IfOk found (λ a. shown a ≡ answered r) → IfOk found (λ a. (limit : ℕ) → Declines limit t request (shown a))
+reads_if decides t request r shown (Ok a) is e = λ limit. reads_so decides limit t request r (shown a) (is limit) e
+reads_if decides t request r shown (Err fault) is e = e
+
 -- a change that may come to nothing
 pub plans_if : IsTotalOrder spot_cmp → AltersDecides → (limit : ℕ) (t : Tree) (request : Request) (found : Option rust_plan.Plan) (plan : rust_plan.Plan) → found ≡ Some plan
     → SettlesIf t (change_of limit t request) (listed t request) (Ok found) → (CallTakesNoMemory request → IfSome found PlanTakesNoMemory) → Plans limit t request plan
@@ -135,9 +140,12 @@ idles_if decides limit t request (Some plan) is settles = absurd cc
 pub refuses_so : AltersDecides → (limit : ℕ) (t : Tree) (request : Request) (refusal : Refusal) → change_of limit t request ≡ Err refusal → Declines limit t request (Refused (refusal_number refusal))
 refuses_so decides limit t request refusal is = declines_so decides limit t request (Refused (refusal_number refusal)) (ap (settled t) is)
 
--- what a call comes to, by what it is found to be
-pub settles_as : (limit : ℕ) (t : Tree) (call asked : Call) (found other : Option rust_plan.Plan) → found ≡ other → call ≡ asked
-    → SettlesIf t (change_of limit t (request_of asked)) (listed t (request_of asked)) (Ok other) → SettlesIf t (change_of limit t (request_of call)) (listed t (request_of call)) (Ok found)
-settles_as limit t call asked found other same is settles =
-    subst (λ call. SettlesIf t (change_of limit t (request_of call)) (listed t (request_of call)) (Ok found)) (sym is)
-    (subst (λ found. SettlesIf t (change_of limit t (request_of asked)) (listed t (request_of asked)) (Ok found)) (sym same) settles)
+-- what a call comes to whose change is never idle
+pub settles_some : (limit : ℕ) (t : Tree) (call asked : Call) (plan : Result rust_plan.Plan Refusal) (found : Result (Option rust_plan.Plan) Refusal) → call ≡ asked → IfOk plan (λ p. found ≡ Ok (Some p)) → IfErr plan (λ r. found ≡ Err r)
+    → Settles t (change_of limit t (request_of asked)) (listed t (request_of asked)) plan → SettlesIf t (change_of limit t (request_of call)) (listed t (request_of call)) found
+settles_some limit t call asked plan found is ok err settles = subst (λ call. SettlesIf t (change_of limit t (request_of call)) (listed t (request_of call)) found) (sym is) (by plan ok err settles)
+  where
+    by : (plan : Result rust_plan.Plan Refusal) → IfOk plan (λ p. found ≡ Ok (Some p)) → IfErr plan (λ r. found ≡ Err r)
+        → Settles t (change_of limit t (request_of asked)) (listed t (request_of asked)) plan → SettlesIf t (change_of limit t (request_of asked)) (listed t (request_of asked)) found
+    by (Ok plan) is err settles = subst (SettlesIf t (change_of limit t (request_of asked)) (listed t (request_of asked))) (sym is) settles
+    by (Err refusal) ok is settles = subst (SettlesIf t (change_of limit t (request_of asked)) (listed t (request_of asked))) (sym is) settles

@@ -16,7 +16,7 @@ use Rattle.dc_plain.specs.Spots.{spot_at}
 use Rattle.dc_plain.specs.KeysShown.{keys_in}
 use Rattle.dc_plain.specs.declared.key.Key as rust_key
 use Rattle.dc_ops.specs.Keys.{keys_reparented}
-use Rattle.dc_ops.specs.Plans.{SettlesIf}
+use Rattle.dc_ops.specs.Plans.{Settles, SettlesIf}
 use Rattle.dc_ops.specs.declared.plans.Plan.{Plan}
 use Rattle.dc_ops.proofs.Goes.{by_inode}
 
@@ -100,3 +100,7 @@ may_stand t to new moved there held lives tested passed apart target live_there 
 -- another change and other keys that are these
 pub settles_so : (t : Tree) (change other : Change) (keys others : List Key) (found : Result (Option Plan) Refusal) → SettlesIf t other others found → change ≡ other → keys ≡ others → SettlesIf t change keys found
 settles_so t change other keys others found settled is same = subst (λ c. SettlesIf t c keys found) (sym is) (subst (λ ks. SettlesIf t other ks found) (sym same) settled)
+
+-- and of what never comes to nothing
+pub settles_by : (t : Tree) (change other : Change) (keys others : List Key) (found : Result Plan Refusal) → Settles t other others found → change ≡ other → keys ≡ others → Settles t change keys found
+settles_by t change other keys others found settled is same = subst (λ c. Settles t c keys found) (sym is) (subst (λ ks. Settles t other ks found) (sym same) settled)

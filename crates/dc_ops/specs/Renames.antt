@@ -3,16 +3,17 @@ use Rattle.std.specs.Prelude.{ℕ, List, Bool, length, is_some, ◌&&◌, Option
 use Rattle.dc_names.specs.declared.name.Name as rust_name
 use Rattle.dc_names.specs.declared.refusal.Refusal.{Refusal}
 use Rattle.dc_names.specs.declared.refusal.Refusal.TheVariants.{Exists, Invalid}
+use Rattle.dc_plain.specs.declared.call.Flags.{Flags}
 use Rattle.dc_plain.specs.declared.spot.Spot as rust_spot
 use Rattle.dc_plain.specs.declared.spot.Where as rust_where
 use Rattle.dc_plain.specs.Facts.{Target, Key}
 use Rattle.dc_plain.specs.Spots.{spot_shown, where_shown}
-use Rattle.dc_plain.specs.TouchedKeys.{keys_renamed, keys_swapped}
+use Rattle.dc_plain.specs.TouchedKeys.{keys_by, keys_renamed, keys_swapped}
 use Rattle.dc_plain.specs.Facts.Label.{Entry}
 use Rattle.dc_plain.specs.Resolution.{is_directory}
 use Rattle.dc_plain.specs.Trees.{Tree, Spot, entry_of}
 use Rattle.dc_plain.specs.Refusals.{◌>>=◌, refuse}
-use Rattle.dc_plain.specs.Operations.{Change, is_beneath, replaceable, same_inode, swap_names}
+use Rattle.dc_plain.specs.Operations.{Change, is_beneath, rename_at, replaceable, same_inode, swap_names}
 use Rattle.dc_plain.specs.Requests.Answer.{Nothing}
 use Rattle.dc_store.specs.Moved.{tree_moved}
 use Rattle.dc_ops.specs.Plans.{SettlesIf}
@@ -44,3 +45,8 @@ SettlesMove t from to moved no_replace found =
 abbrev pub SettlesSwap : Tree → rust_where.Where → rust_name.Name → rust_where.Where → rust_name.Name → Target → Result (Option rust_plan.Plan) Refusal → Type 0
 SettlesSwap t from old to new moved found =
     SettlesIf t (swap_names t (where_shown from) old.bytes.now (where_shown to) new.bytes.now moved) (keys_swapped t from.dir old.bytes.now to.dir new.bytes.now) found
+
+-- and so does a rename of the one or the other kind, by its flags
+abbrev pub SettlesNamed : Tree → rust_where.Where → rust_name.Name → rust_where.Where → rust_name.Name → Flags → Result (Option rust_plan.Plan) Refusal → Type 0
+SettlesNamed t from old to new flags found =
+    SettlesIf t (rename_at t (where_shown from) old.bytes.now (where_shown to) new.bytes.now flags) (keys_by flags t from.dir old.bytes.now to.dir new.bytes.now) found

@@ -1,6 +1,6 @@
 //! Plans of all changes.
 
-ghost use Rattle.std.specs.Prelude.{IfOk, IfErr, IfSome};
+ghost use Rattle.std.specs.Prelude.{◌≡◌, Some, Ok, Err, IfOk, IfErr, IfSome};
 ghost use Rattle.dc_plain.specs.Requests.{request_of};
 ghost use Rattle.dc_ops.specs.Asked.{IsChange};
 ghost use Rattle.dc_ops.specs.Knowing.{IsKnownOn};
@@ -63,24 +63,35 @@ fn found<'a, S: Store>(
     ensures settled { SettlesCallIf limit (S.tree store.now) (request_of call.now) result }
     ensures without_memory { CallTakesNoMemory (request_of call.now) → FoundTakesNoMemory result }
 {
-    Ok(match *call {
-        Call::Mkdir { base, path } => Some(plan_make(store, known, base, path, New::Dir, limit)?),
-        Call::Create { base, path } => Some(plan_make(store, known, base, path, New::File, limit)?),
+    match *call {
+        Call::Mkdir { base, path } => some(plan_make(store, known, base, path, New::Dir, limit)),
+        Call::Create { base, path } => some(plan_make(store, known, base, path, New::File, limit)),
         Call::Symlink { base, text, path } => {
-            Some(plan_symlink(store, known, base, text, path, limit)?)
+            some(plan_symlink(store, known, base, text, path, limit))
         }
-        Call::Link { base, old, new } => Some(plan_link(store, known, base, old, new)?),
-        Call::Unlink { base, path } => Some(plan_unlink(store, known, base, path)?),
-        Call::Rmdir { base, path } => Some(plan_rmdir(store, known, base, path)?),
+        Call::Link { base, old, new } => some(plan_link(store, known, base, old, new)),
+        Call::Unlink { base, path } => some(plan_unlink(store, known, base, path)),
+        Call::Rmdir { base, path } => some(plan_rmdir(store, known, base, path)),
         Call::Rename {
             base,
             old,
             new,
             flags,
-        } => plan_rename(store, known, base, old, new, flags)?,
+        } => plan_rename(store, known, base, old, new, flags),
         // A read has no plan, and the caller knows that this is a change.
         Call::Look { .. } | Call::Readlink { .. } | Call::Stat { .. } | Call::List { .. } => {
             unreachable!()
         }
-    })
+    }
+}
+
+/// The plan of a change that is never idle, or its refusal.
+fn some(found: Result<Plan<'_>, Refusal>) -> Result<Option<Plan<'_>>, Refusal>
+    ensures ok { IfOk found.entry (λ plan. result ≡ Ok (Some plan)) }
+    ensures err { IfErr found.entry (λ refusal. result ≡ Err refusal) }
+{
+    match found {
+        Ok(plan) => Ok(Some(plan)),
+        Err(refusal) => Err(refusal),
+    }
 }

@@ -1,19 +1,20 @@
 //! Plans of entries that come.
 
-ghost use Rattle.std.specs.Prelude.{◌≡◌, nat_le, false, Some, IfSome};
+ghost use Rattle.std.specs.Prelude.{◌≡◌, nat_le, false, Some, IfSome, IsTrue};
 ghost use Rattle.dc_ops.specs.Knowing.{IsKnownOn};
+ghost use Rattle.dc_plain.specs.IsWellFormed.{IsWellFormed};
 ghost use Rattle.dc_plain.specs.Requests.Request.{Hard_link, Symlink};
 ghost use Rattle.dc_plain.specs.Resolution.{is_directory};
-ghost use Rattle.dc_plain.specs.Trees.{names_of, target_at};
+ghost use Rattle.dc_plain.specs.Trees.{is_live_directory, names_of, target_at};
 ghost use Rattle.dc_names.specs.declared.limits.TheConstants.{MOST_NAMES};
-ghost use Rattle.dc_ops.specs.Makes.{MakesInode, SettlesMade, may_end_in_slash};
+ghost use Rattle.dc_ops.specs.Makes.{MakesInode, SettlesLink, SettlesMade, may_end_in_slash};
 ghost use Rattle.dc_ops.specs.Settled.{SettlesCall, SettlesUnlimited};
 
 use crate::conditions::{is_full, is_there, name_or, place_text, present, refuse};
 use crate::paths::{path_of, place_path};
 use crate::{Known, Plan};
-use dc_names::Refusal;
-use dc_plain::{MOST_NAMES, Target, is_directory, paths_lead_to_the_living};
+use dc_names::{Name, Refusal};
+use dc_plain::{MOST_NAMES, Target, Where, is_directory, paths_lead_to_the_living};
 use dc_store::{New, Store};
 
 /// The plan of an entry for a new inode.
@@ -85,15 +86,30 @@ pub(crate) fn plan_link<'a, S: Store>(
     let to = place_path(store, known, base, new_path)?;
     let old_name = name_or(Refusal::NotPermitted, from.last)?;
     let new_name = name_or(Refusal::Exists, to.last)?;
-    let (inode, _) = present(store, from.dir, old_name)?;
+    link_at(store, from, old_name, to, new_name)
+}
+
+/// The plan of a further name once both names are known.
+fn link_at<'a, S: Store>(
+    store: &S,
+    from: Where<'a>,
+    old: Name<'a>,
+    to: Where<'a>,
+    new: Name<'a>,
+) -> Result<Plan<'a>, Refusal>
+    requires { IsWellFormed (S.tree store.now)
+        → IsTrue (is_live_directory (S.tree store.now) to.dir) }
+    ensures { SettlesLink (S.tree store.now) from.entry old.entry to.entry new.entry result }
+{
+    let (inode, _) = present(store, from.dir, old)?;
     refuse(is_directory(inode), Refusal::NotPermitted)?;
     refuse(from.slash, Refusal::NotDirectory)?;
-    refuse(is_there(store, to.dir, new_name), Refusal::Exists)?;
+    refuse(is_there(store, to.dir, new), Refusal::Exists)?;
     refuse(to.slash, Refusal::NotFound)?;
     refuse(has_most_names(store, inode), Refusal::TooManyNames)?;
     Ok(Plan::Add {
         dir: to.dir,
-        name: new_name,
+        name: new,
         new: New::Same(inode.0),
         number: inode.0,
     })

@@ -103,9 +103,9 @@ pub fn ask<S: Store>(alloc: Global, store: &S, call: &Call<'_>) -> Result<Reply,
         IsAtLength (reply_of limit (S.tree store.now) (request_of call.now))) }
 {
     alters_tells_whether_trees_differ();
-    Ok(match *call {
-        Call::Readlink { base, path } => read_link(alloc, store, base, path)?,
-        Call::List { base, path } => list(alloc, store, base, path)?,
+    match *call {
+        Call::Readlink { base, path } => read_link(alloc, store, base, path),
+        Call::List { base, path } => list(alloc, store, base, path),
         // Another call takes no memory or alters the tree, and the caller knows that this one doesn't.
         Call::Look { .. }
         | Call::Stat { .. }
@@ -116,7 +116,7 @@ pub fn ask<S: Store>(alloc: Global, store: &S, call: &Call<'_>) -> Result<Reply,
         | Call::Unlink { .. }
         | Call::Rmdir { .. }
         | Call::Rename { .. } => unreachable!(),
-    })
+    }
 }
 
 fn read_link<S: Store>(alloc: Global, store: &S, base: u64, path: &[u8]) -> Result<Reply, NoMemory>

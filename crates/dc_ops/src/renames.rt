@@ -10,7 +10,7 @@ ghost use Rattle.dc_plain.specs.Spots.{spot_at, spot_shown};
 ghost use Rattle.dc_plain.specs.TouchedKeys.{keys_gone, with_number};
 ghost use Rattle.dc_plain.specs.Trees.{is_live_directory, names_of, target_at, entry_number};
 ghost use Rattle.dc_ops.specs.Knowing.{IsKnownOn};
-ghost use Rattle.dc_ops.specs.Renames.{lies_beneath, SettlesMove, SettlesSwap};
+ghost use Rattle.dc_ops.specs.Renames.{lies_beneath, SettlesMove, SettlesNamed, SettlesSwap};
 ghost use Rattle.dc_ops.specs.Settled.{FoundTakesNoMemory, SettlesUnlimitedIf};
 
 use crate::conditions::{name_or_each, present, refuse};
@@ -47,21 +47,41 @@ pub(crate) fn plan_rename<'a, S: Store>(
     let to = place_path(store, known, base, new_path)?;
     let old_name = name_or_each(Refusal::Busy, Refusal::Invalid, Refusal::Invalid, from.last)?;
     let new_name = name_or_each(Refusal::Busy, Refusal::Invalid, Refusal::Invalid, to.last)?;
-    let (moved, place) = present(store, from.dir, old_name)?;
+    plan_named(store, from, old_name, to, new_name, flags)
+}
+
+/// The plan of a rename once both names are known.
+fn plan_named<'a, S: Store>(
+    store: &S,
+    from: Where<'a>,
+    old: Name<'a>,
+    to: Where<'a>,
+    new: Name<'a>,
+    flags: Flags,
+) -> Result<Option<Plan<'a>>, Refusal>
+    requires old_held { IsWellFormed (S.tree store.now)
+        → IsTrue (is_live_directory (S.tree store.now) from.dir) }
+    requires new_held { IsWellFormed (S.tree store.now)
+        → IsTrue (is_live_directory (S.tree store.now) to.dir) }
+    ensures settled { SettlesNamed (S.tree store.now)
+        from.entry old.entry to.entry new.entry flags result }
+    ensures without_memory { IsTrue flags.exchange → FoundTakesNoMemory result }
+{
+    let found = present(store, from.dir, old)?;
     if flags.exchange {
-        return plan_swap(store, from, old_name, to, new_name, (moved, place));
+        return plan_swap(store, from, old, to, new, found);
     }
     let ends = from.slash || to.slash;
-    refuse(!is_directory(moved) && ends, Refusal::NotDirectory)?;
+    refuse(!is_directory(found.0) && ends, Refusal::NotDirectory)?;
     let from = Spot {
         dir: from.dir,
-        name: old_name,
+        name: old,
     };
     let to = Spot {
         dir: to.dir,
-        name: new_name,
+        name: new,
     };
-    plan_move(store, from, to, (moved, place), flags.no_replace)
+    plan_move(store, from, to, found, flags.no_replace)
 }
 
 /// The plan of a move of what stands at the old name.

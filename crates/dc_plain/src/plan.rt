@@ -59,26 +59,16 @@ impl PlainTree {
         ensures spots { IfOk result (HasSpotsIfChange self.now.tree) }
     {
         match *call {
-            Call::Look { base, path, follow } => {
-                Ok(Plan::Answer(self.look(alloc, base, path, follow)?))
-            }
-            Call::Readlink { base, path } => Ok(Plan::Answer(self.readlink(alloc, base, path)?)),
-            Call::Stat { base, path } => Ok(Plan::Answer(self.stat(alloc, base, path)?)),
-            Call::List { base, path } => Ok(Plan::Answer(self.list(alloc, base, path)?)),
-            Call::Mkdir { base, path } => {
-                let change = self.make(alloc, base, path, true, New::Directory)?;
-                Ok(Plan::Change(change))
-            }
-            Call::Create { base, path } => {
-                let change = self.make(alloc, base, path, false, New::File)?;
-                Ok(Plan::Change(change))
-            }
-            Call::Link { base, old, new } => { Ok(Plan::Change(self.link(alloc, base, old, new)?)) }
-            Call::Symlink { base, text, path } => {
-                Ok(Plan::Change(self.symlink(alloc, base, text, path)?))
-            }
-            Call::Unlink { base, path } => Ok(Plan::Change(self.unlink(alloc, base, path)?)),
-            Call::Rmdir { base, path } => Ok(Plan::Change(self.rmdir(alloc, base, path)?)),
+            Call::Look { base, path, follow } => self.look(alloc, base, path, follow),
+            Call::Readlink { base, path } => self.readlink(alloc, base, path),
+            Call::Stat { base, path } => self.stat(alloc, base, path),
+            Call::List { base, path } => self.list(alloc, base, path),
+            Call::Mkdir { base, path } => self.make(alloc, base, path, true, New::Directory),
+            Call::Create { base, path } => self.make(alloc, base, path, false, New::File),
+            Call::Link { base, old, new } => self.link(alloc, base, old, new),
+            Call::Symlink { base, text, path } => self.symlink(alloc, base, text, path),
+            Call::Unlink { base, path } => self.unlink(alloc, base, path),
+            Call::Rmdir { base, path } => self.rmdir(alloc, base, path),
             Call::Rename {
                 base,
                 old,

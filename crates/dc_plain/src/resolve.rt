@@ -140,6 +140,18 @@ fn push_parts<'a>(rest: &mut Vec<Part<'a>>, parts: Vec<Part<'a>>) -> Result<(), 
     Ok(())
 }
 
+/// Puts the parts of a link's text on the stack.
+fn push_text<'a>(
+    alloc: Global,
+    rest: &mut Vec<Part<'a>>,
+    text: PathText<'a>,
+) -> Result<(), NoMemory>
+    ensures { OnOk result (stacked rest.new.items
+        ≡ parts_of text.entry.bytes.now ++ stacked rest.old.items) }
+{
+    push_parts(rest, parts_in(alloc, text)?)
+}
+
 /// Whether a slash ends a path whose link was replaced by a text.
 fn slash_after(slash: bool, is_last: bool, text: PathText) -> bool
     ensures { result ≡ (slash || is_last && has_end_slash text.entry.bytes.now) }
@@ -184,7 +196,7 @@ pub(crate) fn resolve<'a, T: Told>(
                 links -= 1;
                 slash = slash_after(slash, rest.is_empty(), text);
                 place = base_of(text, at);
-                push_parts(&mut rest, parts_in(alloc, text)?)?;
+                push_text(alloc, &mut rest, text)?;
             }
         }
     }

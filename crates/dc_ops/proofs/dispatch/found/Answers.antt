@@ -1,16 +1,20 @@
-use Rattle.dc_ops.proofs.Alters.{settles_as}
+use Rattle.dc_ops.proofs.Alters.{settles_some}
 use Rattle.dc_ops.proofs.dispatch.found.Goals as goal
-use Rattle.dc_ops.proofs.dispatch.found.Goals.{in-Mkdir+in_ok-plan_make-in-Mkdir, in-Create+in_ok-plan_make-in-Create, in-Symlink+in_ok-plan_symlink-in-Symlink, in-Link+in_ok-plan_link-in-Link, in-Unlink+in_ok-plan_unlink-in-Unlink, in-Rmdir+in_ok-plan_rmdir-in-Rmdir, in-Rename+in_ok-plan_rename-in-Rename}
 
-pub returns-clause-settled : goal.returns-clause-settled
-returns-clause-settled g c =
-    let so = settles_as c.args.limit (g.S.Store.tree c.args.store.now) c.args.call.now in
-    elim c.match-call.branch [
-      | in-Mkdir+in_ok-plan_make-in-Mkdir w ↦ so _ _ _ w.result-is w.in-Mkdir.is w.in_ok-plan_make-in-Mkdir.ensures
-      | in-Create+in_ok-plan_make-in-Create w ↦ so _ _ _ w.result-is w.in-Create.is w.in_ok-plan_make-in-Create.ensures
-      | in-Symlink+in_ok-plan_symlink-in-Symlink w ↦ so _ _ _ w.result-is w.in-Symlink.is w.in_ok-plan_symlink-in-Symlink.ensures
-      | in-Link+in_ok-plan_link-in-Link w ↦ so _ _ _ w.result-is w.in-Link.is w.in_ok-plan_link-in-Link.ensures
-      | in-Unlink+in_ok-plan_unlink-in-Unlink w ↦ so _ _ _ w.result-is w.in-Unlink.is w.in_ok-plan_unlink-in-Unlink.ensures.settled
-      | in-Rmdir+in_ok-plan_rmdir-in-Rmdir w ↦ so _ _ _ w.result-is w.in-Rmdir.is w.in_ok-plan_rmdir-in-Rmdir.ensures.settled
-      | in-Rename+in_ok-plan_rename-in-Rename w ↦ so _ _ _ w.result-is w.in-Rename.is w.in_ok-plan_rename-in-Rename.ensures.settled
-    ]
+pub returns-in-Mkdir-clause-settled : goal.returns-in-Mkdir-clause-settled
+returns-in-Mkdir-clause-settled g c = settles_some c.args.limit (g.S.Store.tree c.args.store.now) _ _ _ _ c.in-Mkdir.is c.some.ensures.ok c.some.ensures.err c.plan_make.ensures
+
+pub returns-in-Create-clause-settled : goal.returns-in-Create-clause-settled
+returns-in-Create-clause-settled g c = settles_some c.args.limit (g.S.Store.tree c.args.store.now) _ _ _ _ c.in-Create.is c.some-in-Create.ensures.ok c.some-in-Create.ensures.err c.plan_make-in-Create.ensures
+
+pub returns-in-Symlink-clause-settled : goal.returns-in-Symlink-clause-settled
+returns-in-Symlink-clause-settled g c = settles_some c.args.limit (g.S.Store.tree c.args.store.now) _ _ _ _ c.in-Symlink.is c.some-in-Symlink.ensures.ok c.some-in-Symlink.ensures.err c.plan_symlink.ensures
+
+pub returns-in-Link-clause-settled : goal.returns-in-Link-clause-settled
+returns-in-Link-clause-settled g c = settles_some c.args.limit (g.S.Store.tree c.args.store.now) _ _ _ _ c.in-Link.is c.some-in-Link.ensures.ok c.some-in-Link.ensures.err c.plan_link.ensures
+
+pub returns-in-Unlink-clause-settled : goal.returns-in-Unlink-clause-settled
+returns-in-Unlink-clause-settled g c = settles_some c.args.limit (g.S.Store.tree c.args.store.now) _ _ _ _ c.in-Unlink.is c.some-in-Unlink.ensures.ok c.some-in-Unlink.ensures.err c.plan_unlink.ensures.settled
+
+pub returns-in-Rmdir-clause-settled : goal.returns-in-Rmdir-clause-settled
+returns-in-Rmdir-clause-settled g c = settles_some c.args.limit (g.S.Store.tree c.args.store.now) _ _ _ _ c.in-Rmdir.is c.some-in-Rmdir.ensures.ok c.some-in-Rmdir.ensures.err c.plan_rmdir.ensures.settled

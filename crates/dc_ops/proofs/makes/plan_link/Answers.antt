@@ -1,20 +1,13 @@
-use Rattle.std.proofs.Common.{arith, rules, refl}
-use Rattle.std.proofs.lemmas.Grind.{common_steps}
+use Rattle.std.proofs.Common.{rules}
 use Rattle.dc_names.specs.Paths.{path_in}
 use Rattle.dc_plain.specs.Spots.{where_shown}
-use Rattle.dc_ops.proofs.Rooms.{may_link}
+use Rattle.dc_ops.proofs.Renamed.{settles_by}
 use Rattle.dc_ops.proofs.makes.plan_link.Goals as goal
+
+pub link_at-requires : goal.link_at-requires
+link_at-requires g c well =
+    c.paths_lead_to_the_living.ensures.places (g.S.Store.tree c.args.store.now) c.args.base (path_in c.in_ok-new_path.new_path.bytes.now) (where_shown c.in_ok-to.to) well c.in_ok-to.ensures
 
 pub returns : goal.returns
 returns g c =
-    let t = g.S.Store.tree c.args.store.now in record {
-      does = first_of (search rules, grind (arith, common_steps));
-      can = (
-        c.paths_lead_to_the_living.ensures.places t c.args.base (path_in c.in_ok-new_path.new_path.bytes.now) (where_shown c.in_ok-to.to) c.present.ensures.well c.in_ok-to.ensures,
-        c.is_there.ensures.free c.in_ok-refuse-3.ensures.ok,
-        may_link t c.in_ok-inode.inode c.in_ok-inode.ensures.lives c.is_directory.ensures c.in_ok-refuse.ensures.ok c.has_most_names.ensures c.in_ok-refuse-5.ensures.ok,
-        refl,
-      );
-      keys = first_of (search rules, grind (arith, common_steps));
-      loses = tt;
-    }
+    settles_by (g.S.Store.tree c.args.store.now) _ _ _ _ c.link_at.result c.link_at.ensures (search rules) (search rules)

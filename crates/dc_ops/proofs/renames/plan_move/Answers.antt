@@ -1,15 +1,14 @@
-use Rattle.std.proofs.Common.{◌∙◌, ap, arith, rules, sym}
-use Rattle.std.proofs.lemmas.Grind.{common_steps}
+use Rattle.std.proofs.Common.{◌∙◌, ap, rules, sym}
 use Rattle.dc_plain.specs.TouchedKeys.{keys_gone, with_number}
 use Rattle.dc_ops.proofs.Renamed.{may_stand, renamed_keys}
 use Rattle.dc_ops.proofs.renames.plan_move.Goals as goal
 
 pub returns-then-is_one : goal.returns-then-is_one
-returns-then-is_one g c = first_of (search rules, grind (arith, common_steps))
+returns-then-is_one g c = search rules
 
 pub returns : goal.returns
 returns g c = let t = g.S.Store.tree c.args.store.now in record {
-  does = first_of (search rules, grind (arith, common_steps));
+  does = search rules;
   can = (
     c.requires.source,
     may_stand t c.args.to.dir c.args.to.name.bytes.now c.args.found.0 c.entry-there.result c.requires.held c.requires.lives c.is_inside.ensures c.in_ok-refuse-2.ensures.ok

@@ -1,22 +1,17 @@
-use Rattle.std.proofs.Common.{arith, rules}
-use Rattle.std.proofs.lemmas.Grind.{common_steps}
+use Rattle.std.proofs.Common.{rules}
 use Rattle.dc_names.specs.Paths.{path_in}
 use Rattle.dc_plain.specs.Spots.{where_shown}
 use Rattle.dc_ops.proofs.Renamed.{settles_so}
 use Rattle.dc_ops.proofs.renames.plan_rename.Goals as goal
 
-pub plan_move-requires-clause-held : goal.plan_move-requires-clause-held
-plan_move-requires-clause-held g c =
-    c.paths_lead_to_the_living.ensures.places (g.S.Store.tree c.args.store.now) c.args.base (path_in c.in_ok-new_path.new_path.bytes.now) (where_shown c.in_ok-to.to) c.present.ensures.well c.in_ok-to.ensures
+pub plan_named-requires-clause-old_held : goal.plan_named-requires-clause-old_held
+plan_named-requires-clause-old_held g c well =
+    c.paths_lead_to_the_living.ensures.places (g.S.Store.tree c.args.store.now) c.args.base (path_in c.in_ok-old_path.old_path.bytes.now) (where_shown c.in_ok-from.from) well c.in_ok-from.ensures
 
-pub plan_swap-requires-clause-new_held : goal.plan_swap-requires-clause-new_held
-plan_swap-requires-clause-new_held g c =
-    c.paths_lead_to_the_living.ensures.places (g.S.Store.tree c.args.store.now) c.args.base (path_in c.in_ok-new_path.new_path.bytes.now) (where_shown c.in_ok-to.to) c.present.ensures.well c.in_ok-to.ensures
-
-pub plan_swap-requires-clause-old_held : goal.plan_swap-requires-clause-old_held
-plan_swap-requires-clause-old_held g c =
-    c.paths_lead_to_the_living.ensures.places (g.S.Store.tree c.args.store.now) c.args.base (path_in c.in_ok-old_path.old_path.bytes.now) (where_shown c.in_ok-from.from) c.present.ensures.well c.in_ok-from.ensures
+pub plan_named-requires-clause-new_held : goal.plan_named-requires-clause-new_held
+plan_named-requires-clause-new_held g c well =
+    c.paths_lead_to_the_living.ensures.places (g.S.Store.tree c.args.store.now) c.args.base (path_in c.in_ok-new_path.new_path.bytes.now) (where_shown c.in_ok-to.to) well c.in_ok-to.ensures
 
 pub returns-clause-settled : goal.returns-clause-settled
 returns-clause-settled g c =
-    settles_so (g.S.Store.tree c.args.store.now) _ _ _ _ c.plan_move.result c.plan_move.ensures (first_of (search rules, grind (arith, common_steps))) (first_of (search rules, grind (arith, common_steps)))
+    settles_so (g.S.Store.tree c.args.store.now) _ _ _ _ c.plan_named.result c.plan_named.ensures.settled (search rules) (search rules)

@@ -1,12 +1,11 @@
-use Rattle.std.proofs.Common.{◌∙◌, ◌&&◌, length, ap, arith, rules, sym}
-use Rattle.std.proofs.lemmas.Grind.{common_steps}
+use Rattle.std.proofs.Common.{◌∙◌, ◌&&◌, length, ap, rules, sym}
 use Rattle.dc_plain.specs.Operations.{is_beneath}
 use Rattle.dc_ops.proofs.Renamed.{live_by, swapped_keys}
 use Rattle.dc_ops.proofs.renames.plan_swap.Goals as goal
 
 pub returns-clause-settled : goal.returns-clause-settled
 returns-clause-settled g c = let t = g.S.Store.tree c.args.store.now in record {
-  does = first_of (search rules, grind (arith, common_steps));
+  does = search rules;
   can = record {
     first = c.requires.source;
     second = c.in_ok-there.ensures.target;
