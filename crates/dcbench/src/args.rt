@@ -2,7 +2,9 @@
 
 use crate::fault::Fault;
 use crate::work::{ChangeTask, LookTask, Miss, RaceTask, Shape, Sort, Style, Task, Work};
-use clap::{Arg, ArgAction, ArgMatches, Command, Error, value_parser};
+use clap::builder::ValueParser;
+use clap::{Arg, ArgAction, ArgMatches, Command, Error};
+use dc_names::MOST_TABLE_BUCKETS;
 use std::alloc::{AllocError, Global};
 use std::time::Duration;
 
@@ -10,23 +12,19 @@ const ABOUT: &str =
     "Times a cache of directory entries by its public calls, and races look-ups against changes.
 Without a command it prints a table of everything, in under a minute.";
 
-static WORKS: [&str; 7] = ["read", "texts", "absent", "mixed", "churn", "miss", "links"];
+const WORKS: [&str; 7] = ["read", "texts", "absent", "mixed", "churn", "miss", "links"];
 
 static RACES: [&str; 2] = ["rename", "exchange"];
 
-/// What an option is given, and its default.
+/// What an option is given.
 #[derive(Clone, Copy)]
 enum Given {
     /// Nothing: it is a flag.
     Nothing,
     /// The path of a file.
     File,
-    /// A number from 1 to this.
-    Number(i64, &'static str),
-    /// A number of seconds.
-    Seconds(&'static str),
-    /// A kind of work.
-    Work(&'static str),
+    /// A value: what stands for it in the help, its default, and what it has to be.
+    Value(&'static str, &'static str, ValueParser<'static>),
     /// A race, which stands without a name before it.
     Race,
 }
@@ -35,19 +33,29 @@ enum Given {
 #[derive(Clone, Copy)]
 struct Choice(&'static str, Given, &'static str);
 
-const JSON: &str = "A line of JSON for each row";
+const THREADS: Choice = Choice(
+    "threads",
+    Given::Value("N", "1", ValueParser::Unsigned(1, 64)),
+    "Threads, from 1 to 64",
+);
 
-const TIME: &str = "How long each row of the table is timed, as 0.5";
+const SECONDS: Choice = Choice(
+    "seconds",
+    Given::Value("S", "0.3", ValueParser::Float),
+    "How long each row of the table is timed, as 0.5",
+);
+
+const JSON: Choice = Choice("json", Given::Nothing, "A line of JSON for each row");
 
 const LOOK: [Choice; 5] = [
-    Choice("threads", Given::Number(64, "1"), "Threads, from 1 to 64"),
+    THREADS,
     Choice(
         "tree",
         Given::File,
         "Looks up the paths of this tree, as the command tree writes one",
     ),
-    Choice("seconds", Given::Seconds("0.3"), TIME),
-    Choice("json", Given::Nothing, JSON),
+    SECONDS,
+    JSON,
     Choice(
         "one-hold",
         Given::Nothing,
@@ -59,45 +67,45 @@ const LOOK: [Choice; 5] = [
 const SHAPE: [Choice; 4] = [
     Choice(
         "work",
-        Given::Work("read"),
+        Given::Value("WORK", "read", ValueParser::Names(&WORKS)),
         "What is looked up, and what is changed in between",
     ),
     Choice(
         "depth",
-        Given::Number(64, "4"),
+        Given::Value("N", "4", ValueParser::Unsigned(1, 64)),
         "Names of a path, from 1 to 64",
     ),
     Choice(
         "hot",
-        Given::Number(100_000, "1000"),
+        Given::Value("N", "1000", ValueParser::Unsigned(1, 100_000)),
         "Files that are asked",
     ),
     Choice(
         "buckets",
-        Given::Number(1_048_576, "1024"),
+        Given::Value("N", "1024", ValueParser::Unsigned(1, MOST_TABLE_BUCKETS)),
         "Buckets of four rows: a power of two up to 1048576",
     ),
 ];
 
-const CHANGE: [Choice; 3] = [
-    Choice("threads", Given::Number(64, "1"), "Threads, from 1 to 64"),
-    Choice("seconds", Given::Seconds("0.3"), TIME),
-    Choice("json", Given::Nothing, JSON),
-];
+const CHANGE: [Choice; 3] = [THREADS, SECONDS, JSON];
 
 const RACE: [Choice; 6] = [
     Choice("RACE", Given::Race, "What is renamed above the path"),
     Choice(
         "depth",
-        Given::Number(64, "4"),
+        Given::Value("N", "4", ValueParser::Unsigned(1, 64)),
         "Directories between what is renamed and the file, from 1 to 64",
     ),
     Choice(
         "looks",
-        Given::Number(1_000_000_000, "1000000"),
+        Given::Value("N", "1000000", ValueParser::Unsigned(1, 1_000_000_000)),
         "Look-ups of all threads",
     ),
-    Choice("threads", Given::Number(64, "2"), "Threads, from 1 to 64"),
+    Choice(
+        "threads",
+        Given::Value("N", "2", ValueParser::Unsigned(1, 64)),
+        "Threads, from 1 to 64",
+    ),
     Choice("json", Given::Nothing, "One line of JSON"),
     Choice(
         "wrong-only",
@@ -138,8 +146,10 @@ static DEEDS: [Deed; 4] = [
 ];
 
 /// An option with a value, if it isn't given one.
-fn valued<'a>(arg: Arg<'a>, id: &'a str, value: &'a str, default: &'a str) -> Arg<'a> {
-    arg.long(id).value_name(value).default_value(default)
+fn valued<'a>(arg: Arg<'a>, name: &'a str, default: &'a str, parser: ValueParser<'a>) -> Arg<'a> {
+    arg.value_name(name)
+        .default_value(default)
+        .value_parser(parser)
 }
 
 /// An option of a command.
@@ -149,11 +159,7 @@ fn arg_of<'a>(alloc: Global, choice: &Choice) -> Arg<'a> {
     match given {
         Given::Nothing => arg.long(id).action(ArgAction::SetTrue),
         Given::File => arg.long(id).value_name("FILE"),
-        Given::Number(most, default) => {
-            valued(arg, id, "N", default).value_parser(value_parser!(u64).range(1..=most))
-        }
-        Given::Seconds(default) => valued(arg, id, "S", default).value_parser(value_parser!(f64)),
-        Given::Work(default) => valued(arg, id, "WORK", default).value_parser(WORKS.as_slice()),
+        Given::Value(name, default, parser) => valued(arg.long(id), name, default, parser),
         Given::Race => arg.required(true).value_parser(RACES.as_slice()),
     }
 }
@@ -187,12 +193,17 @@ fn commands<'a>(alloc: Global) -> Result<Vec<Command<'a>>, AllocError> {
     Ok(commands)
 }
 
-fn matches_in<'a>(alloc: Global, words: &'a [String]) -> Result<ArgMatches<'a>, Error> {
+/// The program with its commands.
+fn program<'a>(alloc: Global) -> Result<Command<'a>, AllocError> {
+    let commands = commands(alloc)?;
     Command::new(alloc, "dcbench")
         .about(ABOUT)
         .no_binary_name(true)
-        .subcommands(commands(alloc)?)?
-        .try_get_matches_from(words)
+        .subcommands(commands)
+}
+
+fn matches_in<'a>(alloc: Global, words: &'a [String]) -> Result<ArgMatches<'a>, Error> {
+    program(alloc)?.try_get_matches_from(words)
 }
 
 /// The number of an option, which has a default.

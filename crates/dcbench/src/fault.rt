@@ -2,6 +2,7 @@
 
 use clap::error::ErrorKind;
 use dc_cache::{ChangeFault, MakeFault};
+use dc_names::MOST_TABLE_BUCKETS;
 use std::alloc::{AllocError, AllocFailed};
 use std::io;
 
@@ -12,7 +13,7 @@ pub enum Fault {
     Words(clap::Error),
     /// A word is no text.
     NoText,
-    /// The buckets are no power of two from 1 to 1,048,576.
+    /// The buckets are no power of two from 1 to `MOST_TABLE_BUCKETS`.
     BadSize,
     /// The file of the tree can't be read.
     Unread,
@@ -44,11 +45,11 @@ impl Fault {
         }
     }
 
-    /// What is told of the fault, but for the line that is bad.
+    /// What is told of the fault, but for a limit and for the line that is bad.
     fn text(&self) -> &'static str {
         match self {
             Fault::NoText => "an argument is no text",
-            Fault::BadSize => "--buckets: a power of two from 1 to 1048576",
+            Fault::BadSize => "bad size",
             Fault::Words(_) | Fault::NoMemory => "no memory",
             Fault::Unread => "the tree can't be read",
             Fault::NoClock => "the clock can't be read",
@@ -63,6 +64,9 @@ impl Fault {
         let status = self.status();
         let _ = match self {
             Fault::Words(error) if status != 3 => error.print(rt),
+            Fault::BadSize => {
+                eprintln!(rt; "dcbench: --buckets: a power of two from 1 to {MOST_TABLE_BUCKETS}")
+            }
             Fault::BadLine(line) => eprintln!(rt; "dcbench: bad line {line} of the tree"),
             _ => eprintln!(rt; "dcbench: {}", self.text()),
         };

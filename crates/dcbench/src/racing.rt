@@ -48,6 +48,29 @@ fn run_race<R: Threads + Wait + Clock + Sync>(
     Ok(spread(rt, cache, &job, pass, 0, task.threads))
 }
 
+/// Times a race on a course whose tree is made.
+fn timed_race<R: Threads + Wait + Clock + Sync>(
+    rt: &R,
+    alloc: Global,
+    task: &RaceTask,
+    course: &Course,
+    cache: &Dcache,
+    pass: Pass,
+) -> Result<RaceRow, Fault>
+    requires sync { IsSync R.row }
+    requires pass { Fits cache.now pass }
+{
+    let begin = Instant::now(rt).map_err(|_| Fault::NoClock)?;
+    let tally = run_race(rt, alloc, task, course, cache, pass)?;
+    let took = begin.elapsed(rt).map_err(|_| Fault::NoClock)?;
+    Ok(RaceRow {
+        sort: task.sort,
+        depth: task.depth,
+        milliseconds: nanoseconds(took) / 1_000_000,
+        tally,
+    })
+}
+
 /// A race on a course, of whose tree these are the lines.
 fn row_on<R: Threads + Wait + Clock + Sync>(
     rt: &R,
@@ -60,15 +83,7 @@ fn row_on<R: Threads + Wait + Clock + Sync>(
 {
     let (cache, mut pass) = Dcache::new(alloc, 256, MOST_INODES)?;
     plant(rt, alloc, &cache, &mut pass, lines)?;
-    let begin = Instant::now(rt).map_err(|_| Fault::NoClock)?;
-    let tally = run_race(rt, alloc, task, course, &cache, pass)?;
-    let took = begin.elapsed(rt).map_err(|_| Fault::NoClock)?;
-    Ok(RaceRow {
-        sort: task.sort,
-        depth: task.depth,
-        milliseconds: nanoseconds(took) / 1_000_000,
-        tally,
-    })
+    timed_race(rt, alloc, task, course, &cache, pass)
 }
 
 /// One race.

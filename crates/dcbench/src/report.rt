@@ -97,17 +97,33 @@ impl fmt::Display for Nanoseconds {
     }
 }
 
+/// Writes numbers, each behind a space and at the right of so many places.
+fn write_cells<W: fmt::Write>(f: &mut fmt::Formatter<W>, cells: &[(usize, u64)]) -> fmt::Result {
+    for cell in cells {
+        let (width, number) = *cell;
+        write!(f, " {number:>width$}")?;
+    }
+    Ok(())
+}
+
 /// Writes the times of a call.
 fn write_times<W: fmt::Write>(f: &mut fmt::Formatter<W>, tally: &Tally) -> fmt::Result {
     let (median, most) = (tally.quantile(50), tally.quantile(99));
     write!(f, "   {} {}", Nanoseconds(median), Nanoseconds(most))?;
-    write!(f, " {:>13}", tally.rate)
+    write_cells(f, &[(13, tally.rate)])
 }
 
 /// Writes how look-ups were answered, and how often a row was missing.
 fn write_ways<W: fmt::Write>(f: &mut fmt::Formatter<W>, tally: &Tally) -> fmt::Result {
-    write!(f, " {:>13} {:>13}", tally.by_fast(), tally.by_rows)?;
-    write!(f, " {:>7} {:>11}", tally.by_lock, tally.causes.gone())
+    write_cells(
+        f,
+        &[
+            (13, tally.by_fast()),
+            (13, tally.by_rows),
+            (7, tally.by_lock),
+            (11, tally.causes.gone()),
+        ],
+    )
 }
 
 /// A row of a run of look-ups.
@@ -173,16 +189,11 @@ work   names threads   median ns      99th     calls a s  without lock   filled 
 
 impl fmt::Display for LookRow {
     fn fmt<W: fmt::Write>(&self, f: &mut fmt::Formatter<W>) -> fmt::Result {
-        write!(
-            f,
-            "{:<6} {:>5} {:>7}",
-            self.shape.work.name(),
-            self.shape.depth,
-            self.threads
-        )?;
+        write!(f, "{:<6}", self.shape.work.name())?;
+        write_cells(f, &[(5, self.shape.depth), (7, self.threads)])?;
         write_times(f, &self.tally)?;
         write_ways(f, &self.tally)?;
-        write!(f, " {:>11} {:>12}", self.evicted, self.filled)
+        write_cells(f, &[(11, self.evicted), (12, self.filled)])
     }
 }
 
@@ -261,15 +272,18 @@ pub const RACE_HEAD: &str =
 impl fmt::Display for RaceRow {
     fn fmt<W: fmt::Write>(&self, f: &mut fmt::Formatter<W>) -> fmt::Result {
         let tally = &self.tally;
-        write!(
+        write!(f, "{:<8}", self.sort.name())?;
+        write_cells(
             f,
-            "{:<8} {:>7} {:>12}",
-            self.sort.name(),
-            self.depth,
-            tally.looks
-        )?;
-        write!(f, " {:>7} {:>13}", tally.wrong, tally.by_fast())?;
-        write!(f, " {:>11} {:>7}", tally.changes, self.milliseconds)
+            &[
+                (7, self.depth),
+                (12, tally.looks),
+                (7, tally.wrong),
+                (13, tally.by_fast()),
+                (11, tally.changes),
+                (7, self.milliseconds),
+            ],
+        )
     }
 }
 

@@ -24,15 +24,22 @@ pub struct Record<'a> {
     output: &'a [u8],
 }
 
+/// Whether a line is a reply of a command's session.
+fn is_reply_to(alloc: Global, one: &Served, line: &[u8]) -> bool {
+    match read_reply(alloc, line) {
+        Ok((session, _)) => session == one.command.session,
+        Err(LineFault::Bad | LineFault::NoMemory) => false,
+    }
+}
+
 /// The first line of the replies that is no reply to its command: one of another session, one behind
 /// the last command, or the line that is missing.
 fn first_unpaired(alloc: Global, served: &[Served], output: &[u8]) -> u64 {
     let replies = output.split_inclusive(|byte| *byte == b'\n');
     let mut line = 1u64;
     for (one, reply) in served.iter().zip(replies) {
-        match read_reply(alloc, reply) {
-            Ok((session, _)) if session == one.command.session => {}
-            Ok(_) | Err(LineFault::Bad | LineFault::NoMemory) => break,
+        if !is_reply_to(alloc, one, reply) {
+            break;
         }
         line = line.saturating_add(1);
     }
@@ -70,10 +77,10 @@ fn stamps_of(
     lines: &[Line],
 ) -> Result<(Vec<Stamp>, Vec<u64>), Fault> {
     let served = serving_order(alloc, lines)?;
-    let stamps = record_of(alloc, input, output).map_err(|fault| record_fault(
-        alloc, lines, &served, output, fault,
-    ))?;
-    Ok((stamps, phases_of(alloc, &served)?))
+    match record_of(alloc, input, output) {
+        Ok(stamps) => Ok((stamps, phases_of(alloc, &served)?)),
+        Err(fault) => Err(record_fault(alloc, lines, &served, output, fault)),
+    }
 }
 
 /// The command at a place, or no bytes.
