@@ -7,7 +7,7 @@ ghost use Rattle.dc_index.specs.Slots.{slot_of, bucket_in};
 ghost use Rattle.dc_index.specs.Slots.Slot.{Free, Retired, Holds};
 
 use crate::shrink::new_again;
-use dc_index::{Index, bucket_at, bucket_of};
+use dc_index::{HashedKey, Index, bucket_at};
 use dc_names::{BUCKET_ROWS, Name, NoMemory, hash};
 use dc_plain::{Key, Label};
 use std::alloc::Global;
@@ -51,15 +51,16 @@ fn rows_of(alloc: Global, buckets: u64, key: &Key<'_>) -> Result<[Option<u64>; 4
 {
     let mut index = new_index_again(alloc, buckets)?;
     let shrinker = new_again(alloc, BUCKET_ROWS * buckets)?;
-    let Some(first) = index.choose(&shrinker, key) else {
+    let hashed = HashedKey::new(*key);
+    let Some(first) = index.choose(&shrinker, &hashed) else {
         return Ok([None; 4]);
     };
     index.retire(first);
-    let (Some(row), None) = (index.choose(&shrinker, key), index.row_of(key)) else {
+    let (Some(row), None) = (index.choose(&shrinker, &hashed), index.row_of(key)) else {
         return Ok([None; 4]);
     };
     set_again(&mut index, alloc, row, key)?;
-    let found = index.row_of(key);
+    let found = index.row_of_hashed(&hashed);
     index.clear(row);
     Ok([Some(first), Some(row), found, index.row_of(key)])
 }
@@ -88,7 +89,7 @@ fn has_rows(alloc: Global, buckets: u64, name: Name<'_>) -> Result<bool, NoMemor
         number: u64::MAX,
         label: Label::Name(name),
     };
-    let bucket = bucket_of(&key, buckets);
+    let bucket = HashedKey::new(key).bucket(buckets);
     let first = bucket.saturating_mul(4);
     let next = first.saturating_add(1);
     let rows = rows_of(alloc, buckets, &key)?;

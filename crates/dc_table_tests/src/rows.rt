@@ -5,6 +5,7 @@ ghost use Rattle.dc_ops.specs.Asked.{IsChange};
 ghost use Rattle.dc_table.specs.Passes.{Fits, IsIdle};
 
 use crate::calls::{create, mkdir, rmdir, unlink};
+use dc_index::HashedKey;
 use dc_plain::{Call, Key, Label, Reply};
 use dc_rows::{Guard, change, pin, shrink, unpin_all};
 use dc_store::Store;
@@ -143,10 +144,10 @@ fn four_threads_fill_one_table(rt: HostRuntime) -> Result<(), Fail> {
 #[test]
 fn a_row_is_pinned_until_it_is_unpinned(rt: HostRuntime) -> Result<(), Fail> {
     let (shared, mut p) = Shared::new(rt.alloc(), 1, 16).expect(&rt, "memory");
-    let root = Key {
+    let root = HashedKey::new(Key {
         number: 1,
         label: Label::DotDot,
-    };
+    });
     let pinned = pin(&shared, &rt, rt.alloc(), &mut p, &root).expect(&rt, "memory");
     assert!(rt; pinned == Some(0));
     let kept = shrink(&shared, &rt, &mut p, 4);
@@ -164,10 +165,10 @@ fn a_guard_shows_the_tree(rt: HostRuntime) -> Result<(), Fail> {
         Ok(guard) => guard,
         Err(_back) => panic!(rt; "the lock is free"),
     };
-    let root = Key {
+    let root = HashedKey::new(Key {
         number: 1,
         label: Label::DotDot,
-    };
+    });
     let row = guard.fill(rt.alloc(), &root).expect(&rt, "memory");
     assert!(rt; row == Some(0));
     assert!(rt; guard.store().live() == 1 && guard.clock() == 0);

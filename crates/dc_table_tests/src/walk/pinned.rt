@@ -2,6 +2,7 @@
 
 use super::steps::{Act, Step, Want, play, play_anew};
 use super::{from_root, in_root, is_answered, is_root_at};
+use dc_index::HashedKey;
 use dc_names::Kind;
 use dc_plain::{Call, Follow, Reply, Stamped};
 use dc_rows::{pin, shrink};
@@ -124,7 +125,7 @@ fn a_walk_without_rows_takes_no_pin_back(rt: HostRuntime) -> Result<(), Fail> {
     let short = from_root(b"/a").expect(&rt, "a path");
     let found = walk_counted(&shared, &rt, rt.alloc(), &mut p, &mut room, short);
     assert!(rt; is_answered(&Some(found), &Reply::Refused(2), 0));
-    let a = in_root(b"a").expect(&rt, "a name");
+    let a = HashedKey::new(in_root(b"a").expect(&rt, "a name"));
     assert!(rt; matches!(pin(&shared, &rt, rt.alloc(), &mut p, &a), Ok(Some(0))));
     let root = from_root(b"/").expect(&rt, "a path");
     let found = walk_counted(&shared, &rt, rt.alloc(), &mut p, &mut room, root);

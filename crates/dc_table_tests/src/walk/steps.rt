@@ -5,6 +5,7 @@ ghost use Rattle.dc_walk.specs.Findings.{CanWalk};
 
 use super::{change, count, in_root, look};
 use crate::calls::{create, mkdir, rename};
+use dc_index::HashedKey;
 use dc_names::Kind;
 use dc_plain::{Call, Reply, Stamped};
 use dc_rows::{pin, shrink, unpin_all};
@@ -125,7 +126,7 @@ fn is_pinned<R: Wait>(
     ensures { CanWalk shared.now pass.new }
 {
     match in_root(name) {
-        Some(key) => match pin(shared, rt, alloc, pass, &key) {
+        Some(key) => match pin(shared, rt, alloc, pass, &HashedKey::new(key)) {
             Ok(pinned) => pinned == Some(row),
             Err(_) => false,
         },
