@@ -199,7 +199,13 @@ fn is_tried(alloc: Global, cache: &Dcache, pass: &mut Pass, tried: &Tried<'_>) -
 }
 
 /// Whether a step comes to what it should.
-fn is_so<R: Wait>(rt: &R, alloc: Global, cache: &Dcache, pass: &mut Pass, step: &Step<'_>) -> bool
+pub fn is_so<R: Wait>(
+    rt: &R,
+    alloc: Global,
+    cache: &Dcache,
+    pass: &mut Pass,
+    step: &Step<'_>,
+) -> bool
     requires { Fits cache.now pass.old }
     ensures { Fits cache.now pass.new }
 {
