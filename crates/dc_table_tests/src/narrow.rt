@@ -5,7 +5,6 @@ ghost use Rattle.dc_names.specs.declared.limits.TheConstants.{NAME_MAX};
 
 use dc_names::NAME_MAX;
 use dc_row::{Row, RowText, encode, told_words, widened};
-use std::test::Fail;
 
 /// How many words tell the row of a link whose text has so many bytes, and whether with zeros past them
 /// they are the row.
@@ -20,10 +19,7 @@ fn told(bytes: usize) -> Option<(usize, bool)>
 
 /// Four words stand before a row's text, and eight of its bytes in each of the others.
 #[test]
-fn first_words_tell_a_row(rt: HostRuntime) -> Result<(), Fail> {
-    assert_eq!(rt; told(1), Some((5, true)));
-    assert_eq!(rt; told(8), Some((5, true)));
-    assert_eq!(rt; told(9), Some((6, true)));
-    assert_eq!(rt; told(NAME_MAX), Some((36, true)));
-    Ok(())
+fn first_words_tell_a_row(rt: HostRuntime) {
+    assert!(rt; told(1) == Some((5, true)) && told(8) == Some((5, true)));
+    assert!(rt; told(9) == Some((6, true)) && told(NAME_MAX) == Some((36, true)));
 }

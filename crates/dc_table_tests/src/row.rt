@@ -124,13 +124,18 @@ static SOUGHT: [(usize, u64, &[u8], Option<Option<(u64, Kind)>>); 11] = [
     (4, 0, b"..", None),
 ];
 
+/// Whether the words of an example say this of a key.
+fn is_sought(at: usize, dir: u64, name: &[u8], want: Option<Option<(u64, Kind)>>) -> bool {
+    match EXAMPLES.get(at) {
+        Some(first) => sought(&wide(*first), dir, name) == want,
+        None => false,
+    }
+}
+
 #[test]
 fn finds_entries_by_their_words(rt: HostRuntime) {
     for (at, dir, name, want) in SOUGHT.iter() {
-        let found = EXAMPLES
-            .get(*at)
-            .map(|first| sought(&wide(*first), *dir, name));
-        assert!(rt; found == Some(*want), "{at} {name:?}");
+        assert!(rt; is_sought(*at, *dir, name, *want), "{at} {name:?}");
     }
     assert!(rt; sought(cut(&wide(EXAMPLES[0])), 1, b"usr").is_none());
 }
@@ -150,10 +155,17 @@ fn finds_texts_by_their_words(rt: HostRuntime) {
     for (at, number, want) in TEXTS.iter() {
         assert!(rt; is_text_of(*at, *number) == Some(*want), "{at} {number}");
     }
-    let (name, text) = (wide(EXAMPLES[0]), wide(EXAMPLES[3]));
-    assert!(rt; text_in(&name) == RowText::of(b"usr"));
-    assert!(rt; text_in(cut(&name)).is_none() && text_sought(cut(&text)).is_none());
-    assert!(rt; text_of(cut(&text)).is_none());
+    assert!(rt; is_usr(&wide(EXAMPLES[0])) && is_nothing_cut(&wide(EXAMPLES[3])));
+}
+
+/// Whether these words tell a name, and without the last nothing.
+fn is_usr(words: &[u64]) -> bool {
+    text_in(words) == RowText::of(b"usr") && text_in(cut(words)).is_none()
+}
+
+/// Whether these words tell no text without the last.
+fn is_nothing_cut(words: &[u64]) -> bool {
+    text_sought(cut(words)).is_none() && text_of(cut(words)).is_none()
 }
 
 /// The text of link 4, if the words spell it.
@@ -203,6 +215,17 @@ fn reads_texts_from_their_words(rt: HostRuntime) {
     }
 }
 
+/// Whether words tell the longest text.
+fn is_longest(words: &[u64; ROW_WORDS]) -> bool {
+    let text = text_of(words);
+    text == RowText::of(&[b'a'; ROW_TEXT]) && text_in(words) == text
+}
+
+/// Whether words tell no text and no row.
+fn is_no_row(words: &[u64; ROW_WORDS]) -> bool {
+    text_of(words).is_none() && text_in(words).is_none() && decode(words).is_none()
+}
+
 /// The longest text that a row tells, and one with a byte more, for which its words have room.
 #[test]
 fn tells_no_longer_text_than_a_name(rt: HostRuntime) {
@@ -210,13 +233,10 @@ fn tells_no_longer_text_than_a_name(rt: HostRuntime) {
     words[1] = 2 + 256 * ROW_TEXT as u64;
     words[3] = 0;
     words[ROW_WORDS - 1] >>= 8;
-    let text = text_of(&words);
-    assert!(rt; text == RowText::of(&[b'a'; ROW_TEXT]) && text_in(&words) == text);
-    assert!(rt; is_nothing_or_spelled(&words) && decode(&words).is_some());
+    assert!(rt; is_longest(&words) && is_nothing_or_spelled(&words) && decode(&words).is_some());
     words[ROW_WORDS - 1] = 0x6161616161616161;
     words[1] = 2 + 256 * (ROW_TEXT as u64 + 1);
-    assert!(rt; text_of(&words).is_none() && text_in(&words).is_none());
-    assert!(rt; decode(&words).is_none());
+    assert!(rt; is_no_row(&words));
 }
 
 #[test]
@@ -260,9 +280,12 @@ fn refuses_what_has_no_spelling(rt: HostRuntime) {
     for (number, text) in NO_LINKS.iter() {
         assert!(rt; is_refused(linked(*number, text)), "{text:?}");
     }
-    let up = Row::Entry(2, RowLabel::DotDot, Some((1, Kind::File)));
-    assert!(rt; is_refused(Some(up)));
-    assert!(rt; RowText::of(&[b'a'; ROW_TEXT + 1]).is_none());
+    assert!(rt; is_file_above_refused() && RowText::of(&[b'a'; ROW_TEXT + 1]).is_none());
+}
+
+/// Whether a dot-dot that leads to a file has no spelling.
+fn is_file_above_refused() -> bool {
+    is_refused(Some(Row::Entry(2, RowLabel::DotDot, Some((1, Kind::File)))))
 }
 
 #[test]

@@ -7,7 +7,7 @@ ghost use Rattle.dc_shrink.specs.Uses.{KeepsUse, SetsUse, UsesNone};
 
 use dc_names::NoMemory;
 use dc_shrink::{PinFault, Shrinker};
-use std::alloc::Global;
+use std::alloc::{AllocError, Global};
 use std::test::*;
 
 // The calls that take memory are made once more where it was refused, if nothing changed by that.
@@ -80,43 +80,57 @@ fn unpin_again(rows: &mut Shrinker, row: u64) -> Result<(), NoMemory>
     }
 }
 
-#[test]
-fn a_chosen_row_is_listed_anew(rt: HostRuntime) -> Result<(), Fail> {
-    let mut rows = new_again(rt.alloc(), 4)?;
+/// Whether a row that is listed, and one that is pinned, is listed as the last once it is chosen.
+fn lists_anew(alloc: Global) -> Result<bool, PinFault> {
+    let mut rows = new_again(alloc, 4)?;
     add_again(&mut rows, 0)?;
     add_again(&mut rows, 1)?;
     // A row that is listed takes no memory.
     rows.renew(0)?;
-    assert_eq!(rt; rows.victim(), Some(1));
+    let renewed = rows.victim() == Some(1);
     pin_again(&mut rows, 1)?;
     if rows.renew(1).is_err() {
         rows.renew(1)?;
     }
-    assert_eq!(rt; rows.pins(1), 0);
-    assert_eq!(rt; rows.victim(), Some(0));
-    Ok(())
+    Ok(renewed && rows.pins(1) == 0 && rows.victim() == Some(0))
 }
 
 #[test]
-fn least_recently_used_goes_first(rt: HostRuntime) -> Result<(), Fail> {
-    let mut rows = new_again(rt.alloc(), 4)?;
-    assert_eq!(rt; rows.victim(), None);
+fn a_chosen_row_is_listed_anew(rt: HostRuntime) -> Result<(), Fail> {
+    assert!(rt; lists_anew(rt.alloc())?);
+    Ok(())
+}
+
+/// Whether row 2 goes first, while row 1 isn't pinned.
+fn is_second_first(rows: &Shrinker) -> bool {
+    let first = rows.victim_of(0) == Some(2) && rows.victim_of(1).is_none();
+    first && rows.pins(1) == 0
+}
+
+/// Whether rows go in the order in which they were used last.
+fn goes_in_order(alloc: Global) -> Result<bool, PinFault> {
+    let mut rows = new_again(alloc, 4)?;
+    let mut right = rows.victim().is_none();
     add_again(&mut rows, 0)?;
     add_again(&mut rows, 1)?;
     add_again(&mut rows, 2)?;
     rows.touch(0);
-    assert_eq!(rt; rows.victim(), Some(1));
+    right &= rows.victim() == Some(1);
     pin_again(&mut rows, 1)?;
-    assert_eq!(rt; rows.pins(1), 1);
-    assert_eq!(rt; rows.victim(), Some(2));
+    right &= rows.pins(1) == 1;
+    right &= rows.victim() == Some(2);
     unpin_again(&mut rows, 1)?;
-    assert_eq!(rt; rows.pins(1), 0);
-    assert_eq!(rt; rows.victim_of(0), Some(2));
-    assert_eq!(rt; rows.victim_of(1), None);
+    right &= is_second_first(&rows);
     rows.remove(2);
-    assert_eq!(rt; rows.victim(), Some(0));
+    right &= rows.victim() == Some(0);
     rows.remove(0);
-    assert_eq!(rt; rows.victim(), Some(1));
+    right &= rows.victim() == Some(1);
+    Ok(right)
+}
+
+#[test]
+fn least_recently_used_goes_first(rt: HostRuntime) -> Result<(), Fail> {
+    assert!(rt; goes_in_order(rt.alloc())?);
     Ok(())
 }
 
@@ -141,16 +155,15 @@ fn unpinned_rows_are_listed(rt: HostRuntime) -> Result<(), Fail> {
     Ok(())
 }
 
+/// Whether a fault has this text.
+fn is_told(alloc: Global, fault: PinFault, text: &str) -> Result<bool, AllocError> {
+    let told = format!(in alloc; "{fault}")?;
+    Ok(told.as_str() == text)
+}
+
 #[test]
 fn faults_have_texts(rt: HostRuntime) -> Result<(), Fail> {
-    let alloc = rt.alloc();
-    assert_eq!(rt;
-        format!(in alloc; "{}", PinFault::NoMemory)?.as_str(),
-        "no memory"
-    );
-    assert_eq!(rt;
-        format!(in alloc; "{}", PinFault::Most)?.as_str(),
-        "too many pins"
-    );
+    assert!(rt; is_told(rt.alloc(), PinFault::NoMemory, "no memory")?);
+    assert!(rt; is_told(rt.alloc(), PinFault::Most, "too many pins")?);
     Ok(())
 }

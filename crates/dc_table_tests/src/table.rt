@@ -2,24 +2,34 @@
 
 mod lock;
 
+ghost use Rattle.dc_table.specs.Passes.{Fits, IsIdle};
+
 use crate::calls::look;
 use dc_store::Store;
-use dc_table::{MakeFault, Shared};
-use std::test::Fail;
+use dc_table::{MakeFault, Pass, Shared};
+use std::alloc::Global;
 
 /// Buckets and inodes of which no table is made.
 static BAD_SIZES: [(u64, u64); 5] = [(0, 16), (3, 16), (2048, 16), (1, 0), (1, 1_048_577)];
 
 static GOOD_SIZES: [(u64, u64); 2] = [(1, 1), (1024, 1_048_576)];
 
+/// Whether a table is made of so many buckets and inodes. `None` where memory is refused.
+fn is_made(alloc: Global, buckets: u64, max_inodes: u64) -> Option<bool> {
+    match Shared::new(alloc, buckets, max_inodes) {
+        Ok(_) => Some(true),
+        Err(MakeFault::BadSize) => Some(false),
+        Err(_) => None,
+    }
+}
+
 #[test]
 fn a_table_has_its_sizes(rt: HostRuntime) {
     for (buckets, max_inodes) in BAD_SIZES.iter() {
-        let made = Shared::new(rt.alloc(), *buckets, *max_inodes);
-        assert!(rt; matches!(made, Err(MakeFault::BadSize)));
+        assert!(rt; is_made(rt.alloc(), *buckets, *max_inodes) == Some(false));
     }
     for (buckets, max_inodes) in GOOD_SIZES.iter() {
-        assert!(rt; Shared::new(rt.alloc(), *buckets, *max_inodes).is_ok());
+        assert!(rt; is_made(rt.alloc(), *buckets, *max_inodes) == Some(true));
     }
 }
 
@@ -34,51 +44,72 @@ static BAD_BUCKETS: [(u64, u64); 5] = [
 
 static BUCKETS: [u64; 3] = [1, 2048, 65_536];
 
+/// How many buckets a table has that is made of so many.
+fn buckets_of(alloc: Global, buckets: u64, max_inodes: u64) -> Result<u64, MakeFault> {
+    let (shared, _pass) = Shared::with_buckets(alloc, buckets, max_inodes)?;
+    Ok(shared.buckets())
+}
+
 #[test]
 fn a_table_is_as_large_as_the_work(rt: HostRuntime) {
     for (buckets, max_inodes) in BAD_BUCKETS.iter() {
-        let made = Shared::with_buckets(rt.alloc(), *buckets, *max_inodes);
-        assert!(rt; matches!(made, Err(MakeFault::BadSize)));
+        let made = buckets_of(rt.alloc(), *buckets, *max_inodes);
+        assert!(rt; made == Err(MakeFault::BadSize));
     }
     for buckets in BUCKETS.iter() {
-        let made = Shared::with_buckets(rt.alloc(), *buckets, 16);
-        let (shared, _pass) = made.expect(&rt, "memory");
-        assert!(rt; shared.buckets() == *buckets);
+        assert!(rt; buckets_of(rt.alloc(), *buckets, 16) == Ok(*buckets));
+    }
+}
+
+/// Whether another pass has the lock. It is given back where it is got.
+fn is_held(shared: &Shared, pass: &mut Pass) -> bool
+    requires { Fits shared.now pass.old × IsIdle pass.old }
+{
+    match shared.try_lock(pass) {
+        Ok((holder, guarded)) => {
+            holder.give(guarded);
+            false
+        }
+        Err(_back) => true,
     }
 }
 
 #[test]
-fn the_lock_is_got_once(rt: HostRuntime) -> Result<(), Fail> {
+fn the_lock_is_got_once(rt: HostRuntime) {
     let (shared, mut p) = Shared::new(rt.alloc(), 1, 16).expect(&rt, "memory");
     let mut q = shared.split(&mut p);
     let (holder, guarded) = match shared.try_lock(&mut p) {
         Ok(got) => got,
         Err(_back) => panic!(rt; "the lock is free"),
     };
-    let is_held = match shared.try_lock(&mut q) {
-        Ok((other, guarded)) => {
-            other.give(guarded);
-            false
-        }
-        Err(_back) => true,
-    };
-    assert!(rt; is_held);
-    assert!(rt; guarded.store.live() == 1);
+    assert!(rt; is_held(&shared, &mut q) && guarded.store.live() == 1);
     holder.give(guarded);
-    Ok(())
+}
+
+/// Whether a walk by hand is before the first change, over two buckets of four rows.
+fn is_before_changes(shared: &Shared, pass: &mut Pass) -> bool
+    requires { Fits shared.now pass.old × IsIdle pass.old }
+    ensures { Fits shared.now pass.new × IsIdle pass.new }
+{
+    let reader = shared.reader();
+    let at = reader.pivot(pass, &look(b"/"), true);
+    let learnt = shared.learn(pass);
+    at == 0 && learnt == 0 && reader.buckets() == 2 && shared.buckets() == 2 && shared.rows() == 8
+}
+
+/// The clock of a table that is closed.
+fn clock_of(shared: Shared, pass: Pass) -> Option<u64>
+    requires { Fits shared pass × IsIdle pass }
+{
+    let ended = shared.close(pass)?;
+    Some(ended.clock)
 }
 
 #[test]
-fn a_walk_by_hand_is_recorded(rt: HostRuntime) -> Result<(), Fail> {
+fn a_walk_by_hand_is_recorded(rt: HostRuntime) {
     let (shared, mut p) = Shared::new(rt.alloc(), 2, 16).expect(&rt, "memory");
-    assert!(rt; shared.rows() == 8 && shared.buckets() == 2);
-    let reader = shared.reader();
-    assert!(rt; reader.buckets() == 2);
-    assert!(rt; reader.pivot(&mut p, &look(b"/"), true) == 0);
-    assert!(rt; shared.learn(&mut p) == 0);
+    assert!(rt; is_before_changes(&shared, &mut p));
     let (holder, guarded) = shared.lock(&rt, &mut p);
     holder.give(guarded);
-    let ended = shared.close(p).expect(&rt, "the lock is free");
-    assert!(rt; ended.clock == 0);
-    Ok(())
+    assert!(rt; clock_of(shared, p) == Some(0));
 }

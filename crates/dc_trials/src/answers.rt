@@ -73,7 +73,7 @@ pub enum Want<'a> {
 
 impl Want<'_> {
     /// Whether a reply is this one.
-    fn is(&self, reply: &Reply) -> bool {
+    pub fn is(&self, reply: &Reply) -> bool {
         match (self, reply) {
             (Want::Found(number, kind), Reply::Found(found, other)) => {
                 number == found && kind == other
@@ -93,8 +93,13 @@ impl Want<'_> {
 
 /// Whether these are the names that were told.
 fn are_names(names: &[&[u8]], told: &[Vec<u8>]) -> bool {
-    let told = told.iter().map(|name| name.as_slice());
-    told.eq(names.iter().copied())
+    for (at, name) in told.iter().enumerate() {
+        match names.get(at) {
+            Some(want) if name.as_slice() == *want => {}
+            _ => return false,
+        }
+    }
+    told.len() == names.len()
 }
 
 /// Whether an answer is this one.

@@ -123,6 +123,23 @@ static TWO_DIRECTORIES: [Step<'static>; 2] = [
     Step::Change(Act::Mkdir(b"/l40"), Want::Done(3), 1),
 ];
 
+/// Makes the chain in a new cache, by links that lead this way, and looks its end up in a thread. It says
+/// whether all links were made and all look-ups answered.
+fn is_followed<R: Threads + Wait + Sync>(
+    rt: &R,
+    alloc: Global,
+    cache: &Dcache,
+    pass: &mut Pass,
+    way: [u8; 5],
+) -> Result<bool, Fail>
+    requires pass { Fits cache.now pass.old }
+    requires sync { IsSync R.row }
+{
+    play(rt, alloc, cache, pass, &TWO_DIRECTORIES)?;
+    let made = is_chained(rt, alloc, cache, pass, way);
+    Ok(made && look_in_a_thread(rt, alloc, cache, pass) == Some(None))
+}
+
 /// As many texts are gone over one within another as links are followed, and each is a local of its call.
 /// They lead on in the directory of the links, or through one beside them.
 // `rt try` doesn't optimise, so under it the walks by rows run out of this stack of 128 KiB (256 are enough).
@@ -132,27 +149,27 @@ fn the_longest_chain_fits_on_the_smallest_stack(rt: HostRuntime) -> Result<(), F
     let alloc = rt.alloc();
     for way in [*b"././/", *b"d/../"] {
         let (cache, mut pass) = Dcache::new(alloc, 1024, 64).expect(&rt, "memory");
-        play(&rt, alloc, &cache, &mut pass, &TWO_DIRECTORIES)?;
-        assert!(rt; is_chained(&rt, alloc, &cache, &mut pass, way));
-        assert_eq!(rt; look_in_a_thread(&rt, alloc, &cache, &mut pass), Some(None));
+        assert!(rt; is_followed(&rt, alloc, &cache, &mut pass, way)?);
     }
     Ok(())
 }
 
+const FILE: Want<'static> = Want::Found(2, Kind::File);
+
+/// The longest name, in the root.
+const LONGEST: &[u8] = &[b'n'; NAME_MAX];
+
+static OF_THE_LONGEST: [Step<'static>; 6] = [
+    Step::Change(Act::Create(LONGEST), Want::Done(2), 0),
+    Step::Change(Act::Symlink(LONGEST, b"/t"), Want::Done(3), 1),
+    Step::Look(LONGEST, Follow::Yes, FILE, 2),
+    Step::Fast(LONGEST, FILE, 2),
+    Step::Look(b"/t", Follow::Yes, FILE, 2),
+    Step::Fast(b"/t", FILE, 2),
+];
+
 /// The longest name stands in a row, and so does a link's text as long, which is that name here.
 #[test]
 fn the_longest_name_and_text_stand_in_rows(rt: HostRuntime) -> Result<(), Fail> {
-    let mut path = [b'n'; NAME_MAX + 1];
-    path[0] = b'/';
-    let path = path.as_slice();
-    let file = Want::Found(2, Kind::File);
-    let steps = [
-        Step::Change(Act::Create(path), Want::Done(2), 0),
-        Step::Change(Act::Symlink(&path[1..], b"/t"), Want::Done(3), 1),
-        Step::Look(path, Follow::Yes, file, 2),
-        Step::Fast(path, file, 2),
-        Step::Look(b"/t", Follow::Yes, file, 2),
-        Step::Fast(b"/t", file, 2),
-    ];
-    play_anew(&rt, rt.alloc(), 256, 16, &steps)
+    play_anew(&rt, rt.alloc(), 256, 16, &OF_THE_LONGEST)
 }

@@ -8,7 +8,6 @@ use dc_hold::{
     told_fast, told_read, told_tried,
 };
 use std::alloc::Global;
-use std::test::Fail;
 
 fn found(number: u64, kind: u32, count: u64, at: u64) -> Found {
     Found {
@@ -30,19 +29,36 @@ fn has_a_row_once_it_is_found(alloc: Global, hold: &mut Hold) -> bool {
     missed && is_found && fast == tried
 }
 
-#[test]
-fn a_directory_is_made_and_found(rt: HostRuntime) -> Result<(), Fail> {
-    let mut hold = Hold::new(rt.alloc(), 16, 16).expect(&rt, "memory");
-    let made = told_change(&hold.try_change(rt.alloc(), &mkdir(b"/a")));
-    assert!(rt; made.status == Status::Done && made.found == found(2, 0, 0, 0));
-    assert!(rt; has_a_row_once_it_is_found(rt.alloc(), &mut hold));
+/// Whether a directory is made as the first change.
+fn is_made_first(alloc: Global, hold: &mut Hold) -> bool {
+    let made = told_change(&hold.try_change(alloc, &mkdir(b"/a")));
+    made.status == Status::Done && made.found == found(2, 0, 0, 0)
+}
+
+/// Whether a text that is no path is refused.
+fn is_refused(hold: &mut Hold) -> bool {
     let fast = told_fast(&hold.look_fast(ROOT, b"", Follow::Yes));
-    assert!(rt; fast.status == Status::Refused(2) && fast.status.number() == 2);
-    let stat = told_tried(&hold.try_stat(ROOT, b"/"));
-    assert!(rt; stat.found == found(1, 1, 1, 1));
-    assert!(rt; hold.learn(1) == (true, 1) && hold.learn(2) == (false, 1));
-    assert!(rt; hold.try_shrink(9) == Some(1));
-    Ok(())
+    fast.status == Status::Refused(2) && fast.status.number() == 2
+}
+
+/// Whether the root's one entry is counted.
+fn is_counted(hold: &mut Hold) -> bool {
+    told_tried(&hold.try_stat(ROOT, b"/")).found == found(1, 1, 1, 1)
+}
+
+/// Whether a hold learns of one change alone, and empties the one row that is filled.
+fn learns_and_empties(hold: &mut Hold) -> bool {
+    let learns = hold.learn(1) == (true, 1) && hold.learn(2) == (false, 1);
+    learns && hold.try_shrink(9) == Some(1)
+}
+
+#[test]
+fn a_directory_is_made_and_found(rt: HostRuntime) {
+    let mut hold = Hold::new(rt.alloc(), 16, 16).expect(&rt, "memory");
+    assert!(rt; is_made_first(rt.alloc(), &mut hold));
+    assert!(rt; has_a_row_once_it_is_found(rt.alloc(), &mut hold));
+    assert!(rt; is_refused(&mut hold) && is_counted(&mut hold));
+    assert!(rt; learns_and_empties(&mut hold));
 }
 
 /// A file with two names, a directory, and a link to that.
@@ -73,44 +89,60 @@ fn lost(alloc: Global, hold: &mut Hold, act: Act<'_>) -> Option<Lost> {
     Some(lost_of(gone))
 }
 
+/// Whether a change tells the number, the kind and the last of what its name lost.
+fn loses(alloc: Global, hold: &mut Hold, act: Act<'_>, number: u64, kind: u32, last: u32) -> bool {
+    let want = Lost { number, kind, last };
+    lost(alloc, hold, act) == Some(want)
+}
+
 #[test]
-fn what_a_name_lost_is_told(rt: HostRuntime) -> Result<(), Fail> {
+fn what_a_name_lost_is_told(rt: HostRuntime) {
     let mut hold = Hold::new(rt.alloc(), 16, 16).expect(&rt, "memory");
     for act in MADE.iter() {
         assert!(rt; is_made(rt.alloc(), &mut hold, *act));
     }
     for (act, number, kind, last) in LOST.iter() {
-        let want = Lost {
-            number: *number,
-            kind: *kind,
-            last: *last,
-        };
-        assert!(rt; lost(rt.alloc(), &mut hold, *act) == Some(want));
+        assert!(rt; loses(rt.alloc(), &mut hold, *act, *number, *kind, *last));
     }
-    Ok(())
+}
+
+/// Puts the names in the root into a room, and says how much room they want. `None` where they aren't told.
+fn put_root(alloc: Global, hold: &mut Hold, room: &mut [u8]) -> Option<u64> {
+    let tried = hold.try_list(alloc, ROOT, b"/");
+    if told_read(&tried).status != Status::Done {
+        return None;
+    }
+    let listed = tried?.ok()?;
+    match &listed.reply {
+        Reply::Names(names) => Some(put_names(room, names.as_slice())),
+        _ => None,
+    }
+}
+
+/// Whether a text fills a small room, and a shorter one its beginning.
+fn are_put(room: &mut [u8; 5]) -> bool {
+    put_text(room, b"xyzxyz");
+    let filled = *room == *b"xyzxy";
+    put_text(room, b"u");
+    filled && *room == *b"uyzxy"
+}
+
+/// Whether a directory has no text.
+fn is_no_link(alloc: Global, hold: &mut Hold) -> bool {
+    let refused = told_read(&hold.try_readlink(alloc, ROOT, b"/ab"));
+    refused.status == Status::Refused(22)
 }
 
 #[test]
-fn texts_and_names_are_written(rt: HostRuntime) -> Result<(), Fail> {
+fn texts_and_names_are_written(rt: HostRuntime) {
     let mut hold = Hold::new(rt.alloc(), 16, 16).expect(&rt, "memory");
     for path in [b"/ab", b"/cd"] {
         assert!(rt; is_made(rt.alloc(), &mut hold, Act::Mkdir(path)));
     }
-    let tried = hold.try_list(rt.alloc(), ROOT, b"/");
-    assert!(rt; told_read(&tried).status == Status::Done);
-    let listed = tried.expect(&rt, "the lock is free").expect(&rt, "memory");
     let mut room = [9u8; 5];
-    if let Reply::Names(names) = &listed.reply {
-        assert!(rt; put_names(&mut room, names.as_slice()) == 6);
-    }
-    assert!(rt; room == [97, 98, 0, 9, 9]);
-    put_text(&mut room, b"xyzxyz");
-    assert!(rt; room == *b"xyzxy");
-    put_text(&mut room, b"u");
-    assert!(rt; room == *b"uyzxy");
-    let refused = told_read(&hold.try_readlink(rt.alloc(), ROOT, b"/ab"));
-    assert!(rt; refused.status == Status::Refused(22));
-    Ok(())
+    assert!(rt; put_root(rt.alloc(), &mut hold, &mut room) == Some(6));
+    assert!(rt; room == [97, 98, 0, 9, 9] && are_put(&mut room));
+    assert!(rt; is_no_link(rt.alloc(), &mut hold));
 }
 
 /// Whether either of two holds says that it shares its cache with the other, or neither.
@@ -118,14 +150,30 @@ fn share(one: &Hold, other: &Hold) -> (bool, bool) {
     (one.shares_with(other), other.shares_with(one))
 }
 
+/// Whether a hold shares its cache with one that is split off.
+fn shares_with_its_own(hold: &mut Hold) -> bool {
+    match hold.split() {
+        Ok(other) => share(hold, &other) == (true, true),
+        Err(_) => false,
+    }
+}
+
+/// Whether a hold shares nothing with one of another cache.
+fn shares_nothing(alloc: Global, hold: &Hold) -> bool {
+    match Hold::new(alloc, 1, 16) {
+        Ok(other) => share(hold, &other) == (false, false),
+        Err(_) => false,
+    }
+}
+
 #[test]
-fn holds_know_their_cache(rt: HostRuntime) -> Result<(), Fail> {
+fn numbers_have_bounds(rt: HostRuntime) {
     assert!(rt; Hold::new(rt.alloc(), 3, 16).is_err());
     assert!(rt; follow_of(3).is_none() && flags_of(4).is_none());
+}
+
+#[test]
+fn holds_know_their_cache(rt: HostRuntime) {
     let mut hold = Hold::new(rt.alloc(), 1, 16).expect(&rt, "memory");
-    let other = hold.split().expect(&rt, "memory");
-    assert!(rt; share(&hold, &other) == (true, true));
-    let third = Hold::new(rt.alloc(), 1, 16).expect(&rt, "memory");
-    assert!(rt; share(&hold, &third) == (false, false));
-    Ok(())
+    assert!(rt; shares_with_its_own(&mut hold) && shares_nothing(rt.alloc(), &hold));
 }

@@ -14,14 +14,19 @@ fn is_bad(alloc: Global, line: &[u8]) -> bool {
     matches!(read_line(alloc, line), Err(LineFault::Bad))
 }
 
+/// Whether words are these.
+fn are(words: &[Vec<u8>], wanted: &[&[u8]]) -> bool {
+    for (at, word) in words.iter().enumerate() {
+        match wanted.get(at) {
+            Some(want) if word.as_slice() == *want => {}
+            _ => return false,
+        }
+    }
+    words.len() == wanted.len()
+}
+
 fn is(command: &Command, session: u64, verb: Verb, words: &[&[u8]]) -> bool {
-    command.session == session
-        && command.verb == verb
-        && command
-            .words
-            .iter()
-            .map(|word| word.as_slice())
-            .eq(words.iter().copied())
+    command.session == session && command.verb == verb && are(&command.words, words)
 }
 
 /// Lines, and what they are read as.
@@ -46,16 +51,39 @@ static READ: [(&[u8], u64, Verb, &[&[u8]]); 18] = [
     (b"0 look /\0\xff", 0, Verb::Look, &[b"/\0\xff"]),
 ];
 
+/// Whether a line is read as this command.
+fn is_read(
+    alloc: Global,
+    line: &[u8],
+    session: u64,
+    verb: Verb,
+    words: &[&[u8]],
+) -> Result<bool, LineFault> {
+    match read_line(alloc, line)? {
+        Line::Command(command) => Ok(is(&command, session, verb, words)),
+        Line::Sync => Ok(false),
+    }
+}
+
+fn is_sync(alloc: Global, line: &[u8]) -> Result<bool, LineFault> {
+    let line = read_line(alloc, line)?;
+    Ok(matches!(line, Line::Sync))
+}
+
 #[test]
 fn reads_lines(rt: HostRuntime) -> Result<(), Fail> {
     for (line, session, verb, words) in READ.iter() {
-        let is_read = match read_line(rt.alloc(), line)? {
-            Line::Command(command) => is(&command, *session, *verb, words),
-            Line::Sync => false,
-        };
-        assert!(rt; is_read, "{line:?}");
+        assert!(rt;
+            is_read(rt.alloc(), line, *session, *verb, words)?,
+            "{line:?}"
+        );
     }
-    assert!(rt; matches!(read_line(rt.alloc(), b"sync")?, Line::Sync));
+    Ok(())
+}
+
+#[test]
+fn reads_the_line_between_phases(rt: HostRuntime) -> Result<(), Fail> {
+    assert!(rt; is_sync(rt.alloc(), b"sync")?);
     Ok(())
 }
 
@@ -102,28 +130,28 @@ fn refuses_what_is_no_line(rt: HostRuntime) {
     }
 }
 
-fn is_written(alloc: Global, reply: Reply, at: u64, line: &[u8]) -> Result<bool, NoMemory> {
-    let text = write_reply(alloc, 0, &Stamped { reply, at })?;
-    Ok(text.as_slice() == line)
-}
+/// Texts of links, points, and how they are written.
+static TEXTS: [(&[u8], u64, &[u8]); 2] = [
+    (
+        b" \n\\\0\xff",
+        u64::MAX,
+        b"0 text \\s\\n\\\\\0\xff @18446744073709551615\n",
+    ),
+    (b"", 0, b"0 text \\e @0\n"),
+];
 
-fn bytes(alloc: Global, bytes: &[u8]) -> Result<Vec<u8>, AllocError> {
-    Vec::from_slice(alloc, bytes)
+/// Whether the text of a link is written so.
+fn is_written(alloc: Global, text: &[u8], at: u64, line: &[u8]) -> Result<bool, NoMemory> {
+    let reply = Reply::Text(Vec::from_slice(alloc, text)?);
+    let written = write_reply(alloc, 0, &Stamped { reply, at })?;
+    Ok(written.as_slice() == line)
 }
 
 #[test]
 fn spells_each_byte(rt: HostRuntime) -> Result<(), Fail> {
-    let text = bytes(rt.alloc(), b" \n\\\0\xff")?;
-    let line = b"0 text \\s\\n\\\\\0\xff @18446744073709551615\n";
-    assert!(rt; is_written(rt.alloc(), Reply::Text(text), u64::MAX, line)?);
-    assert!(rt;
-        is_written(
-            rt.alloc(),
-            Reply::Text(Vec::new(rt.alloc())),
-            0,
-            b"0 text \\e @0\n"
-        )?
-    );
+    for (text, at, line) in TEXTS.iter() {
+        assert!(rt; is_written(rt.alloc(), text, *at, line)?, "{text:?}");
+    }
     each_line_has_one_meaning();
     Ok(())
 }
@@ -142,11 +170,16 @@ static LINES: [&[u8]; 10] = [
     b"9 list /\0\xff",
 ];
 
+/// Whether a line is written as it was read.
+fn is_its_own(alloc: Global, line: &[u8]) -> Result<bool, Fail> {
+    let text = write_line(alloc, &read_line(alloc, line)?)?;
+    Ok(text.as_slice() == line)
+}
+
 #[test]
 fn writes_the_lines_that_it_reads(rt: HostRuntime) -> Result<(), Fail> {
     for line in LINES.iter() {
-        let text = write_line(rt.alloc(), &read_line(rt.alloc(), line)?)?;
-        assert!(rt; text.as_slice() == *line, "{line:?}: {text:?}");
+        assert!(rt; is_its_own(rt.alloc(), line)?, "{line:?}");
     }
     Ok(())
 }
@@ -184,14 +217,18 @@ fn writes_the_replies_that_it_reads(rt: HostRuntime) -> Result<(), Fail> {
     Ok(())
 }
 
+/// Whether an answer tells one name at a point.
+fn is_named(told: &Stamped, name: &[u8], at: u64) -> bool {
+    match &told.reply {
+        Reply::Names(names) => are(names, &[name]) && told.at == at,
+        _ => false,
+    }
+}
+
 #[test]
 fn reads_a_name_that_looks_like_a_point(rt: HostRuntime) -> Result<(), Fail> {
-    let (_, point) = read_reply(rt.alloc(), b"3 names @3 @7\n")?;
-    let is_name = match &point.reply {
-        Reply::Names(names) => names.len() == 1 && names[0].as_slice() == b"@3".as_slice(),
-        _ => false,
-    };
-    assert!(rt; is_name && point.at == 7);
+    let (_, told) = read_reply(rt.alloc(), b"3 names @3 @7\n")?;
+    assert!(rt; is_named(&told, b"@3", 7));
     Ok(())
 }
 
@@ -221,11 +258,14 @@ static NO_REPLIES: [&[u8]; 22] = [
     b"0 fine @0\n",
 ];
 
+fn is_no_reply(alloc: Global, line: &[u8]) -> bool {
+    matches!(read_reply(alloc, line), Err(LineFault::Bad))
+}
+
 #[test]
 fn refuses_what_is_no_reply(rt: HostRuntime) {
     for line in NO_REPLIES.iter() {
-        let bad = matches!(read_reply(rt.alloc(), line), Err(LineFault::Bad));
-        assert!(rt; bad, "{line:?}");
+        assert!(rt; is_no_reply(rt.alloc(), line), "{line:?}");
     }
 }
 
@@ -241,11 +281,15 @@ static INPUTS: [(&str, Lines); 6] = [
     ("sync\n0 look\n16 look /\n", Err(InputFault::BadLine(2))),
 ];
 
+fn lines_in(alloc: Global, input: &str) -> Lines {
+    let lines = read_lines(alloc, input.as_bytes())?;
+    Ok(lines.len())
+}
+
 #[test]
 fn reads_the_lines_of_inputs(rt: HostRuntime) {
     for (input, want) in INPUTS.iter() {
-        let found = read_lines(rt.alloc(), input.as_bytes()).map(|lines| lines.len());
-        assert!(rt; found == *want, "{input}");
+        assert!(rt; lines_in(rt.alloc(), input) == *want, "{input}");
     }
 }
 
@@ -258,20 +302,38 @@ static OUTPUTS: [(&str, Lines); 6] = [
     ("0 ok @0\n\n", Err(InputFault::BadLine(2))),
 ];
 
+fn replies_in(alloc: Global, output: &str) -> Lines {
+    let told = read_replies(alloc, output.as_bytes())?;
+    Ok(told.len())
+}
+
 #[test]
 fn reads_the_lines_of_outputs(rt: HostRuntime) {
     for (output, want) in OUTPUTS.iter() {
-        let found = read_replies(rt.alloc(), output.as_bytes()).map(|told| told.len());
-        assert!(rt; found == *want, "{output}");
+        assert!(rt; replies_in(rt.alloc(), output) == *want, "{output}");
     }
+}
+
+/// Whether a fault of a line has this text.
+fn is_told(alloc: Global, fault: LineFault, text: &str) -> Result<bool, AllocError> {
+    let told = fault.to_string(alloc)?;
+    Ok(told.as_str() == text)
+}
+
+/// Whether a fault of an input tells its line.
+fn is_line_told(alloc: Global, line: u64, text: &str) -> Result<bool, AllocError> {
+    let told = InputFault::BadLine(line).to_string(alloc)?;
+    Ok(told.as_str() == text)
+}
+
+/// Whether each fault of a line has its text.
+fn are_told(alloc: Global) -> Result<bool, AllocError> {
+    let bad = is_told(alloc, LineFault::Bad, "bad line")?;
+    Ok(bad && is_told(alloc, LineFault::NoMemory, "no memory")?)
 }
 
 #[test]
 fn tells_faults(rt: HostRuntime) -> Result<(), Fail> {
-    let bad = LineFault::Bad.to_string(rt.alloc())?;
-    let no_memory = LineFault::NoMemory.to_string(rt.alloc())?;
-    assert!(rt; bad.as_str() == "bad line" && no_memory.as_str() == "no memory");
-    let line = InputFault::BadLine(7).to_string(rt.alloc())?;
-    assert_eq!(rt; line.as_str(), "bad line 7");
+    assert!(rt; are_told(rt.alloc())? && is_line_told(rt.alloc(), 7, "bad line 7")?);
     Ok(())
 }

@@ -9,6 +9,20 @@ use std::alloc::Global;
 use std::sync::Wait;
 use std::test::Fail;
 
+/// Whether the rows refuse a `readlink` so, after three changes.
+fn rows_refuse(cache: &Dcache, pass: &mut Pass, text: &[u8], number: u64) -> bool
+    requires { Fits cache.now pass.old }
+    ensures { Fits cache.now pass.new }
+{
+    let Ok(path) = parse(text) else {
+        return false;
+    };
+    match cache.readlink_fast(pass, ROOT, path) {
+        FastLink::Refused(told) => is(&told, Want::Refused(number), 3),
+        _ => false,
+    }
+}
+
 /// Whether the rows, once they are filled, and the tree refuse a `readlink` so, after three changes.
 fn is_refused<R: Wait>(
     rt: &R,
@@ -22,14 +36,9 @@ fn is_refused<R: Wait>(
     ensures { Fits cache.now pass.new }
 {
     cache.look(rt, alloc, pass, ROOT, text, Follow::No);
-    let Ok(path) = parse(text) else {
-        return false;
-    };
-    let FastLink::Refused(told) = cache.readlink_fast(pass, ROOT, path) else {
-        return false;
-    };
-    let refused = Want::Refused(number);
-    is(&told, refused, 3) && is_told(&cache.readlink(rt, alloc, pass, ROOT, text), refused, 3)
+    let refused = rows_refuse(cache, pass, text, number);
+    let told = cache.readlink(rt, alloc, pass, ROOT, text);
+    refused && is_told(&told, Want::Refused(number), 3)
 }
 
 /// Whether each `readlink` is refused with its number.
@@ -77,17 +86,28 @@ fn rows_tell_what_is_no_link(rt: HostRuntime) -> Result<(), Fail> {
 
 static ONE_LINK: [Step<'static>; 1] = [Step::Change(Act::Symlink(b"d", b"/s"), Want::Done(2), 0)];
 
+static LOOKED_UP: [Step<'static>; 1] = [Step::Look(b"/s", Follow::No, THE_LINK, 1)];
+
+const THE_LINK: Want<'static> = Want::Found(2, Kind::Link);
+
+/// Whether the rows tell that a link is one after one change, or `None` where they tell nothing of it.
+fn is_link(cache: &Dcache, pass: &mut Pass, text: &[u8]) -> Option<bool>
+    requires { Fits cache.now pass.old }
+    ensures { Fits cache.now pass.new }
+{
+    match cache.readlink_fast(pass, ROOT, parse(text).ok()?) {
+        FastLink::Link(told) => Some(is(&told, THE_LINK, 1)),
+        FastLink::Again(Why::Miss(0)) => None,
+        _ => Some(false),
+    }
+}
+
 #[test]
 fn rows_tell_a_link_from_what_is_none(rt: HostRuntime) -> Result<(), Fail> {
     let (cache, mut p) = Dcache::new(rt.alloc(), 16, 16).expect(&rt, "memory");
     play(&rt, rt.alloc(), &cache, &mut p, &ONE_LINK)?;
-    let path = parse(b"/s")?;
-    let told = cache.readlink_fast(&mut p, ROOT, path);
-    assert!(rt; matches!(told, FastLink::Again(Why::Miss(0))));
-    cache.look(&rt, rt.alloc(), &mut p, ROOT, b"/s", Follow::No);
-    let FastLink::Link(told) = cache.readlink_fast(&mut p, ROOT, path) else {
-        return Err("no link".into());
-    };
-    assert!(rt; is(&told, Want::Found(2, Kind::Link), 1));
+    assert!(rt; is_link(&cache, &mut p, b"/s").is_none());
+    play(&rt, rt.alloc(), &cache, &mut p, &LOOKED_UP)?;
+    assert!(rt; is_link(&cache, &mut p, b"/s") == Some(true));
     Ok(())
 }

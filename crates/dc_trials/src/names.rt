@@ -30,13 +30,22 @@ fn spelled<'a>(part: &Part<'a>) -> &'a [u8] {
 /// The components of the path that is split.
 static PARTS: [&[u8]; 5] = [b"a", b".", b"bc", b"..", b"..."];
 
+/// Whether components are those of the path that is split.
+fn are_parts(parts: &[Part<'_>]) -> bool {
+    for (at, part) in parts.iter().enumerate() {
+        match PARTS.get(at) {
+            Some(text) if spelled(part) == *text => {}
+            _ => return false,
+        }
+    }
+    parts.len() == PARTS.len()
+}
+
 #[test]
 fn splits_a_path(rt: HostRuntime) -> Result<(), Fail> {
     parts_are_names_or_dots();
     let path = parse(b"//a/.//bc/../...")?;
-    let parts = parts_in(rt.alloc(), &path)?;
-    let found = parts.iter().map(|part| spelled(part));
-    assert!(rt; found.eq(PARTS.iter().copied()));
+    assert!(rt; are_parts(&parts_in(rt.alloc(), &path)?));
     Ok(())
 }
 
@@ -57,7 +66,7 @@ fn tells_the_first_fault(rt: HostRuntime) {
     for (text, fault) in TEXTS.iter() {
         assert!(rt; parse(text).err() == *fault, "{fault:?}");
     }
-    assert_eq!(rt; TextFault::Long.number(), 36);
+    assert!(rt; TextFault::Long.number() == 36);
 }
 
 /// Paths, and whether they are absolute and end in a slash.
@@ -69,25 +78,41 @@ static SLASHES: [(&[u8], bool, bool); 5] = [
     (b"a/b", false, false),
 ];
 
-#[test]
-fn reads_the_slashes(rt: HostRuntime) -> Result<(), Fail> {
-    for (text, absolute, slash) in SLASHES.iter() {
-        let path = parse(text)?;
-        let same = PathText::known(path.bytes()).bytes() == *text;
-        assert!(rt;
-            same && path.is_absolute() == *absolute && path.has_end_slash() == *slash,
-            "{text:?}"
-        );
-    }
-    Ok(())
+/// Whether a text is a path that has these slashes.
+fn has_slashes(text: &[u8], absolute: bool, slash: bool) -> bool {
+    let Ok(path) = parse(text) else {
+        return false;
+    };
+    let same = PathText::known(path.bytes()).bytes() == text;
+    same && path.is_absolute() == absolute && path.has_end_slash() == slash
 }
 
 #[test]
+fn reads_the_slashes(rt: HostRuntime) {
+    for (text, absolute, slash) in SLASHES.iter() {
+        assert!(rt; has_slashes(text, *absolute, *slash), "{text:?}");
+    }
+}
+
+/// Bytes, and whether they are a name.
+static NAMES: [(&[u8], bool); 10] = [
+    (b"a", true),
+    (b"...", true),
+    (b" ", true),
+    (&[255; 255], true),
+    (b"", false),
+    (b".", false),
+    (b"..", false),
+    (b"a/b", false),
+    (b"a\0", false),
+    (&[b'a'; 256], false),
+];
+
+#[test]
 fn knows_a_name(rt: HostRuntime) {
-    let names: [&[u8]; 4] = [b"a", b"...", b" ", &[255; 255]];
-    assert!(rt; names.iter().all(|bytes| Name::new(bytes).is_some()));
-    let others: [&[u8]; 6] = [b"", b".", b"..", b"a/b", b"a\0", &[b'a'; 256]];
-    assert!(rt; others.iter().all(|bytes| Name::new(bytes).is_none()));
+    for (bytes, want) in NAMES.iter() {
+        assert!(rt; Name::new(bytes).is_some() == *want, "{bytes:?}");
+    }
 }
 
 static REFUSALS: [(Refusal, u64, &str); 12] = [
@@ -109,54 +134,73 @@ static REFUSALS: [(Refusal, u64, &str); 12] = [
 static NO_REFUSALS: [u64; 4] = [0, 3, 23, u64::MAX];
 
 /// Whether a refusal has this number and this name, both ways.
-fn is_named(refusal: Refusal, number: u64, symbol: &str) -> bool {
+fn is_numbered(refusal: Refusal, number: u64, symbol: &str) -> bool {
     refusal.number() == number && refusal.name() == symbol && Refusal::of(number) == Some(refusal)
+}
+
+/// Whether a refusal has this number and this name, which it is printed as.
+fn is_named(
+    alloc: Global,
+    refusal: Refusal,
+    number: u64,
+    symbol: &str,
+) -> Result<bool, AllocError> {
+    let printed = refusal.to_string(alloc)?;
+    Ok(printed.as_str() == symbol && is_numbered(refusal, number, symbol))
 }
 
 #[test]
 fn names_refusals_as_linux_does(rt: HostRuntime) -> Result<(), Fail> {
     for (refusal, number, symbol) in REFUSALS.iter() {
-        assert!(rt; is_named(*refusal, *number, symbol), "{symbol}");
         assert!(rt;
-            refusal.to_string(rt.alloc())?.as_str() == *symbol,
+            is_named(rt.alloc(), *refusal, *number, symbol)?,
             "{symbol}"
         );
     }
+    Ok(())
+}
+
+#[test]
+fn knows_what_is_no_refusal(rt: HostRuntime) {
     for number in NO_REFUSALS.iter() {
         assert!(rt; Refusal::of(*number).is_none(), "{number}");
     }
     assert!(rt; Refusal::from(TextFault::Zero) == Refusal::Invalid);
-    Ok(())
 }
-
-/// The refusal for the root, for dot and for dot-dot.
-const EACH: [(Last<'static>, Refusal); 3] = [
-    (Last::Root, Refusal::Busy),
-    (Last::Dot, Refusal::Invalid),
-    (Last::DotDot, Refusal::NotEmpty),
-];
 
 /// Whether a name that ends a path is what is wanted there.
 fn is_wanted(name: Name<'_>) -> bool {
     Last::from(Part::Normal(name)).name_or(Refusal::Busy) == Ok(name)
 }
 
-#[test]
-fn wants_a_name_at_the_end(rt: HostRuntime) {
-    assert!(rt; Name::new(b"a").is_some_and(is_wanted));
-    assert!(rt; Last::Root.name_or(Refusal::Busy) == Err(Refusal::Busy));
-    assert!(rt; Last::from(Part::Dot) == Last::Dot && Last::from(Part::DotDot) == Last::DotDot);
-    for (last, refusal) in EACH.iter() {
-        let found = last.name_or_each(Refusal::Busy, Refusal::Invalid, Refusal::NotEmpty);
-        assert!(rt; found == Err(*refusal), "{refusal}");
-    }
+/// Whether the root that ends a path is refused, and dot and dot-dot are known there.
+fn are_no_names() -> bool {
+    Last::Root.name_or(Refusal::Busy) == Err(Refusal::Busy)
+        && Last::from(Part::Dot) == Last::Dot
+        && Last::from(Part::DotDot) == Last::DotDot
+}
+
+/// Whether an end of a path that is no name has this refusal.
+fn is_refused(last: &Last<'_>, refusal: Refusal) -> bool {
+    last.name_or_each(Refusal::Busy, Refusal::Invalid, Refusal::NotEmpty) == Err(refusal)
 }
 
 #[test]
+fn wants_a_name_at_the_end(rt: HostRuntime) {
+    assert!(rt; Name::new(b"a").is_some_and(is_wanted) && are_no_names());
+    assert!(rt; is_refused(&Last::Root, Refusal::Busy));
+    assert!(rt; is_refused(&Last::Dot, Refusal::Invalid));
+    assert!(rt; is_refused(&Last::DotDot, Refusal::NotEmpty));
+}
+
+/// Directories, names in them, and their hashes, modulo 1,024.
+static HASHES: [(u64, &[u8], u64); 3] = [(1, b"a", 959), (2, b"..", 767), (2, b"", 519)];
+
+#[test]
 fn hashes_numbers_and_bytes(rt: HostRuntime) {
-    assert_eq!(rt; hash(1, b"a") % 1024, 959);
-    assert_eq!(rt; hash(2, b"..") % 1024, 767);
-    assert_eq!(rt; hash(2, b"") % 1024, 519);
+    for (dir, name, want) in HASHES.iter() {
+        assert!(rt; hash(*dir, name) % 1024 == *want, "{name:?}");
+    }
 }
 
 /// A component, what follows it, and its hash in a directory, modulo 1,024.
@@ -167,6 +211,14 @@ fn hashed<'a>(dir: u64, path: &PathText<'a>) -> Option<Hashed<'a>> {
     Some((spelled(&part), rest, found % 1024))
 }
 
+/// Whether a text is a path whose first component comes with this.
+fn is_hashed(dir: u64, text: &[u8], want: &Option<Hashed<'_>>) -> bool {
+    match parse(text) {
+        Ok(path) => hashed(dir, &path) == *want,
+        Err(_) => false,
+    }
+}
+
 static HASHED: [(u64, &[u8], Option<Hashed<'static>>); 3] = [
     (1, b"//a/..", Some((b"a", b"/..", 959))),
     (2, b"/..", Some((b"..", b"", 767))),
@@ -174,16 +226,14 @@ static HASHED: [(u64, &[u8], Option<Hashed<'static>>); 3] = [
 ];
 
 #[test]
-fn splits_and_hashes_at_once(rt: HostRuntime) -> Result<(), Fail> {
+fn splits_and_hashes_at_once(rt: HostRuntime) {
     for (dir, path, want) in HASHED.iter() {
-        assert!(rt; hashed(*dir, &parse(path)?) == *want, "{path:?}");
+        assert!(rt; is_hashed(*dir, path, want), "{path:?}");
     }
-    Ok(())
 }
 
 #[test]
 fn packs_the_first_byte_lowest(rt: HostRuntime) {
-    assert_eq!(rt; pack(b"usr"), 7500661);
-    assert_eq!(rt; pack_from(b"/etc/usr", 5), 7500661);
-    assert_eq!(rt; unpack(6565678), *b"./d\0\0\0\0\0");
+    assert!(rt; pack(b"usr") == 7500661 && pack_from(b"/etc/usr", 5) == 7500661);
+    assert!(rt; unpack(6565678) == *b"./d\0\0\0\0\0");
 }

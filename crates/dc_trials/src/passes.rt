@@ -17,14 +17,22 @@ static BAD_SIZES: [(u64, u64); 5] = [(0, 16), (3, 16), (2048, 16), (1, 0), (1, 1
 
 static GOOD_SIZES: [(u64, u64); 2] = [(1, 1), (1024, 1_048_576)];
 
+/// Whether a cache is made of so many buckets and inodes. `None` where memory is refused.
+fn is_made(alloc: Global, buckets: u64, max_inodes: u64) -> Option<bool> {
+    match Dcache::new(alloc, buckets, max_inodes) {
+        Ok(_) => Some(true),
+        Err(MakeFault::BadSize) => Some(false),
+        Err(_) => None,
+    }
+}
+
 #[test]
 fn a_cache_has_its_sizes(rt: HostRuntime) {
     for (buckets, max_inodes) in BAD_SIZES.iter() {
-        let made = Dcache::new(rt.alloc(), *buckets, *max_inodes);
-        assert!(rt; matches!(made, Err(MakeFault::BadSize)));
+        assert!(rt; is_made(rt.alloc(), *buckets, *max_inodes) == Some(false));
     }
     for (buckets, max_inodes) in GOOD_SIZES.iter() {
-        assert!(rt; Dcache::new(rt.alloc(), *buckets, *max_inodes).is_ok());
+        assert!(rt; is_made(rt.alloc(), *buckets, *max_inodes) == Some(true));
     }
 }
 
@@ -52,11 +60,16 @@ fn play_with_buckets<R: Wait>(rt: &R, alloc: Global, buckets: u64) -> Result<(),
     play(rt, alloc, &cache, &mut pass, &MADE_AND_FOUND)
 }
 
+/// Whether so many buckets or inodes are refused.
+fn are_refused(alloc: Global, buckets: u64, max_inodes: u64) -> bool {
+    let made = Dcache::with_buckets(alloc, buckets, max_inodes);
+    matches!(made, Err(MakeFault::BadSize))
+}
+
 #[test]
 fn a_cache_has_as_many_buckets_as_the_work_wants(rt: HostRuntime) -> Result<(), Fail> {
     for (buckets, max_inodes) in BAD_BUCKETS.iter() {
-        let made = Dcache::with_buckets(rt.alloc(), *buckets, *max_inodes);
-        assert!(rt; matches!(made, Err(MakeFault::BadSize)));
+        assert!(rt; are_refused(rt.alloc(), *buckets, *max_inodes));
     }
     for buckets in BUCKETS.iter() {
         play_with_buckets(&rt, rt.alloc(), *buckets)?;
@@ -73,17 +86,48 @@ static LEARNT: [Step<'static>; 4] = [
     Step::Fast(b"/a", Want::Found(2, Kind::Dir), 1),
 ];
 
+/// The clock of a cache that is closed, and how many inodes live in its tree.
+pub fn left_behind(cache: Dcache, pass: Pass) -> Option<(u64, u64)>
+    requires { Fits cache pass }
+{
+    let ended = cache.close(pass)?;
+    Some((ended.clock, ended.store.live()))
+}
+
+/// Whether a pass learns of one change, and of no second one.
+fn learns_of_one(cache: &Dcache, pass: &mut Pass) -> bool
+    requires { Fits cache.now pass.old }
+    ensures { Fits cache.now pass.new }
+{
+    cache.learn(pass, 2) == Err(NotYet(1)) && cache.learn(pass, 1) == Ok(())
+}
+
+/// A pass makes a change, of which another learns. It says whether that went as it should.
+fn is_learnt<R: Wait>(
+    rt: &R,
+    alloc: Global,
+    cache: &Dcache,
+    pass: &mut Pass,
+    other: &mut Pass,
+) -> Result<bool, Fail>
+    requires pass { Fits cache.now pass.old }
+    requires other { Fits cache.now other.old }
+    ensures pass { Fits cache.now pass.new }
+    ensures other { Fits cache.now other.new }
+{
+    play(rt, alloc, cache, pass, &MADE)?;
+    let learnt = learns_of_one(cache, other);
+    play(rt, alloc, cache, other, &LEARNT)?;
+    Ok(learnt)
+}
+
 #[test]
 fn a_pass_learns_how_far_another_came(rt: HostRuntime) -> Result<(), Fail> {
     let (cache, mut p) = Dcache::new(rt.alloc(), 1, 16).expect(&rt, "memory");
     let mut q = cache.split(&mut p);
-    play(&rt, rt.alloc(), &cache, &mut p, &MADE)?;
-    assert!(rt; cache.learn(&mut q, 2) == Err(NotYet(1)));
-    assert!(rt; cache.learn(&mut q, 1) == Ok(()));
-    play(&rt, rt.alloc(), &cache, &mut q, &LEARNT)?;
+    assert!(rt; is_learnt(&rt, rt.alloc(), &cache, &mut p, &mut q)?);
     cache.join(&mut p, q);
-    let ended = cache.close(p).expect(&rt, "the lock is free");
-    assert!(rt; ended.clock == 1 && ended.store.live() == 2);
+    assert!(rt; left_behind(cache, p) == Some((1, 2)));
     Ok(())
 }
 
@@ -187,23 +231,35 @@ fn links_are_followed_by_their_rows(rt: HostRuntime) -> Result<(), Fail> {
     play_anew(&rt, rt.alloc(), 1, 16, &LINKS)
 }
 
+static FILE_IN_DIRECTORY: [Step<'static>; 2] = [
+    Step::Change(Act::Mkdir(b"/d"), Want::Done(2), 0),
+    Step::Change(Act::Create(b"/d/f"), Want::Done(3), 1),
+];
+
+static BY_A_LONG_TEXT: [Step<'static>; 6] = [
+    Step::Again(b"/t/f", Why::Miss(0)),
+    Step::Look(b"/t/f", Follow::Yes, FILE, 3),
+    Step::Again(b"/t/f", Why::Link),
+    Step::Look(b"/t/f", Follow::Yes, FILE, 3),
+    Step::Again(b"/t/f", Why::Link),
+    Step::Look(b"/t/f", Follow::Yes, FILE, 3),
+];
+
+/// Plays these steps around one that makes a link.
+fn play_with_link<R: Wait>(rt: &R, alloc: Global, text: &[u8]) -> Result<(), Fail> {
+    let link = [Step::Change(Act::Symlink(text, b"/t"), Want::Done(4), 2)];
+    let (cache, mut pass) = Dcache::new(alloc, 1, 16)?;
+    play(rt, alloc, &cache, &mut pass, &FILE_IN_DIRECTORY)?;
+    play(rt, alloc, &cache, &mut pass, &link)?;
+    play(rt, alloc, &cache, &mut pass, &BY_A_LONG_TEXT)
+}
+
 /// A text that is longer than a name has no room in a row: each look-up asks for it under the lock.
 #[test]
 fn a_text_without_room_is_asked_under_the_lock(rt: HostRuntime) -> Result<(), Fail> {
     let mut text = [b'/'; NAME_MAX + 1];
     text[NAME_MAX] = b'd';
-    let steps = [
-        Step::Change(Act::Mkdir(b"/d"), Want::Done(2), 0),
-        Step::Change(Act::Create(b"/d/f"), Want::Done(3), 1),
-        Step::Change(Act::Symlink(&text, b"/t"), Want::Done(4), 2),
-        Step::Again(b"/t/f", Why::Miss(0)),
-        Step::Look(b"/t/f", Follow::Yes, FILE, 3),
-        Step::Again(b"/t/f", Why::Link),
-        Step::Look(b"/t/f", Follow::Yes, FILE, 3),
-        Step::Again(b"/t/f", Why::Link),
-        Step::Look(b"/t/f", Follow::Yes, FILE, 3),
-    ];
-    play_anew(&rt, rt.alloc(), 1, 16, &steps)
+    play_with_link(&rt, rt.alloc(), &text)
 }
 
 /// Creates fifty files whose names begin with this letter, looks each up, and returns the pass.
@@ -219,40 +275,38 @@ pub fn fill<R: Wait>(rt: &R, alloc: Global, cache: &Dcache, mut pass: Pass, lett
     pass
 }
 
-/// Two passes fill the cache in two threads.
+/// A pass and one that is split off it fill the cache in two threads.
 fn fill_both<R: Threads + Wait + Sync>(
     rt: &R,
     alloc: Global,
     cache: &Dcache,
-    p: Pass,
-    q: Pass,
-) -> (Pass, Pass)
+    mut pass: Pass,
+) -> Pass
     requires sync { IsSync R.row }
-    requires passes { Fits cache.now p × Fits cache.now q }
-    ensures { Fits cache.now result.0 × Fits cache.now result.1 }
+    requires pass { Fits cache.now pass }
+    ensures { Fits cache.now result }
 {
-    join(
+    let other = cache.split(&mut pass);
+    let (mut pass, other) = join(
         rt,
         move || -> Pass
-            requires { Fits cache.now p }
+            requires { Fits cache.now pass }
             ensures { Fits cache.entry.now result }
-        { fill(rt, alloc, cache, p, b'a') },
+        { fill(rt, alloc, cache, pass, b'a') },
         move || -> Pass
-            requires { Fits cache.now q }
+            requires { Fits cache.now other }
             ensures { Fits cache.entry.now result }
-        { fill(rt, alloc, cache, q, b'b') },
-    )
+        { fill(rt, alloc, cache, other, b'b') },
+    );
+    cache.join(&mut pass, other);
+    pass
 }
 
 #[test]
-fn threads_share_a_cache(rt: HostRuntime) -> Result<(), Fail> {
-    let (cache, mut p) = Dcache::new(rt.alloc(), 16, 1024).expect(&rt, "memory");
-    let q = cache.split(&mut p);
-    let (mut p, q) = fill_both(&rt, rt.alloc(), &cache, p, q);
-    cache.join(&mut p, q);
-    let ended = cache.close(p).expect(&rt, "the lock is free");
-    assert!(rt; ended.clock == 100 && ended.store.live() == 101);
-    Ok(())
+fn threads_share_a_cache(rt: HostRuntime) {
+    let (cache, pass) = Dcache::new(rt.alloc(), 16, 1024).expect(&rt, "memory");
+    let pass = fill_both(&rt, rt.alloc(), &cache, pass);
+    assert!(rt; left_behind(cache, pass) == Some((100, 101)));
 }
 
 static FILLED_AT_ONCE: [Step<'static>; 7] = [
@@ -269,15 +323,30 @@ static ONE_MORE: [Step<'static>; 1] = [Step::Filled(b"/e", Want::Refused(2), 2)]
 
 static NO_LONGER: [Step<'static>; 1] = [Step::Again(b"/a", Why::Miss(0))];
 
+/// Fills the rows of a whole path, and then of one name more than a bucket has room for. It tells how many rows
+/// had lost their key before the last one and after it.
+fn evictions<R: Wait>(
+    rt: &R,
+    alloc: Global,
+    cache: &Dcache,
+    pass: &mut Pass,
+) -> Result<(u64, u64), Fail>
+    requires { Fits cache.now pass.old }
+    ensures { Fits cache.now pass.new }
+{
+    play(rt, alloc, cache, pass, &FILLED_AT_ONCE)?;
+    let before = cache.counts().evictions;
+    play(rt, alloc, cache, pass, &ONE_MORE)?;
+    Ok((before, cache.counts().evictions))
+}
+
 /// A look-up that fills the rows of its whole path: the next one goes by them. The fifth name of one bucket
 /// takes a row of another.
 #[test]
 fn a_path_is_filled_under_one_hold(rt: HostRuntime) -> Result<(), Fail> {
     let (cache, mut p) = Dcache::new(rt.alloc(), 1, 16).expect(&rt, "memory");
-    play(&rt, rt.alloc(), &cache, &mut p, &FILLED_AT_ONCE)?;
-    assert!(rt; cache.counts().evictions == 0);
-    play(&rt, rt.alloc(), &cache, &mut p, &ONE_MORE)?;
-    assert!(rt; cache.counts().evictions == 1 && cache.counts().sleeps == 0);
+    assert!(rt; evictions(&rt, rt.alloc(), &cache, &mut p)? == (0, 1));
+    assert!(rt; cache.counts().sleeps == 0);
     play(&rt, rt.alloc(), &cache, &mut p, &NO_LONGER)
 }
 
@@ -298,6 +367,5 @@ static FILLED_FURTHER: [Step<'static>; 11] = [
 /// A look-up that goes on where the rows end, also behind a dot-dot, a link and a key that comes up twice.
 #[test]
 fn a_path_is_filled_from_where_its_rows_end(rt: HostRuntime) -> Result<(), Fail> {
-    let (cache, mut p) = Dcache::new(rt.alloc(), 16, 16).expect(&rt, "memory");
-    play(&rt, rt.alloc(), &cache, &mut p, &FILLED_FURTHER)
+    play_anew(&rt, rt.alloc(), 16, 16, &FILLED_FURTHER)
 }

@@ -7,7 +7,8 @@ ghost use Rattle.std.specs.Thread.{IsSync};
 ghost use Rattle.dc_cache.specs.Passes.{Fits, IsChange};
 
 use crate::answers::{create, mkdir, rename, unlink};
-use dc_cache::{Call, Dcache, Fast, Follow, Pass, ROOT, Reply, Stamped, Store, parse};
+use crate::passes::left_behind;
+use dc_cache::{Call, Dcache, Fast, Follow, Pass, ROOT, Reply, Stamped, parse};
 use std::alloc::{AllocError, Global};
 use std::sync::Wait;
 use std::test::Fail;
@@ -176,29 +177,31 @@ fn make_above<R: Wait>(rt: &R, alloc: Global, cache: &Dcache, pass: &mut Pass, f
     all
 }
 
-/// Races over a file so many directories below the one that is renamed. It tells how many changes were
-/// made and how many inodes live in the end, or `None` where an answer was wrong or a change wasn't
-/// made.
+/// Runs a race in a new cache. It tells how many changes were made and how many inodes live in the end, or
+/// `None` where an answer was wrong or a change wasn't made.
+fn run_anew<R: Threads + Wait + Sync>(rt: &R, alloc: Global, race: Race<'_>) -> Option<(u64, u64)>
+    requires sync { IsSync R.row }
+{
+    let (cache, mut pass) = Dcache::new(alloc, 64, 1024).ok()?;
+    let made = make_above(rt, alloc, &cache, &mut pass, race.file);
+    let (pass, right) = run(rt, alloc, &cache, pass, race);
+    let ended = left_behind(cache, pass);
+    if made && right { ended } else { None }
+}
+
+/// Races over a file so many directories below the one that is renamed.
 fn race_below<R: Threads + Wait + Sync>(rt: &R, alloc: Global, depth: u32) -> Option<(u64, u64)>
     requires sync { IsSync R.row }
 {
     let path = file_below(alloc, b'p', depth).ok()?;
     let path_then = file_below(alloc, b'q', depth).ok()?;
-    let (cache, mut pass) = Dcache::new(alloc, 64, 1024).ok()?;
-    let made = make_above(rt, alloc, &cache, &mut pass, path.as_slice());
     let race = Race {
         first: b"/p",
         second: b"/q",
         file: path.as_slice(),
         file_then: path_then.as_slice(),
     };
-    let (pass, right) = run(rt, alloc, &cache, pass, race);
-    let ended = cache.close(pass)?;
-    if made && right {
-        Some((ended.clock, ended.store.live()))
-    } else {
-        None
-    }
+    run_anew(rt, alloc, race)
 }
 
 /// The file is so many directories below the one that is renamed.

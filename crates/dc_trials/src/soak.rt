@@ -27,34 +27,59 @@ fn told(alloc: Global, seed: u64, wrong: &Wrong) -> Result<String, AllocError> {
     format!(in alloc; "seed {seed}: {wrong}")
 }
 
-/// The tally of eight rounds. It fails where one goes wrong.
-fn tally<R: Threads + Wait + Sync>(rt: &R, alloc: Global) -> Result<Tally, Fail>
+/// Fails where a round went wrong.
+fn fail_if_wrong(alloc: Global, seed: u64, wrong: &Option<Wrong>) -> Result<(), Fail> {
+    match wrong {
+        Some(wrong) => Err(Fail::from(told(alloc, seed, wrong)?)),
+        None => Ok(()),
+    }
+}
+
+/// Plays a round, and counts it. It fails where it goes wrong.
+fn play<R: Threads + Wait + Sync>(
+    rt: &R,
+    alloc: Global,
+    seed: u64,
+    whole: &mut Tally,
+) -> Result<(), Fail>
     requires { IsSync R.row }
 {
-    let mut whole = Tally::default();
+    let played = Round::of(seed, 800).play(rt, alloc)?;
+    whole.take_in(&played.tally);
+    fail_if_wrong(alloc, seed, &played.wrong)
+}
+
+/// Plays eight rounds, and counts them.
+fn play_all<R: Threads + Wait + Sync>(rt: &R, alloc: Global, whole: &mut Tally) -> Result<(), Fail>
+    requires { IsSync R.row }
+{
     for seed in 1..9 {
-        let played = Round::of(seed, 800).play(rt, alloc)?;
-        if let Some(wrong) = &played.wrong {
-            return Err(Fail::from(told(alloc, seed, wrong)?));
-        }
-        whole.take_in(&played.tally);
+        play(rt, alloc, seed, whole)?;
     }
-    Ok(whole)
+    Ok(())
+}
+
+/// Whether enough came of eight rounds.
+fn is_rich(whole: &Tally) -> bool {
+    let shaken = whole.hits > 100 && whole.emptied > 10 && whole.splits > 10;
+    shaken && whole.rounds == 8 && whole.changes > 100 && whole.evicted > 10
+}
+
+/// Whether calls of a kind were made, and some of them were refused.
+fn is_refused_in_part(whole: &Tally, kind: usize) -> bool {
+    match (whole.calls.get(kind), whole.refused.get(kind)) {
+        (Some(made), Some(refused)) => 0 < *refused && refused < made,
+        _ => false,
+    }
 }
 
 #[test]
 fn rounds_are_legal(rt: HostRuntime) -> Result<(), Fail> {
-    let whole = tally(&rt, rt.alloc())?;
-    assert!(rt; whole.rounds == 8 && whole.changes > 100);
-    assert!(rt; whole.hits > 100 && whole.emptied > 10 && whole.splits > 10);
-    assert!(rt; whole.evicted > 10);
-    // Calls of each kind are made and refused.
-    let counts = whole.calls.iter().zip(&whole.refused);
-    for (name, (made, refused)) in NAMES.iter().zip(counts) {
-        assert!(rt;
-            0 < *refused && refused < made,
-            "{name}: {refused} of {made}"
-        );
+    let mut whole = Tally::default();
+    play_all(&rt, rt.alloc(), &mut whole)?;
+    assert!(rt; is_rich(&whole));
+    for (kind, name) in NAMES.iter().enumerate() {
+        assert!(rt; is_refused_in_part(&whole, kind), "{name}");
     }
     Ok(())
 }
@@ -78,27 +103,46 @@ const FOUR: Round = Round {
     steps: 6_000,
 };
 
+/// Whether each of the four threads was answered enough changes.
+fn change_enough(stamps: &[Stamp]) -> bool {
+    for session in 0..FOUR.threads {
+        if changes_of(stamps, session) < 2_000 {
+            return false;
+        }
+    }
+    true
+}
+
+/// Whether nothing is wrong about records and the tree that was left.
+fn are_right(alloc: Global, stamps: Vec<Stamp>, ended: Option<Ended>) -> Result<bool, NoMemory> {
+    let wrong = judge(alloc, stamps, ended)?;
+    Ok(wrong.is_none())
+}
+
 #[test]
 fn four_threads_change_what_one_plain_tree_explains(rt: HostRuntime) -> Result<(), Fail> {
     let Shaken { stamps, ended, .. } = FOUR.shake(&rt, rt.alloc())?;
-    for session in 0..FOUR.threads {
-        assert!(rt; changes_of(&stamps, session) >= 2_000);
-    }
-    assert!(rt; judge(rt.alloc(), stamps, ended)?.is_none());
+    assert!(rt; change_enough(&stamps));
+    assert!(rt; are_right(rt.alloc(), stamps, ended)?);
     Ok(())
+}
+
+/// Whether a round of so many threads comes on so many buckets.
+fn comes(buckets: u64, threads: u64) -> bool {
+    for seed in 0..60 {
+        let round = Round::of(seed, 8_000);
+        if round.buckets() == buckets && round.threads == threads {
+            return true;
+        }
+    }
+    false
 }
 
 #[test]
 fn all_sizes_come(rt: HostRuntime) {
     for buckets in BUCKETS {
         for threads in 2..17 {
-            assert!(rt;
-                (0..60).any(|seed| {
-                    let round = Round::of(seed, 8_000);
-                    round.buckets() == buckets && round.threads == threads
-                }),
-                "{threads} on {buckets}"
-            );
+            assert!(rt; comes(buckets, threads), "{threads} on {buckets}");
         }
     }
 }
@@ -113,11 +157,14 @@ fn drawn(alloc: Global, thread: u64) -> Result<Vec<OwnCall>, NoMemory> {
     Ok(calls)
 }
 
+/// Whether two threads draw the same calls.
+fn draw_alike(alloc: Global, one: u64, other: u64) -> Result<bool, NoMemory> {
+    Ok(drawn(alloc, one)? == drawn(alloc, other)?)
+}
+
 #[test]
 fn calls_are_drawn_again(rt: HostRuntime) -> Result<(), Fail> {
-    let calls = drawn(rt.alloc(), 1)?;
-    assert!(rt; calls == drawn(rt.alloc(), 1)?);
-    assert!(rt; calls != drawn(rt.alloc(), 2)?);
+    assert!(rt; draw_alike(rt.alloc(), 1, 1)? && !draw_alike(rt.alloc(), 1, 2)?);
     Ok(())
 }
 
@@ -134,13 +181,36 @@ enum Deed {
     TreeLost,
 }
 
-/// A new tree in the place of one that isn't lost.
-fn with_new_tree(alloc: Global, ended: Option<Ended>) -> Result<Option<Ended>, NoMemory> {
-    let store = SlabStore::new(alloc)?;
-    match ended {
-        Some(Ended { clock, .. }) => Ok(Some(Ended { store, clock })),
-        None => Ok(None),
+/// Another reply for the record of line 101.
+fn change_reply(stamps: &mut [Stamp]) {
+    if let Some(stamp) = stamps.get_mut(100) {
+        stamp.reply = Reply::Refused(99);
     }
+}
+
+/// A new tree in the place of one that isn't lost.
+fn change_tree(alloc: Global, ended: &mut Option<Ended>) -> Result<(), NoMemory> {
+    if let Some(ended) = ended {
+        ended.store = SlabStore::new(alloc)?;
+    }
+    Ok(())
+}
+
+/// Does a deed to a record or a tree.
+fn do_to(
+    alloc: Global,
+    deed: Deed,
+    stamps: &mut Vec<Stamp>,
+    ended: &mut Option<Ended>,
+) -> Result<(), NoMemory> {
+    match deed {
+        Deed::Nothing => {}
+        Deed::ReplyChanged => change_reply(stamps),
+        Deed::CutShort => stamps.truncate(100),
+        Deed::TreeChanged => return change_tree(alloc, ended),
+        Deed::TreeLost => *ended = None,
+    }
+    Ok(())
 }
 
 /// What is wrong about a round of one thread after a deed.
@@ -156,17 +226,7 @@ fn wrong_after<R: Threads + Wait + Sync>(
         mut ended,
         ..
     } = alone(1).shake(rt, alloc)?;
-    match deed {
-        Deed::Nothing => {}
-        Deed::ReplyChanged => {
-            if let Some(stamp) = stamps.get_mut(100) {
-                stamp.reply = Reply::Refused(99);
-            }
-        }
-        Deed::CutShort => stamps.truncate(100),
-        Deed::TreeChanged => ended = with_new_tree(alloc, ended)?,
-        Deed::TreeLost => ended = None,
-    }
+    do_to(alloc, deed, &mut stamps, &mut ended)?;
     Ok(judge(alloc, stamps, ended)?)
 }
 
@@ -180,6 +240,17 @@ fn word(wrong: &Option<Wrong>) -> &'static str {
         Some(Wrong::Clock(..)) => "clock",
         Some(Wrong::Lost) => "lost",
     }
+}
+
+/// The word for what is wrong about a round of one thread after a deed.
+fn word_after<R: Threads + Wait + Sync>(
+    rt: &R,
+    alloc: Global,
+    deed: Deed,
+) -> Result<&'static str, Fail>
+    requires { IsSync R.row }
+{
+    Ok(word(&wrong_after(rt, alloc, deed)?))
 }
 
 /// Deeds, and what is wrong about a round after each.
@@ -205,8 +276,7 @@ fn agrees<R: Threads + Wait + Sync>(rt: &R, alloc: Global) -> Result<bool, Fail>
 #[test]
 fn wrong_records_and_trees_are_told(rt: HostRuntime) -> Result<(), Fail> {
     for (deed, want) in DEEDS.iter() {
-        let wrong = wrong_after(&rt, rt.alloc(), *deed)?;
-        assert_eq!(rt; word(&wrong), *want);
+        assert_eq!(rt; word_after(&rt, rt.alloc(), *deed)?, *want);
     }
     assert!(rt; agrees(&rt, rt.alloc())?);
     Ok(())

@@ -171,6 +171,23 @@ pub fn is_changed(made: &Option<Result<Stamped, ChangeFault>>, want: Want<'_>, a
     }
 }
 
+/// Whether a read that never waits comes to what it should.
+fn is_tried_read(alloc: Global, cache: &Dcache, pass: &mut Pass, tried: &Tried<'_>) -> bool
+    requires { Fits cache.now pass.old }
+    ensures { Fits cache.now pass.new }
+{
+    match tried {
+        Tried::Stat(path, want, at) => is_found(&cache.try_stat(pass, ROOT, path), *want, *at),
+        Tried::Readlink(path, want, at) => {
+            is_read(&cache.try_readlink(alloc, pass, ROOT, path), *want, *at)
+        }
+        Tried::List(path, want, at) => {
+            is_read(&cache.try_list(alloc, pass, ROOT, path), *want, *at)
+        }
+        _ => false,
+    }
+}
+
 /// Whether a step that never waits comes to what it should.
 fn is_tried(alloc: Global, cache: &Dcache, pass: &mut Pass, tried: &Tried<'_>) -> bool
     requires { Fits cache.now pass.old }
@@ -187,19 +204,56 @@ fn is_tried(alloc: Global, cache: &Dcache, pass: &mut Pass, tried: &Tried<'_>) -
                 *at,
             )
         }
-        Tried::Stat(path, want, at) => is_found(&cache.try_stat(pass, ROOT, path), *want, *at),
-        Tried::Readlink(path, want, at) => {
-            is_read(&cache.try_readlink(alloc, pass, ROOT, path), *want, *at)
-        }
-        Tried::List(path, want, at) => {
-            is_read(&cache.try_list(alloc, pass, ROOT, path), *want, *at)
-        }
         Tried::Shrink(most, emptied) => cache.try_shrink(pass, *most) == Some(*emptied),
+        _ => is_tried_read(alloc, cache, pass, tried),
+    }
+}
+
+/// Whether a walk by the rows alone, or a step that never waits, comes to what it should.
+fn is_soon(alloc: Global, cache: &Dcache, pass: &mut Pass, step: &Step<'_>) -> bool
+    requires { Fits cache.now pass.old }
+    ensures { Fits cache.now pass.new }
+{
+    match step {
+        Step::Fast(path, want, at) => is_done(&look_fast(cache, pass, path), *want, *at),
+        Step::Again(path, why) => is_again(&look_fast(cache, pass, path), *why),
+        Step::Try(tried) => is_tried(alloc, cache, pass, tried),
+        _ => false,
+    }
+}
+
+/// Whether a read or a shrinking comes to what it should.
+fn is_told_so<R: Wait>(
+    rt: &R,
+    alloc: Global,
+    cache: &Dcache,
+    pass: &mut Pass,
+    step: &Step<'_>,
+) -> bool
+    requires { Fits cache.now pass.old }
+    ensures { Fits cache.now pass.new }
+{
+    match step {
+        Step::Stat(path, want, at) => is(&cache.stat(rt, pass, ROOT, path), *want, *at),
+        Step::Readlink(path, want, at) => {
+            is_told(&cache.readlink(rt, alloc, pass, ROOT, path), *want, *at)
+        }
+        Step::List(path, want, at) => {
+            is_told(&cache.list(rt, alloc, pass, ROOT, path), *want, *at)
+        }
+        Step::Shrink(most, emptied) => cache.shrink(rt, pass, *most) == *emptied,
+        _ => is_soon(alloc, cache, pass, step),
     }
 }
 
 /// Whether a step comes to what it should.
-fn is_so<R: Wait>(rt: &R, alloc: Global, cache: &Dcache, pass: &mut Pass, step: &Step<'_>) -> bool
+pub fn is_so<R: Wait>(
+    rt: &R,
+    alloc: Global,
+    cache: &Dcache,
+    pass: &mut Pass,
+    step: &Step<'_>,
+) -> bool
     requires { Fits cache.now pass.old }
     ensures { Fits cache.now pass.new }
 {
@@ -216,17 +270,7 @@ fn is_so<R: Wait>(rt: &R, alloc: Global, cache: &Dcache, pass: &mut Pass, step: 
         Step::Counted(path, want, at) => {
             is_done(&look_counted(rt, alloc, cache, pass, path), *want, *at)
         }
-        Step::Stat(path, want, at) => is(&cache.stat(rt, pass, ROOT, path), *want, *at),
-        Step::Readlink(path, want, at) => {
-            is_told(&cache.readlink(rt, alloc, pass, ROOT, path), *want, *at)
-        }
-        Step::List(path, want, at) => {
-            is_told(&cache.list(rt, alloc, pass, ROOT, path), *want, *at)
-        }
-        Step::Fast(path, want, at) => is_done(&look_fast(cache, pass, path), *want, *at),
-        Step::Again(path, why) => is_again(&look_fast(cache, pass, path), *why),
-        Step::Shrink(most, emptied) => cache.shrink(rt, pass, *most) == *emptied,
-        Step::Try(tried) => is_tried(alloc, cache, pass, tried),
+        _ => is_told_so(rt, alloc, cache, pass, step),
     }
 }
 

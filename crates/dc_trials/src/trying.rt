@@ -1,7 +1,7 @@
 //! Calls that never wait, while another thread has the lock again and again, and while it is free.
 
 ghost use Rattle.std.specs.Thread.{IsSync};
-ghost use Rattle.dc_cache.specs.Passes.{Fits};
+ghost use Rattle.dc_cache.specs.Passes.{Fits, FitsSleepless};
 
 use crate::answers::{Want, mkdir};
 use crate::passes::fill;
@@ -190,16 +190,38 @@ fn a_free_lock_is_an_answer(rt: HostRuntime) -> Result<(), Fail> {
     play_anew(&rt, rt.alloc(), 1, 16, &ANSWERED)
 }
 
+/// Whether a pass that is split off makes a change.
+fn is_made_apart(alloc: Global, cache: &Sleepless, pass: &mut Pass) -> bool
+    requires { FitsSleepless cache.now pass.old }
+    ensures { FitsSleepless cache.now pass.new }
+{
+    let mut other = cache.split(pass);
+    let made = cache.try_change(alloc, &mut other, &mkdir(b"/a"));
+    cache.join(pass, other);
+    is_changed(&made, Want::Done(2), 0)
+}
+
+/// Whether a pass learns of one change, and of no second one, and nobody has slept.
+fn learns_of_one(cache: &Sleepless, pass: &mut Pass) -> bool
+    requires { FitsSleepless cache.now pass.old }
+    ensures { FitsSleepless cache.now pass.new }
+{
+    let learns = cache.learn(pass, 1).is_ok() && cache.learn(pass, 2).is_err();
+    learns && cache.counts().sleeps == 0
+}
+
+/// The clock of a cache that is closed.
+fn clock_of(cache: Sleepless, pass: Pass) -> Option<u64>
+    requires { FitsSleepless cache pass }
+{
+    let ended = cache.close(pass)?;
+    Some(ended.clock)
+}
+
 #[test]
-fn nobody_sleeps_on_a_cache_without_waiting(rt: HostRuntime) -> Result<(), Fail> {
-    let (cache, mut p) = Sleepless::new(rt.alloc(), 1, 16).expect(&rt, "memory");
-    let mut q = cache.split(&mut p);
-    let made = cache.try_change(rt.alloc(), &mut q, &mkdir(b"/a"));
-    assert!(rt; is_changed(&made, Want::Done(2), 0));
-    cache.join(&mut p, q);
-    assert!(rt; cache.learn(&mut p, 1).is_ok() && cache.learn(&mut p, 2).is_err());
-    assert!(rt; cache.counts().sleeps == 0);
-    let ended = cache.close(p).expect(&rt, "no other pass is left");
-    assert!(rt; ended.clock == 1);
-    Ok(())
+fn nobody_sleeps_on_a_cache_without_waiting(rt: HostRuntime) {
+    let (cache, mut pass) = Sleepless::new(rt.alloc(), 1, 16).expect(&rt, "memory");
+    assert!(rt; is_made_apart(rt.alloc(), &cache, &mut pass));
+    assert!(rt; learns_of_one(&cache, &mut pass));
+    assert!(rt; clock_of(cache, pass) == Some(1));
 }

@@ -33,7 +33,13 @@ impl<'a, R: Wait> Source for Pinning<'a, R> {
         key: Key<'_>,
         hash: u64,
     ) -> Result<Lane, NoMemory> {
-        match pin(self.shared, self.rt, self.alloc, pass, &HashedKey { key, hash })? {
+        match pin(
+            self.shared,
+            self.rt,
+            self.alloc,
+            pass,
+            &HashedKey { key, hash },
+        )? {
             Some(first) => Ok(Lane { first, many: 1 }),
             None => Ok(Lane { first: 0, many: 0 }),
         }

@@ -233,12 +233,18 @@ fn take(core: &mut Core, alloc: Global, lists: &[&[Case]]) -> Result<(), Fail> {
     Ok(())
 }
 
+/// Takes all lists, and fills row 0 in between. It says whether that was done.
+fn take_all(core: &mut Core, alloc: Global) -> Result<bool, Fail> {
+    take(core, alloc, &before())?;
+    let filled = fill(core, alloc, 0, 0, &A_IS_2).is_ok();
+    take(core, alloc, &afterwards())?;
+    Ok(filled)
+}
+
 #[test]
 fn each_act_is_refused_for_each_reason(rt: HostRuntime) -> Result<(), Fail> {
     let mut core = Core::new(rt.alloc(), 1, 2, 16)?;
-    take(&mut core, rt.alloc(), &before())?;
-    assert!(rt; fill(&mut core, rt.alloc(), 0, 0, &A_IS_2).is_ok());
-    take(&mut core, rt.alloc(), &afterwards())?;
+    assert!(rt; take_all(&mut core, rt.alloc())?);
     assert!(rt; core.finished().len() == 2 && core.clock() == 1);
     Ok(())
 }

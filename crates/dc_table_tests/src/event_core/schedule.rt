@@ -101,17 +101,30 @@ fn words_of(alloc: Global, tree: &mut PlainTree, number: u32) -> Result<[u64; RO
 /// What an actor is to do, the last first.
 type Plan = Vec<Act<'static>>;
 
+/// What comes after four rows are read, the last first.
+static ANSWER: [Act<'static>; 5] = [
+    Act::Check(3),
+    Act::Check(2),
+    Act::Check(1),
+    Act::Check(0),
+    Act::Pivot,
+];
+
+/// The words of a row after its count.
+static READ: [Act<'static>; ROW_WORDS - 1] = [Act::Read; ROW_WORDS - 1];
+
+/// A row is noted and read.
+fn push_note(plan: &mut Plan, row: u64) -> Result<(), NoMemory> {
+    plan.extend_from_slice(&READ)?;
+    plan.push(Act::Note(row))?;
+    Ok(())
+}
+
 /// The walk of a look-up over four rows, and what comes after it where nobody answers.
 fn push_walk(plan: &mut Plan) -> Result<(), NoMemory> {
-    for i in 0..4 {
-        plan.push(Act::Check(3 - i))?;
-    }
-    plan.push(Act::Pivot)?;
+    plan.extend_from_slice(&ANSWER)?;
     for row in 0..4 {
-        for _ in 1..ROW_WORDS {
-            plan.push(Act::Read)?;
-        }
-        plan.push(Act::Note(row))?;
+        push_note(plan, row)?;
     }
     Ok(())
 }
@@ -151,9 +164,7 @@ fn push_change(plan: &mut Plan, number: u32) -> Result<(), NoMemory> {
 
 /// Another fact for a row.
 fn push_shut(plan: &mut Plan, row: u64) -> Result<(), NoMemory> {
-    plan.push(Act::Give(false))?;
-    plan.push(Act::Shut(row))?;
-    plan.push(Act::Take)?;
+    plan.extend_from_slice(&[Act::Give(false), Act::Shut(row), Act::Take])?;
     Ok(())
 }
 
@@ -168,8 +179,7 @@ fn push_call(plan: &mut Plan, number: u32) -> Result<(), NoMemory> {
 
 /// An act is done again, after another.
 fn push_again(plan: &mut Plan, act: Act<'static>, first: Act<'static>) -> Result<(), Fail> {
-    plan.push(act)?;
-    plan.push(first)?;
+    plan.extend_from_slice(&[act, first])?;
     Ok(())
 }
 

@@ -25,6 +25,16 @@ struct GateCall {
     when: When,
 }
 
+/// Whether a gate's call is the one with this place among those round these lines, two for each.
+fn is_nth(call: &GateCall, place: usize, lines: &[u64]) -> bool {
+    let when = if place % 2 == 0 {
+        When::Before
+    } else {
+        When::After
+    };
+    lines.get(place / 2) == Some(&call.line) && call.when == when
+}
+
 /// Writes down how it is called.
 #[derive(Drop)]
 struct Recorder<'a, R: Wait> {
@@ -53,22 +63,16 @@ impl<'a, R: Wait> Recorder<'a, R> {
     /// Whether a session was called round these lines, one after the other, and round no others.
     fn went_round(&self, session: u64, lines: &[u64]) -> bool {
         let calls = self.calls.lock(self.rt);
-        let mut own = calls.iter().filter(|call| call.session == session);
-        for line in lines {
-            for when in [When::Before, When::After] {
-                let found = own.next().copied();
-                if found
-                    != Some(GateCall {
-                        session,
-                        line: *line,
-                        when,
-                    })
-                {
+        let mut met = 0usize;
+        for call in calls.iter() {
+            if call.session == session {
+                if !is_nth(call, met, lines) {
                     return false;
                 }
+                met = met.saturating_add(1);
             }
         }
-        own.next().is_none()
+        met / 2 == lines.len() && met % 2 == 0
     }
 }
 
@@ -82,15 +86,25 @@ impl<R: Wait + Sync> Gate for Recorder<'_, R> {
     }
 }
 
+/// What a run with a gate comes to.
+fn run_by<R: Threads + Wait + Sync>(
+    rt: &R,
+    alloc: Global,
+    input: &[u8],
+    gate: &Recorder<'_, R>,
+) -> Result<(), ServeFault> {
+    let mut rest = input;
+    let mut output = Vec::new(alloc);
+    run(rt, alloc, &mut rest, &mut output, USUAL, gate)
+}
+
+const GATED: &[u8] = b"1 look /\n0 look /x\nsync\n0 look /\n1 look /a\n1 look /b";
+
 #[test]
 fn gates_are_called_round_each_command(rt: HostRuntime) {
     let gate = Recorder::new(&rt, rt.alloc());
-    let mut rest = b"1 look /\n0 look /x\nsync\n0 look /\n1 look /a\n1 look /b".as_slice();
-    let mut output = Vec::new(rt.alloc());
-    let result = run(&rt, rt.alloc(), &mut rest, &mut output, USUAL, &gate);
-    assert_eq!(rt; result, Ok(()));
-    assert!(rt; gate.went_round(0, &[2, 4]));
-    assert!(rt; gate.went_round(1, &[1, 5, 6]));
+    assert!(rt; run_by(&rt, rt.alloc(), GATED, &gate) == Ok(()));
+    assert!(rt; gate.went_round(0, &[2, 4]) && gate.went_round(1, &[1, 5, 6]));
     assert!(rt; gate.went_round(2, &[]));
 }
 
@@ -98,10 +112,8 @@ fn gates_are_called_round_each_command(rt: HostRuntime) {
 #[test]
 fn no_gate_is_called_before_a_bad_line(rt: HostRuntime) {
     let gate = Recorder::new(&rt, rt.alloc());
-    let mut rest = b"0 mkdir /a\nsync\n0 look\n".as_slice();
-    let mut output = Vec::new(rt.alloc());
-    let result = run(&rt, rt.alloc(), &mut rest, &mut output, USUAL, &gate);
-    assert_eq!(rt; result, Err(ServeFault::BadLine(3)));
+    let result = run_by(&rt, rt.alloc(), b"0 mkdir /a\nsync\n0 look\n", &gate);
+    assert!(rt; result == Err(ServeFault::BadLine(3)));
     assert!(rt; gate.went_round(0, &[]));
 }
 
@@ -234,7 +246,6 @@ fn sessions_meet(rt: HostRuntime) {
     let mut rest = b"0 look /\n1 look /\n".as_slice();
     let mut output = Vec::new(rt.alloc());
     let result = run(&rt, rt.alloc(), &mut rest, &mut output, USUAL, &gate);
-    assert_eq!(rt; result, Ok(()));
-    assert!(rt; !gate.late.load(Ordering::SeqCst));
+    assert!(rt; result == Ok(()) && !gate.late.load(Ordering::SeqCst));
     assert!(rt; output.as_slice() == b"0 is 1 dir @0\n1 is 1 dir @0\n".as_slice());
 }
