@@ -5,7 +5,7 @@ ghost use Rattle.dc_cache.specs.Passes.{Fits};
 use crate::answers::{Want, is, is_made, mkdir};
 use crate::passes::left_behind;
 use crate::steps::{Act, Step, play};
-use dc_cache::{Dcache, Follow, Kind, NotYet, Pass, parse};
+use dc_cache::{Dcache, Follow, Kind, NotYet, Pass, ROOT, parse};
 use dc_uses::{change_in_tries, look_after, look_twice, make_and_look, make_in_two_threads};
 use std::alloc::Global;
 use std::sync::Wait;
