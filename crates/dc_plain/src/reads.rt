@@ -21,8 +21,8 @@ impl PlainTree {
         path: &[u8],
         follow: Follow,
     ) -> Result<Plan<'c>, Failure>
-        ensures found { Finds result (planned self.now.tree)
-            (left_alone self.now.tree (look self.now.tree base path.now follow)) }
+        ensures found { let t = self.now.tree in Finds result (planned t)
+            (left_alone t (look t base path.now follow)) }
         ensures spots { IfOk result (HasSpotsIfChange self.now.tree) }
     {
         let (number, kind) = self.walk(alloc, base, path, follow)?;
@@ -36,8 +36,8 @@ impl PlainTree {
         base: u64,
         path: &[u8],
     ) -> Result<Plan<'c>, Failure>
-        ensures found { Finds result (planned self.now.tree)
-            (left_alone self.now.tree (readlink self.now.tree base path.now)) }
+        ensures found { let t = self.now.tree in Finds result (planned t)
+            (left_alone t (readlink t base path.now)) }
         ensures spots { IfOk result (HasSpotsIfChange self.now.tree) }
     {
         let (number, _) = self.walk(alloc, base, path, Follow::No)?;
@@ -54,8 +54,8 @@ impl PlainTree {
         base: u64,
         path: &[u8],
     ) -> Result<Plan<'c>, Failure>
-        ensures found { Finds result (planned self.now.tree)
-            (left_alone self.now.tree (stat self.now.tree base path.now)) }
+        ensures found { let t = self.now.tree in Finds result (planned t)
+            (left_alone t (stat t base path.now)) }
         ensures spots { IfOk result (HasSpotsIfChange self.now.tree) }
     {
         let target = self.walk(alloc, base, path, Follow::Yes)?;
@@ -69,8 +69,8 @@ impl PlainTree {
         base: u64,
         path: &[u8],
     ) -> Result<Plan<'c>, Failure>
-        ensures found { Finds result (planned self.now.tree)
-            (left_alone self.now.tree (list_names self.now.tree base path.now)) }
+        ensures found { let t = self.now.tree in Finds result (planned t)
+            (left_alone t (list_names t base path.now)) }
         ensures spots { IfOk result (HasSpotsIfChange self.now.tree) }
     {
         let (dir, _) = self.walk(alloc, base, path, Follow::Dir)?;

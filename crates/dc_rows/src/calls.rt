@@ -1,7 +1,7 @@
 //! Calls that get the lock, do one thing under it, and give it back.
 
 ghost use Rattle.dc_ops.specs.Asked.{IsChange};
-ghost use Rattle.dc_plain.specs.KeysShown.{key_shown};
+ghost use Rattle.dc_rows.specs.Filling.{key_in};
 ghost use Rattle.dc_plain.specs.Requests.{request_of};
 ghost use Rattle.dc_rows.specs.Outcomes.{MakesAlone, Pins, Shrinks, UnpinsOnce};
 ghost use Rattle.dc_table.specs.Changes.{NothingNew, Rested};
@@ -70,7 +70,7 @@ pub fn pin<R: Wait>(
     requires pass { Fits shared.now pass.old × IsIdle pass.old }
     ensures same { IsSamePass pass.old pass.new × IsIdle pass.new }
     ensures rested { Rested (view pass.old) (view pass.new) }
-    ensures pinned { Pins (key_shown key.now.key) pass.old pass.new result }
+    ensures pinned { Pins (key_in key.now) pass.old pass.new result }
 {
     let mut guard = Guard::lock(shared, rt, pass);
     let row = guard.pin(alloc, key);

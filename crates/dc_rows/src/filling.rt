@@ -6,7 +6,7 @@ ghost use Rattle.dc_index.specs.Slots.Slot.{Holds as Held};
 ghost use Rattle.dc_plain.specs.KeysShown.{key_shown};
 ghost use Rattle.dc_row.specs.declared.TheConstants.{EMPTY_ROW};
 ghost use Rattle.dc_rows.specs.Changes.{KeepsTree, OnlyWrites, RestAt};
-ghost use Rattle.dc_rows.specs.Filling.{GivenAt, without_use};
+ghost use Rattle.dc_rows.specs.Filling.{key_in, GivenAt, without_use};
 ghost use Rattle.dc_rows.specs.Guards.{kept_by, rows_of, Keeps};
 ghost use Rattle.dc_rows.specs.Narrow.{HasFrom};
 ghost use Rattle.dc_rows.specs.Outcomes.{Fills};
@@ -75,15 +75,15 @@ fn fill_new(
     words: &[u64; ROW_WORDS],
 ) -> Result<Option<u64>, NoMemory>
     requires rest { RestAt (pass_of holder.old) kept.old }
-    requires absent { IsRowOf kept.old.index (key_shown key.now.key) None }
-    requires words { IsOf (tree_now (pass_of holder.old)) words.now (key_shown key.now.key) }
+    requires absent { IsRowOf kept.old.index (key_in key.now) None }
+    requires words { IsOf (tree_now (pass_of holder.old)) words.now (key_in key.now) }
     ensures same_reference { holder.new.pass.ghost_name ≡ holder.old.pass.ghost_name }
     ensures pass { OnlyWrites (pass_of holder.old) (pass_of holder.new) }
     ensures tree { KeepsTree kept.old kept.new }
     ensures rest { RestAt (pass_of holder.new) kept.new }
     ensures row { IfOk result (λ found. IfSome found (λ row.
-        slot_of kept.new.index row ≡ Held (key_shown key.now.key))) }
-    ensures rows { Gets (key_shown key.now.key) 0 (rows_held holder.old kept.old)
+        slot_of kept.new.index row ≡ Held (key_in key.now))) }
+    ensures rows { Gets (key_in key.now) 0 (rows_held holder.old kept.old)
         (rows_held holder.new kept.new) result }
 {
     rows_end_in_zeros();
@@ -116,8 +116,8 @@ fn fill_row(
     ensures tree { KeepsTree kept.old kept.new }
     ensures rest { RestAt (pass_of holder.new) kept.new }
     ensures row { IfOk result (λ found. IfSome found (λ row.
-        slot_of kept.new.index row ≡ Held (key_shown key.now.key))) }
-    ensures rows { Gets (key_shown key.now.key) 0 (rows_held holder.old kept.old)
+        slot_of kept.new.index row ≡ Held (key_in key.now))) }
+    ensures rows { Gets (key_in key.now) 0 (rows_held holder.old kept.old)
         (rows_held holder.new kept.new) result }
 {
     if let Some(row) = kept.index.row_of_hashed(key) {
@@ -140,14 +140,14 @@ fn fill_entry_row(
 ) -> Result<Option<u64>, NoMemory>
     requires store { kept.old.store ≡ tree_now (pass_of holder.old) }
     requires rest { RestAt (pass_of holder.old) kept.old }
-    requires target { LeadsTo kept.old.store (key_shown key.now.key) target }
+    requires target { LeadsTo kept.old.store (key_in key.now) target }
     ensures same_reference { holder.new.pass.ghost_name ≡ holder.old.pass.ghost_name }
     ensures pass { OnlyWrites (pass_of holder.old) (pass_of holder.new) }
     ensures tree { KeepsTree kept.old kept.new }
     ensures rest { RestAt (pass_of holder.new) kept.new }
     ensures row { IfOk result (λ found. IfSome found (λ row.
-        slot_of kept.new.index row ≡ Held (key_shown key.now.key))) }
-    ensures rows { Gets (key_shown key.now.key) 0 (rows_held holder.old kept.old)
+        slot_of kept.new.index row ≡ Held (key_in key.now))) }
+    ensures rows { Gets (key_in key.now) 0 (rows_held holder.old kept.old)
         (rows_held holder.new kept.new) result }
 {
     if let Some(row) = kept.index.row_of_hashed(key) {
@@ -166,8 +166,8 @@ impl Guard<'_> {
         ensures same_reference { self.new.holder.pass.ghost_name ≡ self.old.holder.pass.ghost_name }
         ensures keeps { Keeps self.old self.new }
         ensures row { IfOk result (λ found. IfSome found (λ row.
-            slot_of (kept_by self.new).index row ≡ Held (key_shown key.now.key))) }
-        ensures rows { Gets (key_shown key.now.key) 0 (rows_of self.old) (rows_of self.new) result }
+            slot_of (kept_by self.new).index row ≡ Held (key_in key.now))) }
+        ensures rows { Gets (key_in key.now) 0 (rows_of self.old) (rows_of self.new) result }
     {
         let holder = &mut self.holder;
         fill_row(holder, &mut self.guarded, alloc, key)
@@ -182,10 +182,10 @@ impl Guard<'_> {
         key: &HashedKey<'_>,
         target: Option<Target>,
     ) -> Result<Option<u64>, NoMemory>
-        requires target { LeadsTo (kept_by self.old).store (key_shown key.now.key) target }
+        requires target { LeadsTo (kept_by self.old).store (key_in key.now) target }
         ensures same_reference { self.new.holder.pass.ghost_name ≡ self.old.holder.pass.ghost_name }
         ensures keeps { Keeps self.old self.new }
-        ensures fills { Fills (key_shown key.now.key) self.old self.new result }
+        ensures fills { Fills (key_in key.now) self.old self.new result }
     {
         let holder = &mut self.holder;
         fill_entry_row(holder, &mut self.guarded, alloc, key, target)

@@ -2,7 +2,7 @@
 
 ghost use Rattle.std.specs.Prelude.{◌≡◌, ◌<◌, IfOk, IfSome, IsTrue};
 ghost use Rattle.dc_rows.specs.Changes.{KeepsTree, OnlyWrites, RestAt};
-ghost use Rattle.dc_plain.specs.KeysShown.{key_shown};
+ghost use Rattle.dc_rows.specs.Filling.{key_in};
 ghost use Rattle.dc_rows.specs.Guards.{seat_of, kept_by, rows_of, Keeps};
 ghost use Rattle.dc_rows.specs.RowChanges.{Gets, PinsOnce, UnpinsAll, UnpinsRow};
 ghost use Rattle.dc_shrink.specs.Listings.{is_used};
@@ -61,7 +61,7 @@ impl Guard<'_> {
         ensures same_reference { self.new.holder.pass.ghost_name ≡ self.old.holder.pass.ghost_name }
         ensures keeps { Keeps self.old self.new }
         ensures row { IfOk result (λ found. IfSome found (λ row. row < (share (seat_of self.new)).rows)) }
-        ensures rows { Gets (key_shown key.now.key) 1 (rows_of self.old) (rows_of self.new) result }
+        ensures rows { Gets (key_in key.now) 1 (rows_of self.old) (rows_of self.new) result }
     {
         let Some(row) = self.fill(alloc, key)? else {
             return Ok(None);
