@@ -141,8 +141,8 @@ int gb_close(struct gb_pass *pass);
 int gb_look_fast(struct gb_pass *pass, uint64_t base, const char *path, size_t len, uint32_t follow,
                  struct gb_found *found);
 
-/* Looks a path up by the rows, or if they don't answer under the lock, and then fills rows for the next look-up as
- * far as there is memory. Want of memory is no answer of it.
+/* Looks a path up under the lock, for whom gb_look_fast has answered GB_AGAIN, and fills rows for the next look-up as
+ * far as there is memory. Want of memory is no answer of it. A text that is no path is refused without the lock.
  * Proved: the answer is that of one moment between the call and the return. That rows are filled is tested.
  * Answers 0 with number and kind, a refusal, GB_BUSY, GB_BAD_PASS, GB_BAD_ARGUMENT. */
 int gb_try_look(struct gb_pass *pass, uint64_t base, const char *path, size_t len, uint32_t follow,
@@ -409,15 +409,25 @@ static inline int gb_turn_again(struct gb_turn *turn, int answer)
     return 1;
 }
 
-/* gb_try_look. */
-static inline int gb_look(struct gb_gate *gate, struct gb_pass *pass, uint64_t base, const char *path, size_t len,
-                          uint32_t follow, struct gb_found *found)
+/* gb_try_look, for whom gb_look_fast has just answered GB_AGAIN. */
+static inline int gb_look_missed(struct gb_gate *gate, struct gb_pass *pass, uint64_t base, const char *path,
+                                 size_t len, uint32_t follow, struct gb_found *found)
 {
     struct gb_turn turn = gb_turn_new(gate);
     int answer;
     do
         answer = gb_try_look(pass, base, path, len, follow, found);
     while (gb_turn_again(&turn, answer));
+    return answer;
+}
+
+/* gb_look_fast, and where the rows don't answer gb_look_missed. */
+static inline int gb_look(struct gb_gate *gate, struct gb_pass *pass, uint64_t base, const char *path, size_t len,
+                          uint32_t follow, struct gb_found *found)
+{
+    int answer = gb_look_fast(pass, base, path, len, follow, found);
+    if (answer == GB_AGAIN)
+        return gb_look_missed(gate, pass, base, path, len, follow, found);
     return answer;
 }
 

@@ -67,7 +67,7 @@ int peer_unlink(const char *path)
 static __attribute__((noinline)) int look_filled(const char *path, size_t length)
 {
     struct gb_found found;
-    return gb_look(&gate, &own, ROOT, path, length, GB_FOLLOW, &found) == 0;
+    return gb_look_missed(&gate, &own, ROOT, path, length, GB_FOLLOW, &found) == 0;
 }
 
 int peer_look(const char *path, size_t length)

@@ -35,7 +35,7 @@ static void *look(void *given)
     for (int i = 0; i < LOOKS; i++) {
         int answer = gb_look_fast(&looker->pass, ROOT, "/p/d/f", 6, GB_FOLLOW, &found);
         if (answer == GB_AGAIN)
-            answer = gb_look(&gate, &looker->pass, ROOT, "/p/d/f", 6, GB_FOLLOW, &found);
+            answer = gb_look_missed(&gate, &looker->pass, ROOT, "/p/d/f", 6, GB_FOLLOW, &found);
         looker->wrong += answer != ENOENT;
     }
     atomic_fetch_sub(&looking, 1);

@@ -83,7 +83,7 @@ static int look(const char *path, struct gb_found *found)
         return told(answer);
     }
     atomic_fetch_add(&by_lock[found->why <= GB_WHY_LINK ? found->why : 0], 1);
-    return told(gb_look(&gate, pass(), ROOT, path, len, GB_NO_FOLLOW, found));
+    return told(gb_look_missed(&gate, pass(), ROOT, path, len, GB_NO_FOLLOW, found));
 }
 
 /* The locked body of an open file, or of what a path leads to. Where what was found has gone since, the path is asked

@@ -196,6 +196,10 @@ impl Pass {
 
     /// Looks a path up, without the lock if the rows answer.
     pub fn look(&mut self, base: u64, path: &[u8], follow: Follow) -> Result<Found, Error> {
+        match self.look_fast(base, path, follow) {
+            Err(Error::Again(_)) => {}
+            answered => return answered,
+        }
         let call = |pass, found| unsafe {
             raw::gb_try_look(pass, base, text(path), path.len(), follow as u32, found)
         };

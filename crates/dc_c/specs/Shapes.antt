@@ -3,7 +3,7 @@ use Rattle.std.specs.Prelude.{◌≡◌, ◌⊎◌, ℕ, ℤ, length, List, Opti
 use Rattle.dc_cache.specs.Calls.{Request, Stamped}
 use Rattle.dc_cache.specs.Passes.{view}
 use Rattle.dc_cache.specs.declared.cache.Pass.{Pass}
-use Rattle.dc_hold.specs.Allowed.{Fast, How, Change, Taken, Read, MayFind, MayLook, MayCount, MayMake, MayTake, MayRead, MayLearn, MayShrink, IsFirst, IsSplit, read_over, bytes_told}
+use Rattle.dc_hold.specs.Allowed.{Fast, How, Change, Taken, Read, MayFind, MayLook, MayMake, MayTake, MayRead, MayLearn, MayShrink, IsFirst, IsSplit, read_over, bytes_told}
 use Rattle.dc_hold.specs.Numbers.{status_number, status_of_learn, status_of_sizes}
 use Rattle.dc_hold.specs.declared.hold.Hold.{Hold}
 use Rattle.dc_hold.specs.declared.status.Status.{Status}
@@ -21,9 +21,6 @@ LooksFast base path how = Answers Fast Found (MayFind base path how) (λ fast. S
 
 abbrev pub Looks : Request → Handle → Handle → ℤ → Found → Found → Type 0
 Looks call = Answers (Option Stamped) Found (MayLook call) (λ tried. Shows (tells_tried tried))
-
-abbrev pub Counts : Request → Handle → Handle → ℤ → Found → Found → Type 0
-Counts call = Answers (Option Stamped) Found (MayCount call) (λ tried. Shows (tells_tried tried))
 
 abbrev pub Makes : Request → Handle → Handle → ℤ → Found → Found → Type 0
 Makes call = Answers (Option Change) Found (MayMake call) (λ tried. Shows (tells_change tried))

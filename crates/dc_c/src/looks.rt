@@ -3,7 +3,7 @@
 ghost use Rattle.std.specs.Prelude.{◌≡◌, length, MatchOption};
 ghost use Rattle.dc_cache.specs.Calls.{look, stat, readlink, list};
 ghost use Rattle.dc_c.specs.Answering.{Refuses, Shows};
-ghost use Rattle.dc_c.specs.Shapes.{Counts, Lists, Looks, LooksFast, ReadsText};
+ghost use Rattle.dc_c.specs.Shapes.{Lists, Looks, LooksFast, ReadsText};
 ghost use Rattle.dc_hold.specs.Allowed.{bytes_told, read_over};
 ghost use Rattle.dc_hold.specs.Numbers.{follow_by};
 ghost use Rattle.dc_hold.specs.declared.status.Status.TheVariants.{BadArgument};
@@ -73,7 +73,7 @@ pub extern "C" fn gb_look_fast(
     tell(found, told_fast(&fast))
 }
 
-/// Where a path leads, under the lock if the rows don't answer.
+/// Where a path leads, by the tree, whose answers fill rows.
 #[unsafe(no_mangle)]
 pub extern "C" fn gb_try_look(
     alloc: Global,
@@ -107,7 +107,7 @@ pub extern "C" fn gb_try_stat(
     path: &[u8],
     found: &mut Found,
 ) -> i32
-    ensures counts { Counts (stat base path.now) pass.old pass.new result found.old found.new }
+    ensures counts { Looks (stat base path.now) pass.old pass.new result found.old found.new }
 {
     let Some(mut hold) = pass.take(alloc) else {
         return Status::BadPass.number();

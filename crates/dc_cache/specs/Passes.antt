@@ -6,8 +6,7 @@ use Rattle.dc_ops.specs.Asked as asked
 use Rattle.dc_plain.specs.declared.call.Call.{Call}
 use Rattle.dc_rows.specs.Outcomes as outcomes
 use Rattle.dc_table.specs.Shares as shares
-use Rattle.dc_table.specs.Changes.{NothingNew}
-use Rattle.dc_table.specs.Shares.{HasNotTried, Known, Share, tried}
+use Rattle.dc_table.specs.Shares.{Known, Share, tried}
 use Rattle.dc_walk.specs.Findings as walks
 use Rattle.dc_table.specs.declared.shared.Shared.{Shared}
 use Rattle.dc_cache.specs.declared.cache.Dcache.{Dcache}
@@ -45,11 +44,6 @@ SameCache p q = q.seat.table_id ≡ p.seat.table_id
 -- another pass has the lock: this one has tried for it once, and has done and seen nothing
 abbrev pub Missed : Pass → Pass → Type 0
 Missed p q = known q ≡ tried (known p)
-
--- another pass has the lock: this one has read rows, has tried for it once, and has recorded nothing; as it has not had it since, it has changed no row
-pub record ReadAndMissed (p q : Pass) : Type 0 where
-  pub nothing : NothingNew (view p) (view q)
-  pub once : HasNotTried (tried (known p)) (known q)
 
 -- so many rows were emptied: as many as were asked for, or all that were listed when the pass got the lock; the last of them, and no other
 abbrev pub Shrinks : ℕ → ℕ → Pass → Type 0

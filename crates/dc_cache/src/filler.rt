@@ -3,6 +3,7 @@
 ghost use Rattle.std.specs.Prelude.{◌≡◌, ◌≢◌, Some, IfSome};
 ghost use Rattle.dc_cache.specs.Fillings.{Fills, KnowsTruth, fills_none, fills_more, fills_keep};
 ghost use Rattle.dc_plain.specs.Facts.Label.{Text};
+ghost use Rattle.dc_index.specs.Hashed.{key_in};
 ghost use Rattle.dc_plain.specs.KeysShown.{key_shown};
 ghost use Rattle.dc_plain.specs.Trees.{told_of};
 ghost use Rattle.dc_rows.specs.Guards.{kept_by};
@@ -74,7 +75,7 @@ impl Filler<'_> {
 
     /// Fills the row of an entry that leads there, if one can be had.
     fn fill_entry(&mut self, key: &HashedKey<'_>, target: Option<Target>)
-        requires target { LeadsTo (kept_by self.old.guard).store (key_shown key.now.key) target }
+        requires target { LeadsTo (kept_by self.old.guard).store (key_in key.now) target }
         ensures fills { Fills self.old self.new }
         ensures stopped { self.new.stopped ≡ self.old.stopped }
     {

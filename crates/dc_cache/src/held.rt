@@ -127,24 +127,23 @@ pub(crate) fn look_further<R: Wait>(
     found
 }
 
-/// Answers a look-up as `look_held`, for a pass whose walk by rows has just given up. `None` if another pass
-/// has the lock.
+/// Answers a look-up as `look_held`, by the tree alone. `None` if another pass has the lock.
 pub(crate) fn try_further(
     shared: &Shared,
     alloc: Global,
     seat: &mut Seat,
-    room: &Room,
     look: dc_walk::Look<'_>,
 ) -> Option<Stamped>
     requires can { CanWalk shared.now seat.old }
-    requires noted { AreNoted (view seat.old) (share seat.old).rows room.now }
     ensures same { IsSamePass seat.old seat.new × IsIdle seat.new }
     ensures recorded { IfSome result (Records seat.old seat.new (look_shown look.entry)) }
     ensures held { IfNone result (known seat.new ≡ tried (known seat.old)) }
 {
+    // For the borrow checker it is made before the guard, whose lifetime it has.
+    let noted: Option<&Room> = None;
     match Guard::try_lock(shared, seat) {
         Ok(guard) => {
-            let (back, found) = look_held(guard, alloc, Some(room), look);
+            let (back, found) = look_held(guard, alloc, noted, look);
             let _seat = back;
             Some(found)
         }

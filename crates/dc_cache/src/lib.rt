@@ -52,15 +52,16 @@
 //! | `readlink`, `list` | yes | for the text or the names | `NoMemory` |
 //! | `change` | yes | for what it makes or moves | `NoMemory`, `Spent` |
 //! | `shrink` | yes | none | never |
-//! | `try_look` | never | for rows, as far as there is any | `None` |
+//! | `try_look`, after `look_fast` | never | for rows, as far as there is any | `None` |
 //! | `try_stat`, `try_shrink` | never | none | `None` |
 //! | `try_readlink`, `try_list` | never | for the text or the names | `None`, `NoMemory` |
 //! | `try_change` | never | for what it makes or moves | `None`, `NoMemory`, `Spent` |
 //! | `learn`, `split`, `join`, `close` | never | none | as said above and below |
 //! | `counts` | never | none | never |
 //!
-//! A `try_` call tries for the lock once. It answers `None` if another pass has it, and then nothing has
-//! changed; else it answers as the call that waits. `try_look` needs no lock if the rows answer.
+//! A `try_` call tries for the lock once. It answers `None` if another pass has it, and then nothing at
+//! all has changed; else it answers as the call that waits. `try_look` asks the tree for the whole path, so
+//! that a caller asks the rows first, by `look_fast`, which takes no lock.
 //!
 //! A call that waits takes `rt`, a runtime that can put a thread to sleep (the bound `Wait`); the type of
 //! a call without it says that it returns. A call that may take memory takes `alloc`, the allocator. Want

@@ -1,6 +1,6 @@
 //! Look-ups.
 
-ghost use Rattle.std.specs.Prelude.{◌≡◌, ◌≤◌, ◌+◌, [], true, None, Some};
+ghost use Rattle.std.specs.Prelude.{◌≡◌, ◌≤◌, ◌+◌, [], None, Some};
 ghost use Rattle.dc_cache.specs.Answers.{Answered};
 ghost use Rattle.dc_cache.specs.Passes.{buckets_of, known, view, share, Fits};
 ghost use Rattle.dc_names.specs.Paths.{fault_of};

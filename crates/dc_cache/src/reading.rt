@@ -2,7 +2,7 @@
 
 ghost use Rattle.std.specs.Prelude.{◌≡◌};
 ghost use Rattle.dc_cache.specs.Answers.{Answered, Told};
-ghost use Rattle.dc_cache.specs.Passes.{view, share, Fits};
+ghost use Rattle.dc_cache.specs.Passes.{share, Fits};
 ghost use Rattle.dc_ops.specs.Asked.{IsToldAtLength};
 ghost use Rattle.dc_plain.specs.Requests.{request_of};
 ghost use Rattle.dc_plain.specs.Requests.Request.{Stat, Readlink, List_names};

@@ -1,9 +1,9 @@
 //! The calls of a cache that nobody sleeps on. None of them has a way to wait, or to wake who waits.
 
-ghost use Rattle.std.specs.Prelude.{◌≡◌, ◌*◌, ◌+◌, ◌≤◌, ◌↔◌, [], true, false, Err, None, IsOk, IfOk, IfErr, IfSome, IfNone, IsSome};
+ghost use Rattle.std.specs.Prelude.{◌≡◌, ◌*◌, ◌+◌, ◌≤◌, ◌↔◌, [], false, Err, None, IsOk, IfOk, IfErr, IfSome, IfNone, IsSome};
 ghost use Rattle.dc_cache.specs.Answers.{Answered, IfFast, Loaded, Made, Told};
 ghost use Rattle.dc_cache.specs.Losses.{TakesAway};
-ghost use Rattle.dc_cache.specs.Passes.{buckets_of, known, view, share, FitsSleepless, Missed, ReadAndMissed, Shrinks};
+ghost use Rattle.dc_cache.specs.Passes.{buckets_of, known, view, share, FitsSleepless, Missed, Shrinks};
 ghost use Rattle.dc_events.specs.Rows.{most};
 ghost use Rattle.dc_names.specs.Tables.{fit_a_table};
 ghost use Rattle.dc_names.specs.declared.limits.TheConstants.{BUCKET_ROWS, MOST_LOADS};
@@ -147,9 +147,8 @@ impl Sleepless {
         }
     }
 
-    /// Where a path leads. It goes by the rows alone, else it asks the tree and fills the rows of the
-    /// path. `None` if the rows don't answer and another pass has the lock: then nothing is
-    /// recorded, and no row has changed.
+    /// Where a path leads, for a caller whose `look_fast` has given up, as `Dcache::try_look`. `None` if
+    /// another pass has the lock: then nothing at all has changed.
     #[must_use]
     pub fn try_look(
         &self,
@@ -162,7 +161,7 @@ impl Sleepless {
         requires pass { FitsSleepless self.now pass.old }
         ensures same { FitsSleepless self.now pass.new × (share pass.new ≡ share pass.old) }
         ensures answered { IfSome result (Answered pass.old pass.new (Look base path.now follow)) }
-        ensures held { IfNone result (ReadAndMissed pass.old pass.new) }
+        ensures held { IfNone result (Missed pass.old pass.new) }
     {
         let text = match parse(path) {
             Ok(text) => text,
@@ -171,11 +170,7 @@ impl Sleepless {
                 return Some(found);
             }
         };
-        let found = tries::look_briefly(&self.shared, pass, base, text, follow);
-        if found.is_some() {
-            return found;
-        }
-        tries::try_fill(&self.shared, alloc, pass, base, text, follow)
+        tries::try_look(&self.shared, alloc, pass, base, text, follow)
     }
 
     /// Makes a change, as `Dcache::change`. `None` if another pass has the lock: then nothing at all has

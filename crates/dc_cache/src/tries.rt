@@ -70,9 +70,8 @@ pub(crate) fn look_briefly(
     walk_briefly(shared.reader(), &mut pass.seat, &mut pass.room, look)
 }
 
-/// Where a path leads, for a pass whose walk by rows has just given up: by the rows in its room, as far as
-/// they lead, and by the tree, whose answers fill rows.
-pub(crate) fn try_fill(
+/// Where a path leads, by the tree, whose answers fill rows.
+pub(crate) fn try_look(
     shared: &Shared,
     alloc: Global,
     pass: &mut Pass,
@@ -81,14 +80,13 @@ pub(crate) fn try_fill(
     follow: Follow,
 ) -> Option<Stamped>
     requires pass { FitsTable shared.now pass.old }
-    requires noted { AreNoted (view pass.old) (share pass.old).rows pass.old.room }
     ensures same { FitsTable shared.now pass.new × (share pass.new ≡ share pass.old) }
     ensures answered { IfSome result (Answered pass.old pass.new
         (Look base path.entry.bytes.now follow)) }
     ensures held { IfNone result (Missed pass.old pass.new) }
 {
     let look = dc_walk::Look { base, path, follow };
-    try_further(shared, alloc, &mut pass.seat, &pass.room, look)
+    try_further(shared, alloc, &mut pass.seat, look)
 }
 
 /// Makes a change.

@@ -2,7 +2,7 @@
 
 ghost use Rattle.std.specs.Prelude.{◌≡◌, ◌≤◌, IfSome, IfNone};
 ghost use Rattle.dc_cache.specs.Answers.{Answered, Made, Told};
-ghost use Rattle.dc_cache.specs.Passes.{view, share, Fits, Missed, ReadAndMissed, Shrinks};
+ghost use Rattle.dc_cache.specs.Passes.{view, share, Fits, Missed, Shrinks};
 ghost use Rattle.dc_events.specs.Rows.{most};
 ghost use Rattle.dc_ops.specs.Asked.{IsChange};
 ghost use Rattle.dc_plain.specs.Requests.{request_of};
@@ -28,9 +28,10 @@ impl Dcache {
         tried
     }
 
-    /// Where a path leads. It goes by the rows alone, which takes no lock, else it asks the tree and
-    /// fills the rows of the path, so that the next look-up finds them. `None` if the rows don't answer
-    /// and another pass has the lock: then nothing is recorded, and no row has changed.
+    /// Where a path leads, for a caller whose `look_fast` has given up: it asks the tree for the whole
+    /// path, and fills its rows under the same hold of the lock, so that the next look-up finds them. A
+    /// text that is no path is refused without the lock. `None` if another pass has it: then nothing at
+    /// all has changed.
     #[must_use]
     pub fn try_look(
         &self,
@@ -43,17 +44,13 @@ impl Dcache {
         requires pass { Fits self.now pass.old }
         ensures same { Fits self.now pass.new × (share pass.new ≡ share pass.old) }
         ensures answered { IfSome result (Answered pass.old pass.new (Look base path.now follow)) }
-        ensures held { IfNone result (ReadAndMissed pass.old pass.new) }
+        ensures held { IfNone result (Missed pass.old pass.new) }
     {
         let text = match parse(path) {
             Ok(text) => text,
             Err(fault) => return Some(self.refuse(pass, base, path, follow, fault)),
         };
-        let found = tries::look_briefly(&self.shared, pass, base, text, follow);
-        if found.is_some() {
-            return found;
-        }
-        self.woken(tries::try_fill(&self.shared, alloc, pass, base, text, follow))
+        self.woken(tries::try_look(&self.shared, alloc, pass, base, text, follow))
     }
 
     /// Makes a change, as `change` does. `None` if another pass has the lock: then nothing at all has

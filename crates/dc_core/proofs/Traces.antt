@@ -6,7 +6,7 @@ use Rattle.dc_plain.specs.Requests.{Request, Answer}
 use Rattle.dc_events.specs.Views.{Walk}
 use Rattle.dc_events.specs.Walks.{walk_begun, walk_again, no_walk, walk_noted, walk_read, walk_turned, walk_marked}
 use Rattle.dc_events.specs.Noted.{answer_in}
-use Rattle.dc_core.specs.Machine.{State, Actor, Act, Event, Finished, after, after_all, clock_of, actor_at, done, concluding, settling, walking, next_word}
+use Rattle.dc_core.specs.Machine.{State, Actor, Act, Event, Finished, after, after_all, clock_of, actor_at, concluding, walking, next_word}
 use Rattle.dc_core.specs.Machine.Act.{Begin, Take, Shut, Write, Open, Commit, Give, Note, Read, Pivot, Check, Again, Quit}
 use Rattle.dc_core.specs.Spans.{Does, Makes, Spanned, moves_call, moves_pivot}
 use Rattle.dc_plain.specs.Runs.{alters}

@@ -1,6 +1,6 @@
 //! When an event is refused, and as what: the tests in their order.
 
-ghost use Rattle.std.specs.Prelude.{◌≡◌, ◌⊎◌, ◌↔◌, ◌<◌, ◌≤◌, true, false, length, IsTrue, IfOk, OnOk};
+ghost use Rattle.std.specs.Prelude.{◌≡◌, ◌↔◌, ◌<◌, ◌≤◌, true, false, length, IsTrue, IfOk, OnOk};
 ghost use Rattle.dc_core.specs.Machine.{actor_at, event_by};
 ghost use Rattle.dc_core.specs.Machine.Act.{Begin, Take, Shut, Write, Open, Commit, Give, Note as Noting, Read, Pivot, Check, Again, Quit};
 ghost use Rattle.dc_core.specs.Refusals.{AtOddRow, WithCall, MayBeOpened, MayBeMade, Passes, IsEmptyAtLast};

@@ -1,6 +1,6 @@
 //! The core: every event is done or refused.
 
-ghost use Rattle.std.specs.Prelude.{◌≡◌, ◌<◌, ◌≤◌, ◌*◌, ◌↔◌, false, Err, IfOk, IfErr, OnOk, OnErr, map};
+ghost use Rattle.std.specs.Prelude.{◌≡◌, ◌<◌, ◌*◌, ◌↔◌, false, Err, IfOk, IfErr, OnOk, OnErr, map};
 ghost use Rattle.dc_core.specs.Listed.{AllDone, AreSpanned, IsNew, StopsFor, done_of};
 ghost use Rattle.dc_core.specs.Machine.{after, after_all, clock_of, opening};
 ghost use Rattle.dc_core.specs.Lives.{Lives, AreLegal};

@@ -1,5 +1,5 @@
 -- A new table keeps the rule.
-use Rattle.std.proofs.Common.{◌≡◌, ℕ, zero, suc, ◌*◌, ◌<◌, List, [], ◌∷◌, length, get_or, replicate, None, refl, sym, ap, ap₂, ◌∙◌, subst, inl, arith, true≢false, zero-add, le-ltb, cond}
+use Rattle.std.proofs.Common.{◌≡◌, ℕ, zero, suc, ◌*◌, List, [], ◌∷◌, length, get_or, replicate, None, refl, sym, ap, ap₂, ◌∙◌, subst, inl, arith, true≢false, zero-add, le-ltb, cond}
 use Rattle.std.proofs.lemmas.List.{length-replicate}
 use mathlib.Core.Option.{some, some-injective, some-ne-none}
 use lib.ListN.{get_elem?}

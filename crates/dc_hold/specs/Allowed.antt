@@ -14,7 +14,7 @@ use Rattle.dc_walk.specs.declared.answer.Fast as walk
 use Rattle.dc_cache.specs.Answers.{Answered, IfFast, Loaded, Made, Told}
 use Rattle.dc_cache.specs.Calls.{Request, Stamped, look}
 use Rattle.dc_cache.specs.Losses.{TakesAway}
-use Rattle.dc_cache.specs.Passes.{buckets_of, known, view, Missed, ReadAndMissed, SameCache, Shrinks}
+use Rattle.dc_cache.specs.Passes.{buckets_of, known, view, Missed, SameCache, Shrinks}
 use Rattle.dc_cache.specs.declared.cache.Pass.{Pass}
 use Rattle.dc_cache.specs.declared.gone.Gone as cache
 use Rattle.dc_hold.specs.Numbers.{bytes_of}
@@ -44,13 +44,9 @@ pub record MayFind (base : ℕ) (path : List ℕ) (how : How) (p q : Pass) (fast
   pub untried : HasNotTried (known p) (known q)
   pub loads : (view q).loads ≤ (view p).loads + MOST_LOADS
 
--- a look-up that may ask the tree
+-- a look-up that asks the tree, or a count, whose answers take no memory
 abbrev pub MayLook : Request → Pass → Pass → Option Stamped → Type 0
-MayLook call p q tried = MatchOption tried (ReadAndMissed p q) (Answered p q call)
-
--- a read whose answer takes no memory
-abbrev pub MayCount : Request → Pass → Pass → Option Stamped → Type 0
-MayCount call p q tried = MatchOption tried (Missed p q) (Answered p q call)
+MayLook call p q tried = MatchOption tried (Missed p q) (Answered p q call)
 
 -- a change
 abbrev pub Change : Type 0

@@ -5,7 +5,7 @@ ghost use Rattle.std.specs.Arc.{arc_value};
 ghost use Rattle.dc_cache.specs.Answers.{Answered, Loaded, Made, Told};
 ghost use Rattle.dc_cache.specs.Calls.{look, stat, readlink, list, request_of};
 ghost use Rattle.dc_cache.specs.Losses.{TakesAway};
-ghost use Rattle.dc_cache.specs.Passes.{view, FitsSleepless, IsChange, Missed, ReadAndMissed, Shrinks};
+ghost use Rattle.dc_cache.specs.Passes.{view, FitsSleepless, IsChange, Missed, Shrinks};
 ghost use Rattle.dc_hold.specs.Allowed.{IsFirst, IsSplit, MayFind};
 ghost use Rattle.dc_hold.specs.Fitting.{fits_prop};
 ghost use Rattle.dc_hold.specs.Numbers.{status_of_sizes};
@@ -106,7 +106,7 @@ impl Hold {
     ) -> Option<Stamped>
         ensures answered { IfSome result
             (Answered self.old.pass self.new.pass (look base path.now follow)) }
-        ensures held { IfNone result (ReadAndMissed self.old.pass self.new.pass) }
+        ensures held { IfNone result (Missed self.old.pass self.new.pass) }
     {
         self.common
             .cache

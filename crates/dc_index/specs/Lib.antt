@@ -2,3 +2,4 @@
 pub mod Slots
 pub mod OwnKeys
 pub mod Choices
+pub mod Hashed

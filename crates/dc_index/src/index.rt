@@ -2,6 +2,7 @@
 
 ghost use Rattle.std.specs.Prelude.{◌≡◌, ◌<◌, ◌≤◌, ◌*◌, ◌/◌, ◌%◌, ◌≢◌, ℕ, OnOk, OnErr, IfOk, IfSome, length, replicate, slice_set, map};
 ghost use Rattle.dc_names.specs.declared.limits.TheConstants.{MOST_TABLE_BUCKETS};
+ghost use Rattle.dc_index.specs.Hashed.{key_in};
 ghost use Rattle.dc_plain.specs.KeysShown.{key_shown};
 ghost use Rattle.dc_index.specs.Slots.{slot_of, has_key, most_text, cleared, bucket_in, IsIndex, IsRowOf};
 ghost use Rattle.dc_index.specs.Slots.Slot.{Free as IsFree, Retired as IsRetired, Holds};
@@ -63,7 +64,7 @@ impl Index {
 
     /// The bucket of a key.
     fn bucket(&self, key: &HashedKey<'_>) -> u64
-        ensures bucket { result ≡ bucket_in self.now (key_shown key.now.key) }
+        ensures bucket { result ≡ bucket_in self.now (key_in key.now) }
         ensures within { result < length self.now / BUCKET_ROWS }
     {
         key.bucket(self.slots.len() as u64 / BUCKET_ROWS)
@@ -92,7 +93,7 @@ impl Index {
     /// The row that has a key, for a caller that has its hash.
     #[must_use]
     pub fn row_of_hashed(&self, key: &HashedKey<'_>) -> Option<u64>
-        ensures row { IsRowOf self.now (key_shown key.now.key) result }
+        ensures row { IsRowOf self.now (key_in key.now) result }
         ensures valid { IsIndex self.now }
     {
         let bucket = self.bucket(key);
@@ -133,9 +134,9 @@ impl Index {
     /// its bucket's least recently used unpinned row, or `None`.
     #[must_use]
     pub fn choose(&self, shrinker: &Shrinker, key: &HashedKey<'_>) -> Option<u64>
-        requires { AgreeIn (bucket_in self.now (key_shown key.now.key)) self.now shrinker.now }
-        ensures choice { result ≡ choice self.now shrinker.now (key_shown key.now.key) }
-        ensures safe { IfSome result (MayTake self.now shrinker.now (key_shown key.now.key)) }
+        requires { AgreeIn (bucket_in self.now (key_in key.now)) self.now shrinker.now }
+        ensures choice { result ≡ choice self.now shrinker.now (key_in key.now) }
+        ensures safe { IfSome result (MayTake self.now shrinker.now (key_in key.now)) }
         ensures within { IfSome result (λ row. row < length self.now) }
     {
         let bucket = self.bucket(key);

@@ -1,16 +1,10 @@
 -- Changes that make a new inode.
-use Rattle.std.specs.Prelude.{ℕ, [], ◌∷◌, List, Bool, true, false, Result, Ok, is_some, nat_le}
-use Rattle.dc_names.specs.declared.limits.TheConstants.{MOST_NAMES}
+use Rattle.std.specs.Prelude.{ℕ, [], ◌∷◌, List, Bool, true, false, Result}
 use Rattle.dc_names.specs.declared.name.Name as rust_name
 use Rattle.dc_names.specs.declared.refusal.Refusal.{Refusal}
-use Rattle.dc_names.specs.declared.refusal.Refusal.TheVariants.{NotPermitted, NotFound, Exists, NotDirectory, TooManyNames}
 use Rattle.dc_plain.specs.declared.spot.Where as rust_where
-use Rattle.dc_plain.specs.Effects.{with_entry_for}
-use Rattle.dc_plain.specs.Facts.Label.{Entry}
-use Rattle.dc_plain.specs.Refusals.{◌>>=◌, present, refuse}
-use Rattle.dc_plain.specs.Requests.Answer.{Done}
-use Rattle.dc_plain.specs.Resolution.{is_directory}
-use Rattle.dc_plain.specs.Trees.{Tree, Inode, entry_of, names_of}
+use Rattle.dc_plain.specs.Planned.{link_from}
+use Rattle.dc_plain.specs.Trees.{Tree, Inode}
 use Rattle.dc_plain.specs.Trees.Inode.{Directory, Regular, Symbolic}
 use Rattle.dc_plain.specs.Operations.{Change, make}
 use Rattle.dc_plain.specs.TouchedKeys.{at_name, entry_key}
@@ -48,17 +42,6 @@ abbrev pub SettlesMade : ℕ → Tree → ℕ → List ℕ → rust_new.New → 
 SettlesMade limit t base text new found =
     Settles t (made_for limit t base text new) (at_name t base text (λ d name. entry_key d name ∷ keys_made t.next new)) found
 
--- a further name of what stands at a name, each in the place of its path
-abbrev pub link_from : Tree → rust_where.Where → rust_name.Name → rust_where.Where → rust_name.Name → Change
-link_from t from old to new = do
-  inode ← present NotFound (entry_of t from.dir (Entry old.bytes.now))
-  no_directory ← refuse (is_directory inode) NotPermitted
-  old_ends ← refuse from.slash NotDirectory
-  free ← refuse (is_some (entry_of t to.dir (Entry new.bytes.now))) Exists
-  new_ends ← refuse to.slash NotFound
-  room ← refuse (nat_le MOST_NAMES (names_of t inode.0)) TooManyNames
-  Ok (Done inode.0, with_entry_for t to.dir new.bytes.now inode.0)
-
--- comes to a plan with the key of the new name, or to its refusal
+-- a further name of what stands at a name comes to a plan with the key of the new name, or to its refusal
 abbrev pub SettlesLink : Tree → rust_where.Where → rust_name.Name → rust_where.Where → rust_name.Name → Result rust_plan.Plan Refusal → Type 0
-SettlesLink t from old to new found = Settles t (link_from t from old to new) (entry_key to.dir new.bytes.now ∷ []) found
+SettlesLink t from old to new found = Settles t (link_from from old to new t) (entry_key to.dir new.bytes.now ∷ []) found

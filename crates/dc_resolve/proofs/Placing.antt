@@ -1,5 +1,5 @@
 -- The place of a path by its front.
-use Rattle.std.proofs.Common.{◌≡◌, ℕ, ◌-◌, ◌≤◌, List, [], ◌∷◌, ◌++◌, false, Option, Some, None, length, slice_get, take, refl, ap, sym, subst, ◌∙◌}
+use Rattle.std.proofs.Common.{◌≡◌, ℕ, ◌-◌, ◌≤◌, List, [], ◌∷◌, ◌++◌, false, Option, Some, None, length, slice_get, take, refl, ap, sym, ◌∙◌}
 use Rattle.dc_names.specs.Lasts.{last_part}
 use Rattle.dc_names.specs.Paths.{Part, begins_with_slash, has_end_slash, parts_of, path_in}
 use Rattle.dc_plain.specs.declared.call.Follow.TheVariants as follow

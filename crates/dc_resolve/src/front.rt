@@ -1,6 +1,6 @@
 //! A path in two: its last component, and the bytes before it.
 
-ghost use Rattle.std.specs.Prelude.{◌≡◌, ◌∷◌, ◌++◌, ◌-◌, ◌≤◌, [], length, drop, false, IsTrue, IfSome, IfNone};
+ghost use Rattle.std.specs.Prelude.{◌≡◌, ◌∷◌, ◌++◌, ◌-◌, [], false, IsTrue, IfSome, IfNone};
 ghost use Rattle.dc_names.specs.Bytes.{has_parts};
 ghost use Rattle.dc_names.specs.Names.{part_shown};
 ghost use Rattle.dc_names.specs.Paths.{ends_in_slash, parts_of};

@@ -1,11 +1,9 @@
 -- A row that is written anew: emptied, or filled for another key.
 use Rattle.std.specs.Prelude.{◌≡◌, ◌≢◌, ◌⊎◌, ◌↔◌, ℕ, ◌+◌, ◌<◌, ◌≤◌, Bool, true, false, if◌then◌else◌, List, length, get_or, slice_set}
 use Rattle.dc_plain.specs.Facts.{Key}
-use Rattle.dc_plain.specs.KeysShown.{key_shown}
 use Rattle.dc_plain.specs.Trees.{Tree}
 use Rattle.dc_names.specs.declared.limits.TheConstants.{ROW_WORDS}
 use Rattle.dc_row.specs.declared.TheConstants.{EMPTY_ROW}
-use Rattle.dc_index.specs.declared.hashed.HashedKey.{HashedKey}
 use Rattle.dc_index.specs.Slots.{Slot, slot_of}
 use Rattle.dc_index.specs.Slots.Slot.{Free, Retired, Holds as Held}
 use Rattle.dc_shrink.specs.Listings.{Listing, dropped}
@@ -15,10 +13,6 @@ use Rattle.dc_table.specs.Rows.{Rest, cell, is_retired}
 use Rattle.dc_table.specs.Changes.{tree_now, words_of}
 use Rattle.dc_table.specs.Passes.{Pass, share}
 use Rattle.dc_table.specs.declared.table.Guarded.{Guarded}
-
--- the key that stands with its hash
-abbrev pub key_in : HashedKey → Key
-key_in hashed = key_shown hashed.key
 
 -- one row was shut, written and opened: with these words, or empty where that was its last opening
 pub record Redone (before after : List ℕ) (row : ℕ) (words : List ℕ) (more : Bool) : Type 0 where

@@ -1,7 +1,7 @@
 //! Calls that get the lock, do one thing under it, and give it back.
 
+ghost use Rattle.dc_index.specs.Hashed.{key_in};
 ghost use Rattle.dc_ops.specs.Asked.{IsChange};
-ghost use Rattle.dc_rows.specs.Filling.{key_in};
 ghost use Rattle.dc_plain.specs.Requests.{request_of};
 ghost use Rattle.dc_rows.specs.Outcomes.{MakesAlone, Pins, Shrinks, UnpinsOnce};
 ghost use Rattle.dc_table.specs.Changes.{NothingNew, Rested};

@@ -1,19 +1,19 @@
 //! Changes of the tree, from the plan to the answer.
 
-ghost use Rattle.std.specs.Prelude.{◌≡◌, ◌<◌, ◌≤◌, length, IsOk, IfOk, IfErr, IfSome, OnErr};
+ghost use Rattle.std.specs.Prelude.{◌≡◌, ◌<◌, length, IsOk, IfOk, IfSome, OnErr};
 ghost use Rattle.dc_events.specs.Rows.{most};
 ghost use Rattle.dc_ops.specs.Asked.{IsChange};
 ghost use Rattle.dc_ops.specs.Knowing.{IsKnownOn};
 ghost use Rattle.dc_ops.specs.Plans.{CallTakesNoMemory, Plans};
 ghost use Rattle.dc_plain.specs.IsWellFormed.{IsWellFormed};
 ghost use Rattle.dc_plain.specs.Requests.{request_of, answer_of};
-ghost use Rattle.dc_rows.specs.Changes.{Altered, Failed, OnlyWrites};
+ghost use Rattle.dc_rows.specs.Changes.{Altered, OnlyWrites};
 ghost use Rattle.dc_rows.specs.Guards.{kept_by, seat_of};
 ghost use Rattle.dc_rows.specs.Outcomes.{IsBack, MakesHeld};
 ghost use Rattle.dc_rows.specs.Refills.{Retells};
-ghost use Rattle.dc_table.specs.Changes.{IsTaken, Recorded, tree_now};
+ghost use Rattle.dc_table.specs.Changes.{IsTaken, tree_now};
 ghost use Rattle.dc_table.specs.Holders.{pass_of};
-ghost use Rattle.dc_table.specs.Passes.{known, view, share, IsSamePass, IsIdle};
+ghost use Rattle.dc_table.specs.Passes.{known, view, share};
 ghost use Rattle.dc_table.specs.Plays.{Home};
 
 use crate::fault::ChangeFault;

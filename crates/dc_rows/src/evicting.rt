@@ -5,7 +5,7 @@ ghost use Rattle.dc_events.specs.Rows.{base_of};
 ghost use Rattle.dc_index.specs.Slots.{slot_of, has_key};
 ghost use Rattle.dc_rows.specs.Changes.{KeepsTree, OnlyWrites, RestAt};
 ghost use Rattle.dc_rows.specs.Filling.{Redone, Emptied};
-ghost use Rattle.dc_rows.specs.Guards.{seat_of, kept_by, rows_of, Keeps};
+ghost use Rattle.dc_rows.specs.Guards.{kept_by, rows_of, Keeps};
 ghost use Rattle.dc_rows.specs.Narrow.{HasFrom};
 ghost use Rattle.dc_rows.specs.RowChanges.{EmptiesLast, EmptiesRow};
 ghost use Rattle.dc_rows.specs.Rows.{MayTell};

@@ -1,6 +1,6 @@
 //! What a row tells of a key.
 
-ghost use Rattle.std.specs.Prelude.{◌≡◌, IfNone, IfSome};
+ghost use Rattle.std.specs.Prelude.{IfNone, IfSome};
 ghost use Rattle.dc_plain.specs.KeysShown.{key_shown};
 ghost use Rattle.dc_plain.specs.Trees.{Tree};
 ghost use Rattle.dc_rows.specs.RowChanges.{CanTell, LeadsTo};

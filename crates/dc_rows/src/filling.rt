@@ -1,12 +1,13 @@
 //! Rows are filled for keys under the lock.
 
 ghost use Rattle.std.specs.Prelude.{◌≡◌, false, None, IfOk, IfSome};
+ghost use Rattle.dc_index.specs.Hashed.{key_in};
 ghost use Rattle.dc_index.specs.Slots.{slot_of, IsRowOf};
 ghost use Rattle.dc_index.specs.Slots.Slot.{Holds as Held};
 ghost use Rattle.dc_plain.specs.KeysShown.{key_shown};
 ghost use Rattle.dc_row.specs.declared.TheConstants.{EMPTY_ROW};
 ghost use Rattle.dc_rows.specs.Changes.{KeepsTree, OnlyWrites, RestAt};
-ghost use Rattle.dc_rows.specs.Filling.{key_in, GivenAt, without_use};
+ghost use Rattle.dc_rows.specs.Filling.{GivenAt, without_use};
 ghost use Rattle.dc_rows.specs.Guards.{kept_by, rows_of, Keeps};
 ghost use Rattle.dc_rows.specs.Narrow.{HasFrom};
 ghost use Rattle.dc_rows.specs.Outcomes.{Fills};

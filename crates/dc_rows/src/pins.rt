@@ -1,9 +1,9 @@
 //! Rows are pinned while a walk reads them, so that no other key gets them meanwhile.
 
 ghost use Rattle.std.specs.Prelude.{◌≡◌, ◌<◌, IfOk, IfSome, IsTrue};
+ghost use Rattle.dc_index.specs.Hashed.{key_in};
 ghost use Rattle.dc_rows.specs.Changes.{KeepsTree, OnlyWrites, RestAt};
-ghost use Rattle.dc_rows.specs.Filling.{key_in};
-ghost use Rattle.dc_rows.specs.Guards.{seat_of, kept_by, rows_of, Keeps};
+ghost use Rattle.dc_rows.specs.Guards.{seat_of, rows_of, Keeps};
 ghost use Rattle.dc_rows.specs.RowChanges.{Gets, PinsOnce, UnpinsAll, UnpinsRow};
 ghost use Rattle.dc_shrink.specs.Listings.{is_used};
 ghost use Rattle.dc_shrink.specs.Uses.{KeepsUse};

@@ -1,6 +1,6 @@
 //! From bytes to bytes.
 
-ghost use Rattle.std.specs.Prelude.{◌≡◌, ◌↔◌, true, false, Err, IsOk, OnOk, IfOk, IfErr, IsErrOf};
+ghost use Rattle.std.specs.Prelude.{◌≡◌, ◌↔◌, false, Err, OnOk, IfOk, IfErr, IsErrOf};
 ghost use Rattle.dc_names.specs.Sizes.{are_right};
 ghost use Rattle.dc_lang.specs.Commands.{said_by};
 ghost use Rattle.dc_serve.specs.Endings.{Answers, AnswersPlainly, EndsBy, IsInputFault, Reads, streams};

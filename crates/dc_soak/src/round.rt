@@ -14,6 +14,7 @@ use dc_cache::{Dcache, Ended, MakeFault, Pass};
 use dc_check::{Stamp, Verdict, check};
 use dc_names::NoMemory;
 use std::alloc::Global;
+use std::error::Error;
 use std::fmt;
 use std::sync::Wait;
 use std::thread::Threads;
@@ -46,7 +47,7 @@ pub struct Round {
 }
 
 /// What is wrong about a cache.
-#[derive(Drop)]
+#[derive(Debug, Drop)]
 pub enum Wrong {
     /// The line of this stamp, counted from 1, is the first that no plain tree explains.
     Record(u64, Option<Stamp>),
@@ -74,6 +75,8 @@ impl fmt::Display for Wrong {
         }
     }
 }
+
+impl Error for Wrong {}
 
 /// What is left of a round that was played.
 #[derive(Drop)]

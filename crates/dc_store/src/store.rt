@@ -1,6 +1,6 @@
 //! What a store of inodes and entries does, as calls on a plain tree.
 
-ghost use Rattle.std.specs.Prelude.{◌≡◌, ℕ, None, Some, length, option_map, IsTrue, IfSome, IfOk, OnOk, OnErr};
+ghost use Rattle.std.specs.Prelude.{◌≡◌, None, Some, length, option_map, IsTrue, IfSome, IfOk, OnOk, OnErr};
 ghost use Rattle.dc_names.specs.Hash.{hash_of};
 ghost use Rattle.dc_names.specs.Paths.{fault_of};
 ghost use Rattle.dc_plain.specs.BytesShown.{names_shown};

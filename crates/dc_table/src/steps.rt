@@ -3,7 +3,6 @@
 ghost use Rattle.std.specs.Prelude.{◌≡◌, ◌+◌, ◌<◌, false, true, IfSome, IfNone, IfOk, IfErr};
 ghost use Rattle.dc_events.specs.Effects.{wrote, gave};
 ghost use Rattle.dc_events.specs.Rows.{base_of};
-ghost use Rattle.dc_events.specs.Standing.{tree_of};
 ghost use Rattle.dc_plain.specs.Requests.{request_of};
 ghost use Rattle.dc_plain.specs.Runs.{alters};
 ghost use Rattle.dc_names.specs.declared.limits.TheConstants.{ROW_WORDS as row_words};

@@ -1,6 +1,6 @@
 //! The steps of a walk without the lock. None waits. Each is the event of its name.
 
-ghost use Rattle.std.specs.Prelude.{◌≡◌, ◌≢◌, ◌%◌, ◌/◌, ◌+◌, ◌<◌, ◌≤◌, false, IfOk, IfErr, OnOk};
+ghost use Rattle.std.specs.Prelude.{◌≡◌, ◌≢◌, ◌%◌, ◌/◌, ◌<◌, ◌≤◌, IfOk, IfErr, OnOk};
 ghost use Rattle.dc_events.specs.Effects.{quit, noted, read, pivoted, checked, faulted};
 ghost use Rattle.dc_events.specs.Views.Fault.{Busy};
 ghost use Rattle.dc_plain.specs.Requests.{request_of};

@@ -210,7 +210,7 @@ fn is_tried(alloc: Global, cache: &Dcache, pass: &mut Pass, tried: &Tried<'_>) -
 }
 
 /// Whether a walk by the rows alone, or a step that never waits, comes to what it should.
-fn is_soon(alloc: Global, cache: &Dcache, pass: &mut Pass, step: &Step<'_>) -> bool
+pub fn is_soon(alloc: Global, cache: &Dcache, pass: &mut Pass, step: &Step<'_>) -> bool
     requires { Fits cache.now pass.old }
     ensures { Fits cache.now pass.new }
 {

@@ -5,7 +5,7 @@ ghost use Rattle.dc_cache.specs.Passes.{Fits, FitsSleepless};
 
 use crate::answers::{Want, mkdir};
 use crate::passes::fill;
-use crate::steps::{Act, Step, Tried, is_changed, is_found, play, play_anew};
+use crate::steps::{Act, Step, Tried, is_changed, is_found, is_soon, play, play_anew};
 use dc_cache::{Dcache, Follow, Kind, Pass, ROOT, Sleepless, Why};
 use std::alloc::Global;
 use std::sync::Wait;
@@ -60,9 +60,8 @@ fn is_none(alloc: Global, cache: &Dcache, pass: &mut Pass, asked: Asked) -> bool
 {
     match asked {
         Asked::Change => cache.try_change(alloc, pass, &mkdir(b"/a00/a")).is_none(),
-        // A name of this length has no row, so that the tree is asked each time.
         Asked::Look => cache
-            .try_look(alloc, pass, ROOT, &[b'n'; 33], Follow::Yes)
+            .try_look(alloc, pass, ROOT, b"/n", Follow::Yes)
             .is_none(),
         Asked::Stat => cache.try_stat(pass, ROOT, b"/").is_none(),
         Asked::Readlink => cache.try_readlink(alloc, pass, ROOT, b"/").is_none(),
@@ -71,14 +70,14 @@ fn is_none(alloc: Global, cache: &Dcache, pass: &mut Pass, asked: Asked) -> bool
     }
 }
 
-/// Whether look-ups that ask no question, and so need no lock, are answered.
+/// Whether look-ups that need no lock are answered: one by the rows alone, and one of a text that is no path.
 fn is_answered(alloc: Global, cache: &Dcache, pass: &mut Pass) -> bool
     requires { Fits cache.now pass.old }
     ensures { Fits cache.now pass.new }
 {
-    let root = cache.try_look(alloc, pass, ROOT, b"/..", Follow::Yes);
+    let root = Step::Fast(b"/..", Want::Found(1, Kind::Dir), FILES);
     let none = cache.try_look(alloc, pass, ROOT, b"", Follow::Yes);
-    is_found(&root, Want::Found(1, Kind::Dir), FILES) && is_found(&none, Want::Refused(2), FILES)
+    is_soon(alloc, cache, pass, &root) && is_found(&none, Want::Refused(2), FILES)
 }
 
 /// Tries a call until another pass has the lock, and says whether it came to that, and whether look-ups

@@ -2,7 +2,7 @@
 
 ghost use Rattle.std.specs.Prelude.{◌≤◌, IfOk};
 ghost use Rattle.dc_cache.specs.Answers.{Answered};
-ghost use Rattle.dc_cache.specs.Passes.{view, Fits};
+ghost use Rattle.dc_cache.specs.Passes.{Fits};
 ghost use Rattle.dc_cache.specs.Calls.{look};
 
 use dc_cache::{Dcache, Follow, NotYet, Pass, ROOT, Stamped};

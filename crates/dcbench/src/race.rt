@@ -6,7 +6,6 @@
 //! as it is seen from there, and only one of them has the file, so that the path through the link
 //! always leads to it.
 
-ghost use Rattle.std.specs.Prelude.{◌≡◌};
 ghost use Rattle.dc_cache.specs.Passes.{Fits};
 
 use crate::gate::Gate;

@@ -2,7 +2,6 @@
 //! so that no check ends one.
 
 ghost use Rattle.std.specs.Prelude.{◌≡◌, ◌<◌, [], ◌∷◌, IfSome};
-ghost use Rattle.dc_plain.specs.Requests.{request_of};
 ghost use Rattle.dc_plain.specs.Requests.Request.{Stat};
 ghost use Rattle.dc_table.specs.Passes.{view, share};
 ghost use Rattle.dc_walk.specs.Findings.{CanWalk};

@@ -1,5 +1,5 @@
-use Rattle.std.proofs.Common.{◌≡◌, refl, sym, ap, ◌∙◌}
-use Rattle.dc_index.specs.Slots.{has_key, slot_of}
+use Rattle.std.proofs.Common.{◌≡◌, sym, ap, ◌∙◌}
+use Rattle.dc_index.specs.Slots.{has_key}
 use Rattle.dc_index.specs.Slots.Slot.{Retired}
 use Rattle.dc_shrink.specs.Listings.{is_used}
 use Rattle.dc_table_tests.proofs.Agreeing.{slot_set}

@@ -1,4 +1,4 @@
-use Rattle.std.proofs.Common.{◌≡◌, ◌+◌, ◌<◌, ◌++◌, [], ◌∷◌, ap, sym, ◌∙◌, subst, set, get_or, length, map, rules, arith, true, false, OnOk, OnErr}
+use Rattle.std.proofs.Common.{set, false}
 use Rattle.dc_core.specs.Shown.{state_of}
 use Rattle.dc_core.proofs.Acted.{acted}
 use Rattle.dc_core.proofs.state.State.do_give.Goals as goal

@@ -1,5 +1,4 @@
 use Rattle.std.proofs.Common.{ap, subst, false, ◌∙◌}
-use Rattle.dc_shrink.specs.Listings.{Listing}
 use Rattle.dc_shrink.specs.Uses.{SetsUse}
 use Rattle.dc_rows.proofs.Placed.{keyed_within, keyed_open, placed_empty}
 use Rattle.dc_rows.proofs.Stages.{rest_on}
