@@ -7,7 +7,6 @@ ghost use Rattle.dc_plain.specs.Requests.Request.{Look};
 
 use crate::cache::{Dcache, Pass};
 use crate::held::look_further;
-use crate::tries;
 use dc_names::{PathText, parse};
 use dc_plain::{Follow, Stamped};
 use std::alloc::Global;
@@ -34,7 +33,7 @@ impl Dcache {
             Ok(text) => text,
             Err(fault) => return self.refuse(pass, base, path, follow, fault),
         };
-        if let Some(stamped) = tries::look_briefly(&self.shared, pass, base, text, follow) {
+        if let Some(stamped) = self.look_briefly(pass, base, text, follow) {
             return stamped;
         }
         let look = dc_walk::Look {

@@ -1,14 +1,13 @@
 //! What is done under one hold of the lock. Each hands the pass back as the lock is given back.
 
-ghost use Rattle.std.specs.Prelude.{◌≡◌, ℕ, IfSome, IfNone};
+ghost use Rattle.std.specs.Prelude.{ℕ, IfSome};
 ghost use Rattle.dc_cache.specs.Holds.{HandsBack, Records, RecordsOne, TellsOne};
 ghost use Rattle.dc_ops.specs.Asked.{IsSought, IsToldAtLength};
 ghost use Rattle.dc_ops.specs.Settled.{DeclinesCall};
 ghost use Rattle.dc_plain.specs.Requests.{request_of};
 ghost use Rattle.dc_rows.specs.Guards.{seat_of, kept_by};
 ghost use Rattle.dc_table.specs.Changes.{IsTaken};
-ghost use Rattle.dc_table.specs.Passes.{known, view, share, IsIdle, IsSamePass};
-ghost use Rattle.dc_table.specs.Shares.{tried};
+ghost use Rattle.dc_table.specs.Passes.{view, share, IsIdle, IsSamePass};
 ghost use Rattle.dc_walk.specs.Findings.{CanWalk};
 ghost use Rattle.dc_walk.specs.Looks.{look_shown};
 ghost use Rattle.dc_walk.specs.Placing.{AreNoted};
@@ -121,32 +120,8 @@ pub(crate) fn look_further<R: Wait>(
 {
     let guard = Guard::lock(shared, rt, seat);
     let (back, found) = look_held(guard, alloc, noted, look);
-    // For the proof, here and below: the seat is back as it is bound.
+    // For the proof: the seat is back as it is bound.
     let _seat = back;
     shared.wake();
     found
-}
-
-/// Answers a look-up as `look_held`, by the tree alone. `None` if another pass has the lock.
-pub(crate) fn try_further(
-    shared: &Shared,
-    alloc: Global,
-    seat: &mut Seat,
-    look: dc_walk::Look<'_>,
-) -> Option<Stamped>
-    requires can { CanWalk shared.now seat.old }
-    ensures same { IsSamePass seat.old seat.new × IsIdle seat.new }
-    ensures recorded { IfSome result (Records seat.old seat.new (look_shown look.entry)) }
-    ensures held { IfNone result (known seat.new ≡ tried (known seat.old)) }
-{
-    // For the borrow checker it is made before the guard, whose lifetime it has.
-    let noted: Option<&Room> = None;
-    match Guard::try_lock(shared, seat) {
-        Ok(guard) => {
-            let (back, found) = look_held(guard, alloc, noted, look);
-            let _seat = back;
-            Some(found)
-        }
-        Err(_seat) => None,
-    }
 }

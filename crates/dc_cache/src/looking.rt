@@ -1,14 +1,16 @@
 //! Look-ups.
 
-ghost use Rattle.std.specs.Prelude.{◌≡◌, ◌≤◌, ◌+◌, [], None, Some};
+ghost use Rattle.std.specs.Prelude.{◌≡◌, ◌≤◌, ◌+◌, [], None, Some, IfSome, IfNone};
 ghost use Rattle.dc_cache.specs.Answers.{Answered};
 ghost use Rattle.dc_cache.specs.Passes.{buckets_of, known, view, share, Fits};
 ghost use Rattle.dc_names.specs.Paths.{fault_of};
 ghost use Rattle.dc_plain.specs.Facts.{told_by};
 ghost use Rattle.dc_plain.specs.Requests.Request.{Look};
+ghost use Rattle.dc_table.specs.Changes.{NothingNew};
 ghost use Rattle.dc_table.specs.Shares.{HasNotTried};
 ghost use Rattle.dc_walk.specs.Fasts.{Keeps, IfAgain, Tried};
 ghost use Rattle.dc_walk.specs.Looks.{outcome_by};
+ghost use Rattle.dc_walk.specs.Placing.{AreNoted};
 ghost use Rattle.dc_walk.specs.Unpins.{rows_in, GivesBack};
 ghost use Rattle.dc_names.specs.declared.limits.TheConstants.{MOST_LOADS};
 
@@ -16,7 +18,7 @@ use crate::cache::{Dcache, Pass};
 use crate::tries;
 use dc_names::{PathText, TextFault, parse};
 use dc_plain::{Call, Follow, Stamped};
-use dc_walk::{Fast, walk_counted, walk_fast, walk_locked};
+use dc_walk::{Fast, walk_briefly, walk_counted, walk_fast, walk_locked};
 use std::alloc::Global;
 use std::sync::Wait;
 
@@ -86,7 +88,7 @@ impl Dcache {
             Ok(text) => text,
             Err(fault) => return self.refuse(pass, base, path, follow, fault),
         };
-        if let Some(stamped) = tries::look_briefly(&self.shared, pass, base, text, follow) {
+        if let Some(stamped) = self.look_briefly(pass, base, text, follow) {
             return stamped;
         }
         let again = self.look_counted(rt, alloc, pass, base, text, follow);
@@ -95,6 +97,26 @@ impl Dcache {
         }
         let call = Call::Look { base, path, follow };
         walk_locked(&self.shared, rt, &mut pass.seat, &call)
+    }
+
+    /// Where a path leads, by the rows alone, which takes no lock. `None` doesn't say why, for calls that ask
+    /// the tree next.
+    pub(crate) fn look_briefly(
+        &self,
+        pass: &mut Pass,
+        base: u64,
+        path: PathText<'_>,
+        follow: Follow,
+    ) -> Option<Stamped>
+        requires pass { Fits self.now pass.old }
+        ensures same { Fits self.now pass.new × (share pass.new ≡ share pass.old) }
+        ensures answered { IfSome result (Answered pass.old pass.new
+            (Look base path.entry.bytes.now follow)) }
+        ensures nothing { IfNone result (NothingNew (view pass.old) (view pass.new)) }
+        ensures noted { IfNone result (AreNoted (view pass.new) (share pass.new).rows pass.new.room) }
+    {
+        let look = dc_walk::Look { base, path, follow };
+        walk_briefly(self.shared.reader(), &mut pass.seat, &mut pass.room, look)
     }
 
     /// Answers a look-up whose text is refused, which asks no question.

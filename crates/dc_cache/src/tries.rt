@@ -12,17 +12,16 @@ ghost use Rattle.dc_plain.specs.Requests.{request_of};
 ghost use Rattle.dc_plain.specs.Requests.Request.{Look};
 ghost use Rattle.dc_table.specs.Changes.{NothingNew};
 ghost use Rattle.dc_table.specs.Shares.{HasNotTried};
-ghost use Rattle.dc_walk.specs.Placing.{AreNoted};
 ghost use Rattle.dc_names.specs.declared.limits.TheConstants.{MOST_LOADS};
 
 use crate::cache::Pass;
 use crate::gone::{Gone, going};
-use crate::held::{ask_held, seek_held, try_further};
+use crate::held::{ask_held, look_held, seek_held};
 use dc_names::{NoMemory, PathText, TextFault};
 use dc_plain::{Call, Follow, Reply, Stamped};
 use dc_rows::{ChangeFault, Guard};
 use dc_table::Shared;
-use dc_walk::walk_briefly;
+use dc_walk::Room;
 use std::alloc::Global;
 
 /// Answers a look-up whose text is refused, which asks no question.
@@ -49,27 +48,6 @@ pub(crate) fn refuse(
     }
 }
 
-/// Where a path leads, by the rows alone, which takes no lock. `None` doesn't say why, for calls that ask
-/// the tree next.
-pub(crate) fn look_briefly(
-    shared: &Shared,
-    pass: &mut Pass,
-    base: u64,
-    path: PathText<'_>,
-    follow: Follow,
-) -> Option<Stamped>
-    requires pass { FitsTable shared.now pass.old }
-    ensures same { FitsTable shared.now pass.new × (share pass.new ≡ share pass.old) }
-    ensures answered { IfSome result (Answered pass.old pass.new
-        (Look base path.entry.bytes.now follow)) }
-    ensures nothing { IfNone result (NothingNew (view pass.old) (view pass.new)) }
-    ensures untried { HasNotTried (known pass.old) (known pass.new) }
-    ensures noted { IfNone result (AreNoted (view pass.new) (share pass.new).rows pass.new.room) }
-{
-    let look = dc_walk::Look { base, path, follow };
-    walk_briefly(shared.reader(), &mut pass.seat, &mut pass.room, look)
-}
-
 /// Where a path leads, by the tree, whose answers fill rows.
 pub(crate) fn try_look(
     shared: &Shared,
@@ -86,7 +64,17 @@ pub(crate) fn try_look(
     ensures held { IfNone result (Missed pass.old pass.new) }
 {
     let look = dc_walk::Look { base, path, follow };
-    try_further(shared, alloc, &mut pass.seat, look)
+    // For the borrow checker it is made before the guard, whose lifetime it has.
+    let noted: Option<&Room> = None;
+    match Guard::try_lock(shared, &mut pass.seat) {
+        Ok(guard) => {
+            let (back, found) = look_held(guard, alloc, noted, look);
+            // For the proof, here and below: the seat is back as it is bound.
+            let _seat = back;
+            Some(found)
+        }
+        Err(_seat) => None,
+    }
 }
 
 /// Makes a change.
@@ -106,7 +94,6 @@ pub(crate) fn try_change(
     match Guard::try_lock(shared, &mut pass.seat) {
         Ok(guard) => {
             let (back, made) = guard.change(alloc, call);
-            // For the proof, here and below: the seat is back as it is bound.
             let _seat = back;
             Some(match made {
                 Ok((reply, at)) => Ok(Stamped { reply, at }),

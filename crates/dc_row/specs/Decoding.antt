@@ -7,7 +7,7 @@ use Rattle.dc_plain.specs.Facts.Label.{Entry, Parent}
 use Rattle.dc_plain.specs.Facts.Fact.{Leads, Reads}
 use Rattle.dc_row.specs.Spelling.{Spells}
 use Rattle.dc_row.specs.declared.TheConstants.{ROW_ROOM}
-use Rattle.dc_row.specs.declared.layout.TheConstants.{KIND_UNIT, LENGTH_UNIT, LENGTHS, TAGS}
+use Rattle.dc_row.specs.declared.layout.TheConstants.{KIND_UNIT, LENGTH_UNIT, LENGTHS, TAGS, TEXT_START}
 
 -- where an entry leads, by the code of a kind and a number
 abbrev pub target_by : ℕ → ℕ → Option Target
@@ -31,7 +31,7 @@ fact_by tag kind number value text =
 
 -- a byte of the text
 abbrev pub byte_in : List ℕ → ℕ → ℕ
-byte_in words i = slice_index (bytes_in (slice_index words (4 + i / 8))) (i % 8)
+byte_in words i = slice_index (bytes_in (slice_index words (TEXT_START + i / 8))) (i % 8)
 
 -- a room with all bytes of a row's words for a text
 pub record IsRoomOf (words room : List ℕ) : Type 0 where

@@ -3,11 +3,11 @@ use Rattle.std.specs.Prelude.{◌≡◌, ℕ, ◌+◌, ◌-◌, ◌/◌, ◌%◌
 use Rattle.dc_plain.specs.Facts.{Fact}
 use Rattle.dc_row.specs.Spelling.{Spells, fields_of}
 use Rattle.dc_names.specs.declared.limits.TheConstants.{ROW_WORDS}
-use Rattle.dc_row.specs.declared.layout.TheConstants.{LENGTH_UNIT, LENGTHS}
+use Rattle.dc_row.specs.declared.layout.TheConstants.{LENGTH_UNIT, LENGTHS, TEXT_START}
 
--- four words, and those that a text of this length takes
+-- those before the text, and those that a text of this length takes
 abbrev pub words_for : ℕ → ℕ
-words_for len = 4 + (len + 7) / 8
+words_for len = TEXT_START + (len + 7) / 8
 
 -- how many of a row's words tell something
 abbrev pub told_words : List ℕ → ℕ

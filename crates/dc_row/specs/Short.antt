@@ -4,10 +4,11 @@ use Rattle.dc_plain.specs.Facts.{Key, label_bytes}
 use Rattle.dc_plain.specs.Facts.Label.{Text}
 use Rattle.dc_row.specs.Spelling.{TellsOf, text_word}
 use Rattle.dc_names.specs.declared.limits.TheConstants.{ROW_WORDS}
+use Rattle.dc_row.specs.declared.layout.TheConstants.{TEXT_START}
 
 -- the words after the value are those of a text
 abbrev pub HasText : List ℕ → List ℕ → Type 0
-HasText words text = (i : ℕ) → 4 ≤ i → i < ROW_WORDS → slice_index words i ≡ text_word text (i - 4)
+HasText words text = (i : ℕ) → TEXT_START ≤ i → i < ROW_WORDS → slice_index words i ≡ text_word text (i - TEXT_START)
 
 -- a row's words after the count begin with a head, a number and a value
 pub record HasHead (words : List ℕ) (first second third : ℕ) : Type 0 where

@@ -8,7 +8,7 @@ use Rattle.dc_plain.specs.Facts.{Target, Label, Key, Fact, key_of, label_bytes}
 use Rattle.dc_plain.specs.Facts.Label.{Entry, Parent, Text}
 use Rattle.dc_plain.specs.Facts.Fact.{Leads, Reads}
 use Rattle.dc_names.specs.declared.limits.TheConstants.{ROW_WORDS, ROW_TEXT}
-use Rattle.dc_row.specs.declared.layout.TheConstants.{KIND_UNIT, LENGTH_UNIT}
+use Rattle.dc_row.specs.declared.layout.TheConstants.{KIND_UNIT, LENGTH_UNIT, TEXT_START}
 
 -- no place 0, a directory 1, a file 2, a link 3
 abbrev pub kind_code : Option Target → ℕ
@@ -45,7 +45,7 @@ abbrev pub text_word : List ℕ → ℕ → ℕ
 text_word text k = word_of (take 8 (drop (8 * k) text))
 
 abbrev pub word_at : Fields → ℕ → ℕ
-word_at f i = if i == 1 then head_of f else if i == 2 then f.number else if i == 3 then f.value else text_word f.text (i - 4)
+word_at f i = if i == 1 then head_of f else if i == 2 then f.number else if i == 3 then f.value else text_word f.text (i - TEXT_START)
 
 abbrev pub has_room : List ℕ → Bool
 has_room text = not (nat_lt ROW_TEXT (length text))

@@ -9,11 +9,12 @@ ghost use Rattle.dc_row.specs.Narrow.{widened};
 ghost use Rattle.dc_row.specs.Decoding.{target_by, EndsAt, HasBytes};
 ghost use Rattle.dc_row.specs.Spelling.{Spells, SpellsEntry, SpellsNoEntry, SpellsText, TellsOf, TellsText, entry_of, has_spelling, is_numbered, kind_code, target_number, fields, IsSpelled};
 ghost use Rattle.dc_names.specs.declared.limits.TheConstants.{ROW_WORDS, ROW_TEXT};
+ghost use Rattle.dc_row.specs.declared.layout.TheConstants.{TEXT_START};
 
 use crate::fields::word;
 use crate::reading::spelled_text;
 use crate::writing::{head_of, text_word};
-use crate::{LENGTH_UNIT, ROW_TEXT, ROW_WORDS, RowText, TAGS, kind, number, value};
+use crate::{LENGTH_UNIT, ROW_TEXT, ROW_WORDS, RowText, TAGS, TEXT_START, kind, number, value};
 use dc_names::no_piece_is_longer;
 use dc_plain::{Key, Label};
 use std::simd::prelude::*;
@@ -35,7 +36,7 @@ pub fn tells_of(words: &[u64], key: Key<'_>) -> bool
 // Inlined, as is `tells_of`.
 #[inline(always)]
 pub fn tells_by_first(words: &[u64], key: Key<'_>) -> bool
-    requires size { (4 ≤ length words.now) × (length words.now ≤ ROW_WORDS) }
+    requires size { (TEXT_START ≤ length words.now) × (length words.now ≤ ROW_WORDS) }
     ensures { IsTrue result ↔ TellsOf (widened words.now) (key_shown key.entry) }
 {
     // Most rows of a bucket are of another directory: one word tells, and no text is looked at.
@@ -67,7 +68,7 @@ pub fn text_of(words: &[u64]) -> Option<RowText>
 // Inlined, as are the functions below, for the sake of `tells_of`.
 #[inline(always)]
 fn is_text(words: &[u64]) -> bool
-    requires size { (4 ≤ length words.now) × (length words.now ≤ ROW_WORDS) }
+    requires size { (TEXT_START ≤ length words.now) × (length words.now ≤ ROW_WORDS) }
     ensures { IsTrue result ↔ SpellsText (widened words.now) }
 {
     let len = words[1] / LENGTH_UNIT;
@@ -82,17 +83,17 @@ fn is_text(words: &[u64]) -> bool
 /// Whether the bytes for a text are so many, without a zero byte, and zeros after them.
 #[inline(always)]
 fn ends_at(words: &[u64], len: u64) -> bool
-    requires size { (4 ≤ length words.now) × (length words.now ≤ ROW_WORDS) }
+    requires size { (TEXT_START ≤ length words.now) × (length words.now ≤ ROW_WORDS) }
     requires fits { len ≤ ROW_TEXT }
     ensures { IsTrue result ↔ EndsAt words.now len }
 {
     // Past the words there are zeros, which no text has.
-    if len > 8 * (words.len() as u64 - 4) {
+    if len > 8 * (words.len() - TEXT_START) as u64 {
         return false;
     }
-    'text: for i in 4..words.len() {
+    'text: for i in TEXT_START..words.len() {
         let bytes = u8x8::from_array(words[i].to_le_bytes());
-        let before = 8 * (i as u64 - 4);
+        let before = 8 * (i - TEXT_START) as u64;
         if !has_bytes(bytes, len.saturating_sub(before).min(8)) {
             return false;
         }
@@ -116,7 +117,7 @@ fn has_bytes(bytes: u8x8, len: u64) -> bool
 // copy of them that is kept would wait for it.
 #[inline(always)]
 fn is_entry_of(words: &[u64], key: Key<'_>) -> bool
-    requires size { (4 ≤ length words.now) × (length words.now ≤ ROW_WORDS) }
+    requires size { (TEXT_START ≤ length words.now) × (length words.now ≤ ROW_WORDS) }
     ensures spelled { result ≡ true → SpellsEntry (widened words.now) (key_shown key.entry) }
     ensures none { result ≡ false → SpellsNoEntry (widened words.now) (key_shown key.entry) }
 {
@@ -130,7 +131,7 @@ fn is_entry_of(words: &[u64], key: Key<'_>) -> bool
 /// Whether the words after the sequence count are those of a row with these fields.
 #[inline(always)]
 fn is_spelled(words: &[u64], tag: u64, kind: u64, number: u64, value: u64, text: &[u8]) -> bool
-    requires size { (4 ≤ length words.now) × (length words.now ≤ ROW_WORDS) }
+    requires size { (TEXT_START ≤ length words.now) × (length words.now ≤ ROW_WORDS) }
     requires tag { tag ≤ 2 }
     requires kind { kind ≤ 3 }
     requires room { length text.now ≤ ROW_TEXT }
@@ -141,9 +142,9 @@ fn is_spelled(words: &[u64], tag: u64, kind: u64, number: u64, value: u64, text:
     if words[1] != head || words[2] != number || words[3] != value {
         return false;
     }
-    let end = 4 + text.len().div_ceil(8);
-    'text: for i in 4..end {
-        if word(words, i) != text_word(text, i - 4) {
+    let end = TEXT_START + text.len().div_ceil(8);
+    'text: for i in TEXT_START..end {
+        if word(words, i) != text_word(text, i - TEXT_START) {
             return false;
         }
     }

@@ -14,6 +14,9 @@
 //! An empty row has zeros in all words after its count. Each fact has one spelling: each bit of which the
 //! table doesn't say more is zero.
 
+/// The word with which the text begins.
+pub const TEXT_START: usize = 4;
+
 /// What one byte of text counts for in the head, above the tag.
 pub const LENGTH_UNIT: u64 = 1 << 8;
 

@@ -21,7 +21,7 @@ pub use laws::{
     counts_tell_nothing, empty_row_spells_nothing, rows_end_in_zeros, rows_have_one_spelling,
     rows_have_their_text, words_have_the_fact_they_spell, words_spell_one_row,
 };
-pub use layout::{KIND_UNIT, LENGTH_UNIT, LENGTHS, TAGS};
+pub use layout::{KIND_UNIT, LENGTH_UNIT, LENGTHS, TAGS, TEXT_START};
 pub use narrow::{told_words, widened};
 pub use reading::{decode, leads_to, spelled_text, target, text_in};
 pub use row::{Row, RowLabel};
@@ -29,8 +29,8 @@ pub use short::{SHORT_TEXT, SHORT_WORDS, leads, short_words};
 pub use text::RowText;
 pub use writing::encode;
 
-/// How many bytes the words from the fourth on have.
-pub(crate) const ROW_ROOM: usize = 8 * (ROW_WORDS - 4);
+/// How many bytes the words of the text have.
+pub(crate) const ROW_ROOM: usize = 8 * (ROW_WORDS - TEXT_START);
 
 /// The words of a row that tells nothing.
 pub const EMPTY_ROW: [u64; ROW_WORDS] = [0; ROW_WORDS];

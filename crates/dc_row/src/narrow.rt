@@ -4,18 +4,19 @@
 ghost use Rattle.std.specs.Prelude.{◌≡◌, ◌≤◌, length};
 ghost use Rattle.dc_row.specs.Narrow.{told_words, widened};
 ghost use Rattle.dc_names.specs.declared.limits.TheConstants.{ROW_WORDS};
+ghost use Rattle.dc_row.specs.declared.layout.TheConstants.{TEXT_START};
 
-use crate::{EMPTY_ROW, ROW_WORDS, length};
+use crate::{EMPTY_ROW, ROW_WORDS, TEXT_START, length};
 
-/// How many of a row's words aren't zero by their place: the four before its text, and those of the text.
+/// How many of a row's words aren't zero by their place: those before its text, and those of the text.
 #[must_use]
 // Inlined: the walk that asks has read the length.
 #[inline(always)]
 pub fn told_words(words: &[u64]) -> usize
     ensures told { result ≡ told_words words.now }
-    ensures few { (4 ≤ result) × (result ≤ ROW_WORDS) }
+    ensures few { (TEXT_START ≤ result) × (result ≤ ROW_WORDS) }
 {
-    (4 + (length(words) as usize).div_ceil(8)).min(ROW_WORDS)
+    (TEXT_START + (length(words) as usize).div_ceil(8)).min(ROW_WORDS)
 }
 
 /// A row by its first words, with zeros past them.

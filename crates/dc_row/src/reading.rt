@@ -8,11 +8,12 @@ ghost use Rattle.dc_row.specs.Narrow.{widened};
 ghost use Rattle.dc_row.specs.Rows.{row_shown, label_shown};
 ghost use Rattle.dc_row.specs.Spelling.{Spells, SpellsText, TellsRow, TellsLabel, TellsTarget, TellsText, fields_of};
 ghost use Rattle.dc_names.specs.declared.limits.TheConstants.{ROW_WORDS};
+ghost use Rattle.dc_row.specs.declared.layout.TheConstants.{TEXT_START};
 
 use crate::fields::word;
 use crate::{
-    KIND_UNIT, ROW_ROOM, ROW_TEXT, ROW_WORDS, Row, RowLabel, RowText, TAGS, encode, length, number,
-    tag, value,
+    KIND_UNIT, ROW_ROOM, ROW_TEXT, ROW_WORDS, Row, RowLabel, RowText, TAGS, TEXT_START, encode,
+    length, number, tag, value,
 };
 use dc_names::Kind;
 
@@ -65,7 +66,7 @@ fn label_in(words: &[u64]) -> Option<RowLabel>
 #[inline(always)]
 pub fn target(words: &[u64]) -> Option<(u64, Kind)>
     ensures told { TellsTarget words.now result }
-    ensures narrow { 4 ≤ length words.now → TellsTarget (widened words.now) result }
+    ensures narrow { TEXT_START ≤ length words.now → TellsTarget (widened words.now) result }
 {
     leads_to(word(words, 1), value(words))
 }
@@ -104,7 +105,7 @@ pub fn text_in(words: &[u64]) -> Option<RowText>
 #[must_use]
 #[inline(always)]
 pub fn spelled_text(words: &[u64]) -> RowText
-    requires size { (4 ≤ length words.now) × (length words.now ≤ ROW_WORDS) }
+    requires size { (TEXT_START ≤ length words.now) × (length words.now ≤ ROW_WORDS) }
     requires spelled { SpellsText (widened words.now) }
     ensures told { TellsText (widened words.now) (Some result) }
 {
@@ -114,12 +115,12 @@ pub fn spelled_text(words: &[u64]) -> RowText
 /// All the bytes that the words have for a text, side by side, with zeros past them.
 #[inline(always)]
 fn room_of(words: &[u64]) -> [u8; ROW_ROOM]
-    requires size { (4 ≤ length words.now) × (length words.now ≤ ROW_WORDS) }
+    requires size { (TEXT_START ≤ length words.now) × (length words.now ≤ ROW_WORDS) }
     ensures { IsRoomOf words.now result }
 {
     let mut room = [0; ROW_ROOM];
-    for i in 4..words.len() {
-        let at = 8 * (i - 4);
+    for i in TEXT_START..words.len() {
+        let at = 8 * (i - TEXT_START);
         room[at..at + 8].copy_from_slice(&words[i].to_le_bytes());
     }
     room

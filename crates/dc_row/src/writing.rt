@@ -8,7 +8,7 @@ ghost use Rattle.dc_row.specs.Spelling.{Spells, has_spelling, is_numbered, kind_
 ghost use Rattle.dc_names.specs.declared.limits.TheConstants.{ROW_WORDS, ROW_TEXT};
 ghost use Rattle.dc_row.specs.declared.layout.TheConstants.{KIND_UNIT, LENGTH_UNIT};
 
-use crate::{KIND_UNIT, LENGTH_UNIT, ROW_WORDS, Row, RowLabel, RowText};
+use crate::{KIND_UNIT, LENGTH_UNIT, ROW_WORDS, Row, RowLabel, RowText, TEXT_START};
 use dc_names::{Kind, Name, pack_from, parse};
 
 /// The words of a row, with 0 for its sequence count, or `None` where nothing spells the row.
@@ -112,9 +112,9 @@ pub(crate) fn spell(tag: u64, kind: u64, number: u64, value: u64, text: &[u8]) -
     words[1] = head_of(tag, kind, text);
     words[2] = number;
     words[3] = value;
-    let end = 4 + text.len().div_ceil(8);
-    for i in 4..end {
-        words[i] = text_word(text, i - 4);
+    let end = TEXT_START + text.len().div_ceil(8);
+    for i in TEXT_START..end {
+        words[i] = text_word(text, i - TEXT_START);
     }
     words
 }

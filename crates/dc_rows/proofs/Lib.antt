@@ -17,3 +17,4 @@ pub mod Retelling
 pub mod Pinning
 pub mod Fills
 pub mod Made
+pub mod Emptying

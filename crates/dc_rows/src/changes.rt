@@ -12,9 +12,7 @@ ghost use Rattle.dc_rows.specs.Guards.{kept_by, seat_of};
 ghost use Rattle.dc_rows.specs.Outcomes.{IsBack, MakesHeld};
 ghost use Rattle.dc_rows.specs.Refills.{Retells};
 ghost use Rattle.dc_table.specs.Changes.{IsTaken, tree_now};
-ghost use Rattle.dc_table.specs.Holders.{pass_of};
-ghost use Rattle.dc_table.specs.Passes.{known, view, share};
-ghost use Rattle.dc_table.specs.Plays.{Home};
+ghost use Rattle.dc_table.specs.Passes.{view, share};
 
 use crate::fault::ChangeFault;
 use crate::guard::Guard;
@@ -26,52 +24,8 @@ use dc_plain::{
     operations_keep_trees_well_formed, untouched_facts_stay,
 };
 use dc_row::words_have_the_fact_they_spell;
-use dc_table::{Guarded, Holder, MOST_COUNT, Pass};
+use dc_table::{Guarded, MOST_COUNT, Pass};
 use std::alloc::Global;
-
-/// Carries a plan out, with the rows whose keys it touches shut meanwhile. After `NoMemory` they tell what
-/// they told.
-fn alter(
-    holder: &mut Holder<'_>,
-    kept: &mut Guarded,
-    alloc: Global,
-    call: &Call<'_>,
-    plan: Plan<'_>,
-) -> Result<Reply, NoMemory>
-    requires home { Home (known (pass_of holder.old)) kept.old }
-    requires well { IsWellFormed (tree_now (pass_of holder.old)) }
-    requires plans { let p = pass_of holder.old in
-        Plans (share p).limit (tree_now p) (request_of call.now) plan }
-    requires early { length (view (pass_of holder.old)).hold.history < most }
-    ensures same_reference { holder.new.pass.ghost_name ≡ holder.old.pass.ghost_name }
-    ensures ok { IfOk result (λ reply. Altered (pass_of holder.old) (pass_of holder.new)
-        (request_of call.now) (answer_of reply)) }
-    ensures err { OnErr result (OnlyWrites (pass_of holder.old) (pass_of holder.new)) }
-    ensures without_memory { CallTakesNoMemory (request_of call.now) → IsOk result }
-    ensures home { Home (known (pass_of holder.new)) kept.new }
-    ensures rows { Retells kept.new.store holder.old kept.old holder.new kept.new (request_of call.now) }
-{
-    calls_touch_the_listed_keys();
-    untouched_facts_stay();
-    words_have_the_fact_they_spell();
-    let keys = plan.keys();
-    let keys = keys.as_slice();
-    shut_keys(holder, kept, keys);
-    // A reader that finds a row even must find it true. So the rows of what changes stay odd from before
-    // the tree changes until they tell of the new one, or of the old one where it stays.
-    match carry(alloc, &mut kept.store, plan) {
-        Ok(reply) => {
-            holder.commit(call);
-            kept.clock += 1;
-            refill_keys(holder, kept, keys);
-            Ok(reply)
-        }
-        Err(NoMemory) => {
-            refill_keys(holder, kept, keys);
-            Err(NoMemory)
-        }
-    }
-}
 
 impl<'t> Guard<'t> {
     /// Makes a change, answers its reply and how many calls had altered the tree before, gives the lock
@@ -94,7 +48,7 @@ impl<'t> Guard<'t> {
     /// Makes a change, as `change`, for a caller that knows where a path leads on the tree. The tree isn't
     /// asked for the directory of a name whose path is that one and the name.
     pub fn change_knowing(
-        self,
+        mut self,
         alloc: Global,
         call: &Call<'_>,
         known: Option<Known<'_>>,
@@ -106,23 +60,63 @@ impl<'t> Guard<'t> {
     {
         opening_tree_is_well_formed();
         operations_keep_trees_well_formed();
-        let Guard {
-            mut holder,
-            mut guarded,
-        } = self;
-        let at = guarded.clock;
-        let plan = match plan_knowing(&guarded.store, call, guarded.max_inodes, known) {
+        let at = self.clock();
+        let plan = match plan_knowing(self.store(), call, self.guarded.max_inodes, known) {
             Ok(plan) => plan,
-            Err(reply) => return (holder.answer(guarded, call), Ok((reply, at))),
+            Err(reply) => return (self.answer(call), Ok((reply, at))),
         };
         if at >= MOST_COUNT {
-            return (holder.give(guarded), Err(ChangeFault::Spent));
+            return (self.give(), Err(ChangeFault::Spent));
         }
-        let altered = alter(&mut holder, &mut guarded, alloc, call, plan);
-        let pass = holder.give(guarded);
+        let altered = self.alter(alloc, call, plan);
+        let pass = self.give();
         match altered {
             Ok(reply) => (pass, Ok((reply, at))),
             Err(NoMemory) => (pass, Err(ChangeFault::NoMemory)),
+        }
+    }
+
+    /// Carries a plan out, with the rows whose keys it touches shut meanwhile. After `NoMemory` they tell
+    /// what they told.
+    fn alter(
+        &mut self,
+        alloc: Global,
+        call: &Call<'_>,
+        plan: Plan<'_>,
+    ) -> Result<Reply, NoMemory>
+        requires well { IsWellFormed (tree_now (seat_of self.old)) }
+        requires plans { let p = seat_of self.old in
+            Plans (share p).limit (tree_now p) (request_of call.now) plan }
+        requires early { length (view (seat_of self.old)).hold.history < most }
+        ensures same_reference { self.new.holder.pass.ghost_name ≡ self.old.holder.pass.ghost_name }
+        ensures ok { IfOk result (λ reply. Altered (seat_of self.old) (seat_of self.new)
+            (request_of call.now) (answer_of reply)) }
+        ensures err { OnErr result (OnlyWrites (seat_of self.old) (seat_of self.new)) }
+        ensures without_memory { CallTakesNoMemory (request_of call.now) → IsOk result }
+        ensures rows { Retells (kept_by self.new).store self.old.holder (kept_by self.old)
+            self.new.holder (kept_by self.new) (request_of call.now) }
+    {
+        calls_touch_the_listed_keys();
+        untouched_facts_stay();
+        words_have_the_fact_they_spell();
+        let holder = &mut self.holder;
+        let kept: &mut Guarded = &mut self.guarded;
+        let keys = plan.keys();
+        let keys = keys.as_slice();
+        shut_keys(holder, kept, keys);
+        // A reader that finds a row even must find it true. So the rows of what changes stay odd from before
+        // the tree changes until they tell of the new one, or of the old one where it stays.
+        match carry(alloc, &mut kept.store, plan) {
+            Ok(reply) => {
+                holder.commit(call);
+                kept.clock += 1;
+                refill_keys(holder, kept, keys);
+                Ok(reply)
+            }
+            Err(NoMemory) => {
+                refill_keys(holder, kept, keys);
+                Err(NoMemory)
+            }
         }
     }
 }

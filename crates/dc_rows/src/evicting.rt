@@ -3,14 +3,14 @@
 ghost use Rattle.std.specs.Prelude.{◌≡◌, ◌<◌, length, min, true};
 ghost use Rattle.dc_events.specs.Rows.{base_of};
 ghost use Rattle.dc_index.specs.Slots.{slot_of, has_key};
-ghost use Rattle.dc_rows.specs.Changes.{KeepsTree, OnlyWrites, RestAt};
+ghost use Rattle.dc_rows.specs.Changes.{KeepsTree, OnlyWrites};
 ghost use Rattle.dc_rows.specs.Filling.{Redone, Emptied};
 ghost use Rattle.dc_rows.specs.Guards.{kept_by, rows_of, Keeps};
 ghost use Rattle.dc_rows.specs.Narrow.{HasFrom};
 ghost use Rattle.dc_rows.specs.RowChanges.{EmptiesLast, EmptiesRow};
 ghost use Rattle.dc_rows.specs.Rows.{MayTell};
 ghost use Rattle.dc_table.specs.Changes.{tree_now, words_of};
-ghost use Rattle.dc_table.specs.Holders.{pass_of, rows_held};
+ghost use Rattle.dc_table.specs.Holders.{pass_of};
 ghost use Rattle.dc_table.specs.Passes.{view, share, CanShut};
 
 use crate::guard::Guard;
@@ -68,22 +68,6 @@ pub(crate) fn empty(holder: &mut Holder<'_>, kept: &mut Guarded, row: u64, end: 
     }
 }
 
-/// Empties a row that has a key, which it loses, and takes it out of use.
-fn evict_row(holder: &mut Holder<'_>, kept: &mut Guarded, row: u64)
-    requires key { has_key (slot_of kept.old.index row) ≡ true }
-    requires rest { RestAt (pass_of holder.old) kept.old }
-    ensures same_reference { holder.new.pass.ghost_name ≡ holder.old.pass.ghost_name }
-    ensures pass { OnlyWrites (pass_of holder.old) (pass_of holder.new) }
-    ensures tree { KeepsTree kept.old kept.new }
-    ensures rest { RestAt (pass_of holder.new) kept.new }
-    ensures rows { EmptiesRow row (rows_held holder.old kept.old) (rows_held holder.new kept.new) }
-{
-    empty_row_spells_nothing();
-    let end = most_words(&kept.index, row);
-    empty(holder, kept, row, end);
-    kept.shrinker.remove(row);
-}
-
 impl Guard<'_> {
     /// Empties a row that has a key, which it loses, and takes it out of use.
     pub fn evict(&mut self, row: u64)
@@ -92,8 +76,12 @@ impl Guard<'_> {
         ensures keeps { Keeps self.old self.new }
         ensures rows { EmptiesRow row (rows_of self.old) (rows_of self.new) }
     {
+        empty_row_spells_nothing();
         let holder = &mut self.holder;
-        evict_row(holder, &mut self.guarded, row);
+        let kept: &mut Guarded = &mut self.guarded;
+        kept.shrinker.remove(row);
+        let end = most_words(&kept.index, row);
+        empty(holder, kept, row, end);
     }
 
     /// Empties up to so many of the unpinned rows in use, the least recently used first, and answers how

@@ -8,7 +8,7 @@ ghost use Rattle.dc_plain.specs.KeysShown.{key_shown};
 ghost use Rattle.dc_row.specs.declared.TheConstants.{EMPTY_ROW};
 ghost use Rattle.dc_rows.specs.Changes.{KeepsTree, OnlyWrites, RestAt};
 ghost use Rattle.dc_rows.specs.Filling.{GivenAt, without_use};
-ghost use Rattle.dc_rows.specs.Guards.{kept_by, rows_of, Keeps};
+ghost use Rattle.dc_rows.specs.Guards.{kept_by, rows_of, seat_of, Keeps};
 ghost use Rattle.dc_rows.specs.Narrow.{HasFrom};
 ghost use Rattle.dc_rows.specs.Outcomes.{Fills};
 ghost use Rattle.dc_rows.specs.RowChanges.{Gets, IsFilled, LeadsTo, OnlyRow};
@@ -67,99 +67,6 @@ fn fill_given(
     Ok(None)
 }
 
-/// Fills a row of its bucket for a key that has none, with these words.
-fn fill_new(
-    holder: &mut Holder<'_>,
-    kept: &mut Guarded,
-    alloc: Global,
-    key: &HashedKey<'_>,
-    words: &[u64; ROW_WORDS],
-) -> Result<Option<u64>, NoMemory>
-    requires rest { RestAt (pass_of holder.old) kept.old }
-    requires absent { IsRowOf kept.old.index (key_in key.now) None }
-    requires words { IsOf (tree_now (pass_of holder.old)) words.now (key_in key.now) }
-    ensures same_reference { holder.new.pass.ghost_name ≡ holder.old.pass.ghost_name }
-    ensures pass { OnlyWrites (pass_of holder.old) (pass_of holder.new) }
-    ensures tree { KeepsTree kept.old kept.new }
-    ensures rest { RestAt (pass_of holder.new) kept.new }
-    ensures row { IfOk result (λ found. IfSome found (λ row.
-        slot_of kept.new.index row ≡ Held (key_in key.now))) }
-    ensures rows { Gets (key_in key.now) 0 (rows_held holder.old kept.old)
-        (rows_held holder.new kept.new) result }
-{
-    rows_end_in_zeros();
-    let Some(row) = kept.index.choose(&kept.shrinker, key) else {
-        return Ok(None);
-    };
-    // A longer name that stood in the row would leave its end there. So the former key is asked while it is
-    // known: past its words and the new ones all are zero.
-    let former = most_words(&kept.index, row);
-    let end = told_words(words).max(former);
-    let evicts = kept.index.has_key(row);
-    kept.index.set(alloc, row, &key.key)?;
-    if evicts {
-        holder.count_eviction();
-    }
-    fill_given(holder, kept, row, &key.key, words, end)
-}
-
-/// The row of a key, which is filled where no row has the key.
-fn fill_row(
-    holder: &mut Holder<'_>,
-    kept: &mut Guarded,
-    alloc: Global,
-    key: &HashedKey<'_>,
-) -> Result<Option<u64>, NoMemory>
-    requires store { kept.old.store ≡ tree_now (pass_of holder.old) }
-    requires rest { RestAt (pass_of holder.old) kept.old }
-    ensures same_reference { holder.new.pass.ghost_name ≡ holder.old.pass.ghost_name }
-    ensures pass { OnlyWrites (pass_of holder.old) (pass_of holder.new) }
-    ensures tree { KeepsTree kept.old kept.new }
-    ensures rest { RestAt (pass_of holder.new) kept.new }
-    ensures row { IfOk result (λ found. IfSome found (λ row.
-        slot_of kept.new.index row ≡ Held (key_in key.now))) }
-    ensures rows { Gets (key_in key.now) 0 (rows_held holder.old kept.old)
-        (rows_held holder.new kept.new) result }
-{
-    if let Some(row) = kept.index.row_of_hashed(key) {
-        return Ok(Some(row));
-    }
-    let Some(words) = words_for_hashed(&kept.store, key) else {
-        return Ok(None);
-    };
-    fill_new(holder, kept, alloc, key, &words)
-}
-
-/// The row of an entry's key, which is filled if no row has the key, for a caller that knows where the entry
-/// leads.
-fn fill_entry_row(
-    holder: &mut Holder<'_>,
-    kept: &mut Guarded,
-    alloc: Global,
-    key: &HashedKey<'_>,
-    target: Option<Target>,
-) -> Result<Option<u64>, NoMemory>
-    requires store { kept.old.store ≡ tree_now (pass_of holder.old) }
-    requires rest { RestAt (pass_of holder.old) kept.old }
-    requires target { LeadsTo kept.old.store (key_in key.now) target }
-    ensures same_reference { holder.new.pass.ghost_name ≡ holder.old.pass.ghost_name }
-    ensures pass { OnlyWrites (pass_of holder.old) (pass_of holder.new) }
-    ensures tree { KeepsTree kept.old kept.new }
-    ensures rest { RestAt (pass_of holder.new) kept.new }
-    ensures row { IfOk result (λ found. IfSome found (λ row.
-        slot_of kept.new.index row ≡ Held (key_in key.now))) }
-    ensures rows { Gets (key_in key.now) 0 (rows_held holder.old kept.old)
-        (rows_held holder.new kept.new) result }
-{
-    if let Some(row) = kept.index.row_of_hashed(key) {
-        return Ok(Some(row));
-    }
-    let Some(words) = entry_words(&key.key, target) else {
-        return Ok(None);
-    };
-    fill_new(holder, kept, alloc, key, &words)
-}
-
 impl Guard<'_> {
     /// The row of a key. One that has none gets a row of its bucket, which is filled with what the store
     /// has under the key. `None` where no row can be had, or no row can tell it.
@@ -170,8 +77,13 @@ impl Guard<'_> {
             slot_of (kept_by self.new).index row ≡ Held (key_in key.now))) }
         ensures rows { Gets (key_in key.now) 0 (rows_of self.old) (rows_of self.new) result }
     {
-        let holder = &mut self.holder;
-        fill_row(holder, &mut self.guarded, alloc, key)
+        if let Some(row) = self.guarded.index.row_of_hashed(key) {
+            return Ok(Some(row));
+        }
+        let Some(words) = words_for_hashed(&self.guarded.store, key) else {
+            return Ok(None);
+        };
+        self.fill_new(alloc, key, &words)
     }
 
     /// The row of an entry's key, as `fill` gives it, for a caller that has asked the store where the
@@ -188,7 +100,45 @@ impl Guard<'_> {
         ensures keeps { Keeps self.old self.new }
         ensures fills { Fills (key_in key.now) self.old self.new result }
     {
+        if let Some(row) = self.guarded.index.row_of_hashed(key) {
+            return Ok(Some(row));
+        }
+        let Some(words) = entry_words(&key.key, target) else {
+            return Ok(None);
+        };
+        self.fill_new(alloc, key, &words)
+    }
+
+    /// Fills a row of its bucket for a key that has none, with these words.
+    fn fill_new(
+        &mut self,
+        alloc: Global,
+        key: &HashedKey<'_>,
+        words: &[u64; ROW_WORDS],
+    ) -> Result<Option<u64>, NoMemory>
+        requires absent { IsRowOf (kept_by self.old).index (key_in key.now) None }
+        requires words { IsOf (tree_now (seat_of self.old)) words.now (key_in key.now) }
+        ensures same_reference { self.new.holder.pass.ghost_name ≡ self.old.holder.pass.ghost_name }
+        ensures keeps { Keeps self.old self.new }
+        ensures row { IfOk result (λ found. IfSome found (λ row.
+            slot_of (kept_by self.new).index row ≡ Held (key_in key.now))) }
+        ensures rows { Gets (key_in key.now) 0 (rows_of self.old) (rows_of self.new) result }
+    {
+        rows_end_in_zeros();
         let holder = &mut self.holder;
-        fill_entry_row(holder, &mut self.guarded, alloc, key, target)
+        let kept: &mut Guarded = &mut self.guarded;
+        let Some(row) = kept.index.choose(&kept.shrinker, key) else {
+            return Ok(None);
+        };
+        // A longer name that stood in the row would leave its end there. So the former key is asked while
+        // it is known: past its words and the new ones all are zero.
+        let former = most_words(&kept.index, row);
+        let end = told_words(words).max(former);
+        let evicts = kept.index.has_key(row);
+        kept.index.set(alloc, row, &key.key)?;
+        if evicts {
+            holder.count_eviction();
+        }
+        fill_given(holder, kept, row, &key.key, words, end)
     }
 }

@@ -12,7 +12,7 @@ ghost use Rattle.dc_table.specs.Passes.{view, share, CanWrite};
 ghost use Rattle.dc_table.specs.Rows.{MayStand};
 
 use dc_index::Index;
-use dc_row::ROW_WORDS;
+use dc_row::{ROW_WORDS, TEXT_START};
 use dc_table::Holder;
 
 /// How many of a row's words may tell something, by the key that it has: past them a row that fits its slot
@@ -21,7 +21,7 @@ pub(crate) fn most_words(index: &Index, row: u64) -> usize
     requires { row < length index.now }
     ensures { result ≡ most_words (slot_of index.now row) }
 {
-    (4 + index.most_text(row).div_ceil(8)).min(ROW_WORDS)
+    (TEXT_START + index.most_text(row).div_ceil(8)).min(ROW_WORDS)
 }
 
 /// Writes the words of an odd row after its count, up to a place from which on it has them already, and

@@ -1,0 +1,1 @@
+-- What the tests of the table say: their clauses need no definition of their own.

@@ -1,0 +1,1 @@
+-- What the trials say: their clauses need no definition of their own.

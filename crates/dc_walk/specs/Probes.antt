@@ -6,6 +6,7 @@ use Rattle.dc_row.specs.Narrow.{told_words}
 use Rattle.dc_row.specs.Spelling.{TellsOf, text_word}
 use Rattle.dc_plain.specs.Requests.{Request}
 use Rattle.dc_names.specs.declared.limits.TheConstants.{ROW_WORDS}
+use Rattle.dc_row.specs.declared.layout.TheConstants.{TEXT_START}
 use Rattle.dc_row.specs.declared.short.TheConstants.{SHORT_TEXT, SHORT_WORDS}
 use Rattle.dc_events.specs.Views.{Note, Walk, View}
 use Rattle.dc_table.specs.Passes.{Pass, view}
@@ -88,7 +89,7 @@ pub record SpellsShort (words : List ℕ) (label : Label) : Type 0 where
 -- a row was read whole, its value and whether its text has these words were seen
 pub record ReadsShort (v w : View) (row : ℕ) (top : Top) (text : List ℕ) (value : ℕ) (is_its : Bool) : Type 0 where
   pub rest : List ℕ
-  pub size : length rest + 4 ≡ ROW_WORDS
+  pub size : length rest + TEXT_START ≡ ROW_WORDS
   pub read : w ≡ seen_whole v row (row_of top value rest)
   pub its : IsTrue is_its ↔ IsText text rest
 

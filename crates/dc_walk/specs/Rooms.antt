@@ -5,6 +5,7 @@ use Rattle.dc_plain.specs.Facts.{Label}
 use Rattle.dc_plain.specs.Facts.Label.{Entry, Parent, Text}
 use Rattle.dc_row.specs.Narrow.{widened}
 use Rattle.dc_names.specs.declared.limits.TheConstants.{ROW_WORDS, ROW_TEXT, MOST_USED, MOST_USED_BYTES}
+use Rattle.dc_row.specs.declared.layout.TheConstants.{TEXT_START}
 use Rattle.dc_walk.specs.declared.TheConstants.{ROOM_WORDS}
 use Rattle.dc_walk.specs.declared.used.Stored.{Stored}
 
@@ -40,7 +41,7 @@ used_in words s = record { row = s.row; place = s.place; words = widened (slice_
 
 -- a row's first words stand before these words' end
 pub record IsBelow (end : ℕ) (s : Stored) : Type 0 where
-  pub head : s.start + 4 ≤ s.end
+  pub head : s.start + TEXT_START ≤ s.end
   pub size : s.end ≤ s.start + ROW_WORDS
   pub within : s.end ≤ end
 

@@ -4,6 +4,7 @@ ghost use Rattle.std.specs.Prelude.{◌≤◌, Some, length};
 ghost use Rattle.dc_row.specs.Narrow.{widened};
 ghost use Rattle.dc_row.specs.Spelling.{SpellsText, TellsText};
 ghost use Rattle.dc_names.specs.declared.limits.TheConstants.{ROW_WORDS};
+ghost use Rattle.dc_row.specs.declared.layout.TheConstants.{TEXT_START};
 
 use dc_resolve::Bytes;
 use dc_row::{RowText, spelled_text};
@@ -18,7 +19,7 @@ impl LinkText {
     /// The text that a row with these first words spells, which were tested before.
     #[inline(always)]
     pub(crate) fn of(words: &[u64]) -> LinkText
-        requires size { (4 ≤ length words.now) × (length words.now ≤ ROW_WORDS) }
+        requires size { (TEXT_START ≤ length words.now) × (length words.now ≤ ROW_WORDS) }
         requires spelled { SpellsText (widened words.now) }
         ensures told { TellsText (widened words.now) (Some result.text) }
     {

@@ -10,7 +10,7 @@ ghost use Rattle.dc_table.specs.Passes.{view, share, Fits, IsIdle, StaysOut};
 ghost use Rattle.dc_walk.specs.Probes.{IsEarly, IsReading, IsReadingTop, ReadsBehind, ReadsMore, ReadsRest, ReadsTop};
 
 use dc_plain::{Call, Key, Label};
-use dc_row::{LENGTH_UNIT, LENGTHS, ROW_WORDS, SHORT_WORDS, TAGS};
+use dc_row::{LENGTH_UNIT, LENGTHS, ROW_WORDS, SHORT_WORDS, TAGS, TEXT_START};
 use dc_table::{Pass, Reader};
 
 /// How many words past a short text are read at a time. The compiler unrolls so short a loop, and each word
@@ -18,9 +18,9 @@ use dc_table::{Pass, Reader};
 const BLOCK_WORDS: usize = 4;
 
 /// How many blocks of words lie past a short text.
-const PAST_BLOCKS: usize = (ROW_WORDS - 4 - SHORT_WORDS) / BLOCK_WORDS;
+const PAST_BLOCKS: usize = (ROW_WORDS - TEXT_START - SHORT_WORDS) / BLOCK_WORDS;
 
-const _: () = prove!(4 + SHORT_WORDS + BLOCK_WORDS * PAST_BLOCKS == ROW_WORDS);
+const _: () = prove!(TEXT_START + SHORT_WORDS + BLOCK_WORDS * PAST_BLOCKS == ROW_WORDS);
 
 /// How much of a row is read.
 #[derive(Clone, Copy)]
@@ -106,12 +106,12 @@ pub(crate) fn read_short(
     // The bits in which any word differs: compared one by one, the words would be kept until the last is read.
     let mut differ = 0;
     for i in 0..SHORT_WORDS {
-        let word = reader.read_word(pass, row, 4 + i as u64);
+        let word = reader.read_word(pass, row, (TEXT_START + i) as u64);
         differ |= word ^ text[i];
     }
     for block in 0..PAST_BLOCKS {
         for i in 0..BLOCK_WORDS {
-            let at = 4 + SHORT_WORDS + BLOCK_WORDS * block + i;
+            let at = TEXT_START + SHORT_WORDS + BLOCK_WORDS * block + i;
             let past = reader.read_word(pass, row, at as u64);
             differ |= past;
         }

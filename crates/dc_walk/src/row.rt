@@ -19,8 +19,8 @@ use crate::rows::Rows;
 use crate::used::Room;
 use dc_plain::{Key, Label};
 use dc_row::{
-    SHORT_TEXT, SHORT_WORDS, leads, rows_end_in_zeros, rows_have_their_text, short_words,
-    tells_by_first, told_words, words_have_the_fact_they_spell,
+    SHORT_TEXT, SHORT_WORDS, TEXT_START, leads, rows_end_in_zeros, rows_have_their_text,
+    short_words, tells_by_first, told_words, words_have_the_fact_they_spell,
 };
 use dc_table::{Pass, Reader};
 
@@ -79,7 +79,7 @@ fn take_short(
         top.count, top.head, top.number, value, words[0], words[1], words[2], words[3],
     ];
     room.put(&first);
-    Some(room.keep(row, place, 4 + text.len().div_ceil(8)))
+    Some(room.keep(row, place, TEXT_START + text.len().div_ceil(8)))
 }
 
 /// Reads the rest of a row whose top was read into a room, where it stays if it tells of a key.

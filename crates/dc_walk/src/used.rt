@@ -8,6 +8,7 @@ ghost use Rattle.dc_resolve.specs.Needs.{IsUntold};
 ghost use Rattle.dc_row.specs.Narrow.{widened};
 ghost use Rattle.dc_row.specs.Spelling.{SpellsText, TellsOf, TellsTarget, TellsText};
 ghost use Rattle.dc_names.specs.declared.limits.TheConstants.{ROW_WORDS, MOST_USED, MOST_USED_BYTES};
+ghost use Rattle.dc_row.specs.declared.layout.TheConstants.{TEXT_START};
 ghost use Rattle.dc_table.specs.Holders.{table_of};
 ghost use Rattle.dc_table.specs.Passes.{view, share, Fits, IsIdle, StaysOut};
 ghost use Rattle.dc_walk.specs.Finds.{told_in, AllSpelled, StandsAt};
@@ -129,7 +130,7 @@ impl Room {
     pub(crate) fn words_at(&self, at: usize) -> &[u64]
         requires kept { at < length self.now.items }
         ensures words { widened result.now ≡ (used_at self.now.items at).words }
-        ensures size { (4 ≤ length result.now) × (length result.now ≤ ROW_WORDS) }
+        ensures size { (TEXT_START ≤ length result.now) × (length result.now ≤ ROW_WORDS) }
     {
         let one = &self.rows[..self.len][at];
         &self.words[one.start..one.end]
@@ -221,7 +222,7 @@ impl Room {
         requires pass { Fits (table_of reader) pass.old × IsIdle pass.old }
         requires row { row < (share pass.old).rows }
         requires reading { IsReading (view pass.old) row self.old.next 3 }
-        requires told { (4 ≤ told) × (told ≤ ROW_WORDS) }
+        requires told { (TEXT_START ≤ told) × (told ≤ ROW_WORDS) }
         ensures same { StaysOut pass.old pass.new }
         ensures items { (self.new.items ≡ self.old.items) × (self.new.spent ≡ self.old.spent) }
         ensures top { take 3 self.new.next ≡ take 3 self.old.next }
@@ -239,7 +240,7 @@ impl Room {
     #[inline(always)]
     pub(crate) fn keep(&mut self, row: u64, place: u64, told: usize) -> usize
         requires some { length self.old.items < MOST_USED }
-        requires told { (4 ≤ told) × (told ≤ ROW_WORDS) }
+        requires told { (TEXT_START ≤ told) × (told ≤ ROW_WORDS) }
         requires fits { 8 * (self.old.spent + told) ≤ 40 * MOST_USED + MOST_USED_BYTES }
         ensures kept { self.new.items ≡ self.old.items
             ++ record { row = row; place = place; words = widened (take told self.old.next) } ∷ [] }

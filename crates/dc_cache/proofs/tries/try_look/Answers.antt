@@ -1,4 +1,5 @@
+use Rattle.std.proofs.Common.{rules}
 use Rattle.dc_cache.proofs.tries.try_look.Goals as goal
 
-pub returns-clause-held : goal.returns-clause-held
-returns-clause-held c = c.try_further.ensures.held
+pub returns-in-Err-clause-held : goal.returns-in-Err-clause-held
+returns-in-Err-clause-held c = search rules

@@ -1,41 +1,39 @@
-use Rattle.std.proofs.Common.{◌≡◌, ℕ, ◌∙◌, sym, ap, subst, subst₂, rules}
+use Rattle.std.proofs.Common.{◌≡◌, ℕ, ◌∙◌, sym, ap, subst₂, rules}
 use Rattle.dc_plain.specs.Requests.{request_of, answer_of}
 use Rattle.dc_plain.specs.Operations.{operation}
 use Rattle.dc_plain.specs.Runs.{tree_after, Touches}
 use Rattle.dc_plain.specs.Trees.{Tree}
 use Rattle.dc_table.specs.Changes.{tree_now}
-use Rattle.dc_table.specs.Holders.{rows_held}
 use Rattle.dc_table.specs.Passes.{known, share}
 use Rattle.dc_table.specs.declared.table.Guarded.{Guarded}
-use Rattle.dc_rows.specs.Guards.{seat_of, rows_of}
-use Rattle.dc_rows.specs.Refills.{Retold, Turns}
+use Rattle.dc_rows.specs.Guards.{kept_by, seat_of, rows_of}
+use Rattle.dc_rows.specs.Refills.{Retold}
 use Rattle.dc_rows.proofs.Made.{rows_stay, untouched, altered_tree, retold_as}
 use Rattle.dc_rows.proofs.guard.Guard.change_knowing.Goals as goal
 
 pub returns-in-Err-clause-made : goal.returns-in-Err-clause-made
 returns-in-Err-clause-made c = let g = c.args.self in let call = request_of c.args.call.now in let limit = (share (seat_of g)).limit in let tree = tree_now (seat_of g) in
-    let settled : operation limit tree call ≡ (answer_of c.in-Err.reply, tree) = subst₂ (λ (n : ℕ) (t : Tree). operation n t call ≡ (answer_of c.in-Err.reply, t)) (ap (λ (y : Guarded). y.max_inodes) c.deref-3.ensures ∙ g.rests.same_limit) (ap (λ (y : Guarded). y.store) c.deref-2.ensures ∙ g.rests.tree)
+    let settled : operation limit tree call ≡ (answer_of c.in-Err.reply, tree) = subst₂ (λ (n : ℕ) (t : Tree). operation n t call ≡ (answer_of c.in-Err.reply, t)) (ap (λ (y : Guarded). y.max_inodes) c.deref.ensures ∙ g.rests.same_limit) (c.store.ensures ∙ g.rests.tree)
     c.in-Err.ensures.declined.operation in
     let same : tree_after limit tree call ≡ tree = ap (λ x. x.1) settled in record {
       done = search rules;
       fault = search rules;
       within = search rules;
-      at = ap (λ (y : Guarded). y.clock) c.deref.ensures ∙ g.rests.clock;
+      at = c.clock-at.ensures ∙ g.rests.clock;
       replied = sym (ap (λ x. x.0) settled);
       rows = rows_stay (Retold (tree_after limit tree call)) (Touches limit tree call) (rows_of g) (known c.answer.result.now).left g.rests.rest.fit.agree c.answer.ensures.freed.left (untouched limit tree call same);
     }
 
 pub returns-in-Ok-altered-clause-made : goal.returns-in-Ok-altered-clause-made
 returns-in-Ok-altered-clause-made c = let g = c.args.self in let call = request_of c.args.call.now in let limit = (share (seat_of g)).limit in let tree = tree_now (seat_of g) in let a = c.alter-altered in
-    let keys = Touches limit tree call in let store = a.new.kept.store in let after = rows_held a.new.holder a.new.kept in record {
+    let h = a.new.self in record {
       done = search rules;
       fault = search rules;
       within = search rules;
-      at = ap (λ (y : Guarded). y.clock) c.deref.ensures ∙ g.rests.clock;
+      at = c.clock-at.ensures ∙ g.rests.clock;
       replied = c.in-Ok-altered.ensures.ok.replied;
-      rows = retold_as store (tree_after limit tree call) keys (rows_of g) after (known c.give-pass.result.now).left
-          (a.ensures.home.tree ∙ altered_tree (seat_of g) a.new.holder.pass.now call (answer_of c.in-Ok-altered.reply) c.in-Ok-altered.ensures.ok) c.give-pass.ensures.freed.left
-          (subst (λ (x : Guarded). Turns (Retold store) keys (rows_held g.holder x) after) c.deref_mut.ensures.value a.ensures.rows);
+      rows = retold_as (kept_by h).store (tree_after limit tree call) (Touches limit tree call) (rows_of g) (rows_of h) (known c.give-pass.result.now).left
+          (h.rests.tree ∙ altered_tree (seat_of g) (seat_of h) call (answer_of c.in-Ok-altered.reply) c.in-Ok-altered.ensures.ok) c.give-pass.ensures.freed.left a.ensures.rows;
     }
 
 pub returns-in-Err-altered-clause-made : goal.returns-in-Err-altered-clause-made
