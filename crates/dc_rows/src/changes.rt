@@ -78,12 +78,7 @@ impl<'t> Guard<'t> {
 
     /// Carries a plan out, with the rows whose keys it touches shut meanwhile. After `NoMemory` they tell
     /// what they told.
-    fn alter(
-        &mut self,
-        alloc: Global,
-        call: &Call<'_>,
-        plan: Plan<'_>,
-    ) -> Result<Reply, NoMemory>
+    fn alter(&mut self, alloc: Global, call: &Call<'_>, plan: Plan<'_>) -> Result<Reply, NoMemory>
         requires well { IsWellFormed (tree_now (seat_of self.old)) }
         requires plans { let p = seat_of self.old in
             Plans (share p).limit (tree_now p) (request_of call.now) plan }

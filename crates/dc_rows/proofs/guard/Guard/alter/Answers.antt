@@ -42,12 +42,13 @@ refill_keys-requires-in-Err-clause-distinct c = subst AreDistinct (sym (ap (map 
 
 pub invariant_of-self : goal.invariant_of-self
 invariant_of-self c = let home = home_is c.args.self.now.holder.pass.now c.deref_mut-kept.ensures.value c.args.self.now.rests in let u = c.refill_keys.new.holder.pass.now in let v = c.refill_keys.ensures.pass in let t = c.refill_keys.ensures.tree in let k = c.shut_keys.ensures.tree in
-    record { rests = home_again u c.refill_keys.new.kept _ _
-    (t.tree ∙ (store_after c.args.self.now.holder.pass.now c.shut_keys.new.holder.pass.now c.commit.new.self.pass.now c.shut_keys.ensures.pass (request_of c.args.call.now) c.commit.ensures.same c.commit.ensures.view
-    c.args.plan c.shut_keys.new.kept.store _ (k.tree ∙ home.tree) c.in-Ok.ensures.tree c.requires.plans.operation ∙ sym (tree_same c.commit.new.self.pass.now u v)))
-    (t.clock ∙ clock_after c.args.self.now.holder.pass.now c.shut_keys.new.holder.pass.now c.commit.new.self.pass.now c.shut_keys.ensures.pass (request_of c.args.call.now) c.commit.ensures.same c.commit.ensures.view u v _ (k.clock ∙ home.clock))
-    (t.same_limit ∙ limit_after c.args.self.now.holder.pass.now c.shut_keys.new.holder.pass.now c.commit.new.self.pass.now c.shut_keys.ensures.pass (request_of c.args.call.now) c.commit.ensures.same c.commit.ensures.view u v _ (k.same_limit ∙ home.same_limit))
-    c.refill_keys.ensures.stage;
+    record {
+      rests = home_again u c.refill_keys.new.kept _ _
+          (t.tree ∙ (store_after c.args.self.now.holder.pass.now c.shut_keys.new.holder.pass.now c.commit.new.self.pass.now c.shut_keys.ensures.pass (request_of c.args.call.now) c.commit.ensures.same c.commit.ensures.view
+          c.args.plan c.shut_keys.new.kept.store _ (k.tree ∙ home.tree) c.in-Ok.ensures.tree c.requires.plans.operation ∙ sym (tree_same c.commit.new.self.pass.now u v)))
+          (t.clock ∙ clock_after c.args.self.now.holder.pass.now c.shut_keys.new.holder.pass.now c.commit.new.self.pass.now c.shut_keys.ensures.pass (request_of c.args.call.now) c.commit.ensures.same c.commit.ensures.view u v _ (k.clock ∙ home.clock))
+          (t.same_limit ∙ limit_after c.args.self.now.holder.pass.now c.shut_keys.new.holder.pass.now c.commit.new.self.pass.now c.shut_keys.ensures.pass (request_of c.args.call.now) c.commit.ensures.same c.commit.ensures.view u v _ (k.same_limit ∙ home.same_limit))
+          c.refill_keys.ensures.stage;
     }
 
 pub returns-in-Ok-clause-rows : goal.returns-in-Ok-clause-rows
@@ -67,9 +68,10 @@ returns-in-Err-clause-rows c = let p = c.args.self.now.holder.pass.now in let k 
 pub invariant_of-self-in-Err : goal.invariant_of-self-in-Err
 invariant_of-self-in-Err c = let home = home_is c.args.self.now.holder.pass.now c.deref_mut-kept.ensures.value c.args.self.now.rests in let p = c.args.self.now.holder.pass.now in let u = c.refill_keys-in-Err.new.holder.pass.now in let t = c.refill_keys-in-Err.ensures.tree in let k = c.shut_keys.ensures.tree in
     let w = then_only p c.shut_keys.new.holder.pass.now u c.shut_keys.ensures.pass c.refill_keys-in-Err.ensures.pass in
-    record { rests = home_again u c.refill_keys-in-Err.new.kept _ _
-    (t.tree ∙ (c.in-Err.ensures.err ∙ (k.tree ∙ (home.tree ∙ sym (tree_same p u w)))))
-    (t.clock ∙ (k.clock ∙ (home.clock ∙ ap length (sym (history_same p u w (request_of c.args.call.now))))))
-    (t.same_limit ∙ (k.same_limit ∙ (home.same_limit ∙ ap (λ z. z.limit) (sym w.same.same_share))))
-    c.refill_keys-in-Err.ensures.stage;
+    record {
+      rests = home_again u c.refill_keys-in-Err.new.kept _ _
+          (t.tree ∙ (c.in-Err.ensures.err ∙ (k.tree ∙ (home.tree ∙ sym (tree_same p u w)))))
+          (t.clock ∙ (k.clock ∙ (home.clock ∙ ap length (sym (history_same p u w (request_of c.args.call.now))))))
+          (t.same_limit ∙ (k.same_limit ∙ (home.same_limit ∙ ap (λ z. z.limit) (sym w.same.same_share))))
+          c.refill_keys-in-Err.ensures.stage;
     }
