@@ -17,7 +17,7 @@ use Rattle.dc_shrink.specs.Uses.{KeepsUse, SetsUse}
 use Rattle.dc_events.specs.Rows.{row_words}
 use Rattle.dc_table.specs.RowStates.{RowState}
 use Rattle.dc_rows.specs.Filling.{Emptied}
-use Rattle.dc_rows.specs.RowChanges.{SameRow, KeepsWords, OnlyRow, IsEmpty, UnpinsRow, UnpinsAll, IsChosen, HasGot, MayFill, Gets, PinsOnce, IsFilled, PinsAnswered}
+use Rattle.dc_rows.specs.RowChanges.{SameRow, KeepsWords, OnlyRow, IsEmpty, UnpinsRow, UnpinsAll, IsChosen, HasGot, MayFill, Gets, IsFilled, PinsAnswered}
 use Rattle.dc_rows.proofs.Lists.{filter_past, without_twice, without_first, pins_dropped, pins_dropped_here, pins_with, pins_with_here}
 use Rattle.dc_rows.proofs.SameRows.{same_row, same_then, empty_still, empties_row, row_dropped}
 
@@ -155,7 +155,7 @@ module _ (key : Key) (s m u : RowState) (row : ℕ) (chosen : IsChosen key s row
   gets_chosen (Ok None) got = record { row = row; pins = unpinned ∙ sym chosen.may.1; own = inr chosen; only = all_only }
   gets_chosen (Err fault) got = record { row = row; pins = unpinned ∙ sym chosen.may.1; own = inr chosen; only = all_only }
 
--- the row that a key has got is pinned, or isn't
+-- the row that a key has got is pinned
 module _ (key : Key) (s t u : RowState) (row : ℕ) (got : HasGot key 0 s t row) (words : u.words ≡ t.words) (slots : u.slots ≡ t.slots) (inuse : KeepsUse t.used u.used) where
   kept_own : KeepsWords s u row ⊎ IsChosen key s row
   kept_own = elim got.own [
@@ -163,27 +163,14 @@ module _ (key : Key) (s t u : RowState) (row : ℕ) (got : HasGot key 0 s t row)
     | inr chosen ↦ inr chosen
   ]
 
-  unpinned_still : u.used ≡ t.used → MayFill key s u
-  unpinned_still same = let none : pins_of u.used row ≡ pins_of s.used row = ap (λ (z : Listing). pins_of z row) same ∙ (got.pins ∙ omega arith) in record {
-    row = row;
-    pins = none;
-    own = elim kept_own [ inl was ↦ inl (with_same_pins s u row was none) | inr chosen ↦ inr chosen ];
-    only = only_then s t u row got.only (pins_only t u row words slots inuse (λ r ne. ap (λ (z : Listing). pins_of z r) same) (ap (λ (z : Listing). without row z.listed) same));
-  }
-
-  pinned_too : u.used ≡ pinned_once t.used row → HasGot key 1 s u row
-  pinned_too is = let more : pins_of u.used row ≡ pins_of t.used row + 1 = ap (λ (z : Listing). pins_of z row) is ∙ pins_with_here t.used row (pins_of t.used row + 1) in let before = got.pins in record {
+  pub gets_pin : u.used ≡ pinned_once t.used row → HasGot key 1 s u row
+  gets_pin is = let more : pins_of u.used row ≡ pins_of t.used row + 1 = ap (λ (z : Listing). pins_of z row) is ∙ pins_with_here t.used row (pins_of t.used row + 1) in let before = got.pins in record {
     has = ap (λ (z : List Slot). slot_of z row) slots ∙ got.has;
     pins = omega arith;
     own = kept_own;
     only = only_then s t u row got.only (pins_only t u row words slots inuse (λ r ne. ap (λ (z : Listing). pins_of z r) is ∙ pins_with t.used row (pins_of t.used row + 1) r ne)
         (ap (λ (z : Listing). without row z.listed) is ∙ without_twice row t.used.listed));
   }
-
-  pub gets_pin : (result : Result (Option ℕ) NoMemory) → IfOk result (λ found. IfSome found (λ r. r ≡ row)) → PinsOnce row t.used u.used result → Gets key 1 s u result
-  gets_pin (Ok (Some r)) same is = subst (λ (k : ℕ). HasGot key 1 s u k) (sym same) (pinned_too is)
-  gets_pin (Ok None) same is = unpinned_still is
-  gets_pin (Err fault) same is = unpinned_still is
 
 none_came : (key : Key) (s t : RowState) → MayFill key s t → (r : ℕ) → pins_of t.used r ≡ pins_of s.used r
 none_came key s t m r = elim (cases_eq r m.row) [

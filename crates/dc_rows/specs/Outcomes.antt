@@ -14,7 +14,7 @@ use Rattle.dc_table.specs.Changes.{Recorded}
 use Rattle.dc_table.specs.Passes.{Pass, known, view, share, IsSamePass, IsIdle}
 use Rattle.dc_table.specs.Shares.{Known, HadOnce}
 use Rattle.dc_table.specs.RowStates.{RowState}
-use Rattle.dc_rows.specs.Changes.{Failed}
+use Rattle.dc_rows.specs.Changes.{Altered, Failed}
 use Rattle.dc_rows.specs.Guards.{seat_of, kept_by, rows_of}
 use Rattle.dc_rows.specs.RowChanges.{EmptiesLast, Gets, PinsAnswered, UnpinsAll}
 use Rattle.dc_rows.specs.Refills.{Retold, Turns}
@@ -29,6 +29,10 @@ pub record IsBack (g : Guard) (back : MutBor Pass) : Type 0 where
   pub idle : IsIdle back.now
   pub tries : (known back.now).tries ≡ (known (seat_of g)).tries
   pub got : (known back.now).got ≡ (known (seat_of g)).got
+
+-- a guard's pass has committed the call, whose reply this is, and written words of rows besides
+abbrev pub AlteredHeld : Guard → Guard → Request → Reply → Type 0
+AlteredHeld g h call reply = Altered (seat_of g) (seat_of h) call (answer_of reply)
 
 -- the rows after a change that was made after this history, or wasn't: those whose keys it touches tell what the tree has then, and all others are as they were
 abbrev pub RowsAfter : ℕ → List Request → RowState → RowState → Request → Result (Reply × ℕ) ChangeFault → Type 0

@@ -15,9 +15,11 @@ use Rattle.dc_table.specs.Changes.{tree_now}
 use Rattle.dc_table.specs.Passes.{share}
 use Rattle.dc_table.specs.declared.table.Guarded.{Guarded}
 use Rattle.dc_table.specs.declared.holder.Holder.{Holder}
-use Rattle.dc_table.specs.Holders.{pass_of, rows_held}
+use Rattle.dc_table.specs.Holders.{rows_held}
+use Rattle.dc_rows.specs.Guards.{kept_by, rows_of, seat_of}
 use Rattle.dc_rows.specs.Rows.{Between}
 use Rattle.dc_rows.specs.RowChanges.{KeepsPins, SameRow, IsEmpty, CanTell}
+use Rattle.dc_rows.specs.declared.guard.Guard.{Guard}
 
 -- the rows with these keys have become so, and all others are as they were; the list has lost only rows without a key
 pub record Turns (Become : RowState → RowState → ℕ → Key → Type 0) (Among : Key → Type 0) (s t : RowState) : Type 0 where
@@ -52,9 +54,9 @@ Shuts Among h x j y = TurnsIn Shut Among h x j y
 abbrev pub Refills : (Key → Type 0) → Holder → Guarded → Holder → Guarded → Type 0
 Refills Among h x j y = TurnsIn (Refilled x.store) Among h x j y
 
--- the rows whose keys the call touches tell what this tree has under them, and all others are as they were
-abbrev pub Retells : Tree → Holder → Guarded → Holder → Guarded → Request → Type 0
-Retells tree h x j y call = let p = pass_of h in TurnsIn (Retold tree) (Touches (share p).limit (tree_now p) call) h x j y
+-- the rows whose keys the call touches tell what the guard's tree has under them, and all others are as they were
+abbrev pub Retells : Guard → Guard → Request → Type 0
+Retells g h call = let p = seat_of g in Turns (Retold (kept_by h).store) (Touches (share p).limit (tree_now p) call) (rows_of g) (rows_of h)
 
 -- the key at a place of the list
 abbrev pub Place : List Key → ℕ → Key → Type 0

@@ -10,7 +10,7 @@ use Rattle.dc_row.specs.Spelling.{Spells, has_spelling}
 use Rattle.dc_index.specs.Slots.{Slot, slot_of, has_key, IsRowOf}
 use Rattle.dc_index.specs.Slots.Slot.{Holds as Held}
 use Rattle.dc_index.specs.Choices.{choice, MayTake}
-use Rattle.dc_shrink.specs.Listings.{Listing, is_in, is_used, pins_of, pinned_once, without}
+use Rattle.dc_shrink.specs.Listings.{is_in, is_used, pins_of, without}
 use Rattle.dc_events.specs.Rows.{most, count, row_words}
 use Rattle.dc_table.specs.Rows.{is_retired}
 use Rattle.dc_table.specs.RowStates.{RowState}
@@ -110,12 +110,6 @@ abbrev pub PinsAnswered : RowState → RowState → Result (Option ℕ) NoMemory
 PinsAnswered s t (Ok (Some row)) = PinsOnly row s t
 PinsAnswered s t (Ok None) = SamePins s t
 PinsAnswered s t (Err fault) = SamePins s t
-
--- one row's pins where a row is answered: one more; else all is as it was
-abbrev pub PinsOnce : ℕ → Listing → Listing → Result (Option ℕ) NoMemory → Type 0
-PinsOnce row was s (Ok (Some pinned)) = s ≡ pinned_once was row
-PinsOnce row was s (Ok None) = s ≡ was
-PinsOnce row was s (Err fault) = s ≡ was
 
 -- this very row was found, and has the key
 abbrev pub IsFilled : List Slot → ℕ → Key → ℕ → Type 0

@@ -6,10 +6,10 @@ ghost use Rattle.dc_ops.specs.Asked.{IsChange};
 ghost use Rattle.dc_ops.specs.Knowing.{IsKnownOn};
 ghost use Rattle.dc_ops.specs.Plans.{CallTakesNoMemory, Plans};
 ghost use Rattle.dc_plain.specs.IsWellFormed.{IsWellFormed};
-ghost use Rattle.dc_plain.specs.Requests.{request_of, answer_of};
-ghost use Rattle.dc_rows.specs.Changes.{Altered, OnlyWrites};
+ghost use Rattle.dc_plain.specs.Requests.{request_of};
+ghost use Rattle.dc_rows.specs.Changes.{OnlyWrites};
 ghost use Rattle.dc_rows.specs.Guards.{kept_by, seat_of};
-ghost use Rattle.dc_rows.specs.Outcomes.{IsBack, MakesHeld};
+ghost use Rattle.dc_rows.specs.Outcomes.{AlteredHeld, IsBack, MakesHeld};
 ghost use Rattle.dc_rows.specs.Refills.{Retells};
 ghost use Rattle.dc_table.specs.Changes.{IsTaken, tree_now};
 ghost use Rattle.dc_table.specs.Passes.{view, share};
@@ -84,12 +84,10 @@ impl<'t> Guard<'t> {
             Plans (share p).limit (tree_now p) (request_of call.now) plan }
         requires early { length (view (seat_of self.old)).hold.history < most }
         ensures same_reference { self.new.holder.pass.ghost_name ≡ self.old.holder.pass.ghost_name }
-        ensures ok { IfOk result (λ reply. Altered (seat_of self.old) (seat_of self.new)
-            (request_of call.now) (answer_of reply)) }
+        ensures ok { IfOk result (AlteredHeld self.old self.new (request_of call.now)) }
         ensures err { OnErr result (OnlyWrites (seat_of self.old) (seat_of self.new)) }
         ensures without_memory { CallTakesNoMemory (request_of call.now) → IsOk result }
-        ensures rows { Retells (kept_by self.new).store self.old.holder (kept_by self.old)
-            self.new.holder (kept_by self.new) (request_of call.now) }
+        ensures rows { Retells self.old self.new (request_of call.now) }
     {
         calls_touch_the_listed_keys();
         untouched_facts_stay();

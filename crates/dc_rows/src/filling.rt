@@ -120,9 +120,7 @@ impl Guard<'_> {
         requires words { IsOf (tree_now (seat_of self.old)) words.now (key_in key.now) }
         ensures same_reference { self.new.holder.pass.ghost_name ≡ self.old.holder.pass.ghost_name }
         ensures keeps { Keeps self.old self.new }
-        ensures row { IfOk result (λ found. IfSome found (λ row.
-            slot_of (kept_by self.new).index row ≡ Held (key_in key.now))) }
-        ensures rows { Gets (key_in key.now) 0 (rows_of self.old) (rows_of self.new) result }
+        ensures fills { Fills (key_in key.now) self.old self.new result }
     {
         rows_end_in_zeros();
         let holder = &mut self.holder;

@@ -1,12 +1,14 @@
 use Rattle.std.proofs.Common.{◌∙◌, refl, sym, ap, subst, map, length}
-use Rattle.dc_table.specs.Changes.{words_of}
+use Rattle.dc_table.specs.Passes.{share}
+use Rattle.dc_table.specs.Changes.{tree_now, words_of}
 use Rattle.dc_rows.specs.Guards.{rows_at}
 use Rattle.std.proofs.lemmas.List.{length-map}
 use Rattle.dc_plain.specs.KeysShown.{key_shown}
 use Rattle.dc_plain.specs.Requests.{request_of}
 use Rattle.dc_ops.specs.Keys.{AreDistinct}
 use Rattle.dc_table.specs.declared.table.Guarded.{Guarded}
-use Rattle.dc_rows.specs.Refills.{Retells}
+use Rattle.dc_plain.specs.Runs.{Touches}
+use Rattle.dc_rows.specs.Refills.{Retold, Turns}
 use Rattle.dc_rows.proofs.Held.{home_is, rest_of}
 use Rattle.dc_rows.proofs.Altering.{rows_stay, retold_call, stage_committed, well_same, touched_same, can_commit, store_after, clock_after, limit_after, history_same, home_again}
 use Rattle.dc_rows.proofs.Commits.{from_rest}
@@ -53,14 +55,14 @@ invariant_of-self c = let home = home_is c.args.self.now.holder.pass.now c.deref
 
 pub returns-in-Ok-clause-rows : goal.returns-in-Ok-clause-rows
 returns-in-Ok-clause-rows c = let p = c.args.self.now.holder.pass.now in let k = c.shut_keys.new in let u = c.refill_keys.new in
-    subst (λ (x : Guarded). Retells u.kept.store c.args.self.now.holder x u.holder u.kept (request_of c.args.call.now)) c.deref_mut-kept.ensures.value (
+    subst (λ (x : Guarded). Turns (Retold u.kept.store) (Touches (share p).limit (tree_now p) (request_of c.args.call.now)) (rows_at p x) (rows_at u.holder.pass.now u.kept)) c.deref_mut-kept.ensures.value (
     retold_call u.kept.store _ p _ (rows_at k.holder.pass.now k.kept) _ (words_of c.commit.new.self.pass.now) (request_of c.args.call.now) (map key_shown c.as_slice-keys.result.now) _ (sym (length-map c.as_slice-keys.result.now key_shown))
     (ap (map key_shown) c.as_slice-keys.ensures.value ∙ (c.keys-keys.ensures ∙ c.requires.plans.keys)) c.calls_touch_the_listed_keys.ensures.keys c.requires.well c.shut_keys.ensures.rows
     (rows_stay k.holder.pass.now c.commit.new.self.pass.now (request_of c.args.call.now) c.commit.ensures.same c.commit.ensures.view) c.refill_keys.ensures.tree.tree c.refill_keys.ensures.rows)
 
 pub returns-in-Err-clause-rows : goal.returns-in-Err-clause-rows
 returns-in-Err-clause-rows c = let p = c.args.self.now.holder.pass.now in let k = c.shut_keys.new in let u = c.refill_keys-in-Err.new in
-    subst (λ (x : Guarded). Retells u.kept.store c.args.self.now.holder x u.holder u.kept (request_of c.args.call.now)) c.deref_mut-kept.ensures.value (
+    subst (λ (x : Guarded). Turns (Retold u.kept.store) (Touches (share p).limit (tree_now p) (request_of c.args.call.now)) (rows_at p x) (rows_at u.holder.pass.now u.kept)) c.deref_mut-kept.ensures.value (
     retold_call u.kept.store _ p _ (rows_at k.holder.pass.now k.kept) _ (words_of k.holder.pass.now) (request_of c.args.call.now) (map key_shown c.as_slice-keys.result.now) _ (sym (length-map c.as_slice-keys.result.now key_shown))
     (ap (map key_shown) c.as_slice-keys.ensures.value ∙ (c.keys-keys.ensures ∙ c.requires.plans.keys)) c.calls_touch_the_listed_keys.ensures.keys c.requires.well c.shut_keys.ensures.rows
     (λ row. refl) c.refill_keys-in-Err.ensures.tree.tree c.refill_keys-in-Err.ensures.rows)

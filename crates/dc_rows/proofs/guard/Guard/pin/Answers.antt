@@ -1,4 +1,4 @@
-use Rattle.std.proofs.Common.{refl, ap, subst, ◌≡◌, ℕ, Option, Some, Ok}
+use Rattle.std.proofs.Common.{refl, ap, subst, ◌≡◌, ℕ, Option, Ok}
 use Rattle.dc_plain.specs.KeysShown.{key_shown}
 use Rattle.dc_shrink.specs.Listings.{pinned_once}
 use Rattle.dc_shrink.specs.Uses.{KeepsUse}
@@ -18,5 +18,4 @@ invariant_of-self c = let g = c.fill.new.self in let k = c.deref_mut.result.now 
 pub returns-in-Ok-clause-rows : goal.returns-in-Ok-clause-rows
 returns-in-Ok-clause-rows c = let key = key_shown c.args.key.now.key in let s = rows_of c.args.self.now in let t = rows_of c.fill.new.self in let k = c.deref_mut.result.now in let e = c.deref_mut.ensures.value in let row = c.in-Some.row in let p = c.pin in
     gets_pin key s t (rows_at c.fill.new.self.holder.pass.now (record k { shrinker = p.new.self })) row (subst (λ (o : Option ℕ). Gets key 0 s t (Ok o)) c.in-Some.is c.in_ok-row.ensures.rows) refl
-    (ap (λ (y : Guarded). y.index) e) (subst (λ (y : Guarded). KeepsUse y.shrinker p.new.self) e p.ensures.same_use) (Ok (Some row)) refl
-    (subst (λ (y : Guarded). p.new.self ≡ pinned_once y.shrinker row) e c.in-Ok.ensures.pinned)
+    (ap (λ (y : Guarded). y.index) e) (subst (λ (y : Guarded). KeepsUse y.shrinker p.new.self) e p.ensures.same_use) (subst (λ (y : Guarded). p.new.self ≡ pinned_once y.shrinker row) e c.in-Ok.ensures.pinned)
