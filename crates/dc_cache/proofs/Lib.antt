@@ -1,3 +1,4 @@
+-- Lemmas about reads, look-ups of links, and what a change takes away.
 pub mod Tellings
 pub mod ReadLinks
 pub mod Taken

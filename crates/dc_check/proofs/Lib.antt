@@ -1,3 +1,4 @@
+-- Lemmas about records, the order that stamps give them, and the judge of their replies.
 pub mod Replies
 pub mod Stamps
 pub mod Sound

@@ -1,3 +1,4 @@
+-- Lemmas about the events of a core, the rule that each keeps, and the headline.
 pub mod Below
 pub mod Told
 pub mod Shown

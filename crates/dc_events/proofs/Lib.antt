@@ -1,3 +1,4 @@
+-- Lemmas about events and views, of which the laws are made.
 pub mod Below
 pub mod Words
 pub mod Later

@@ -1,3 +1,4 @@
+-- Lemmas about lines, sessions, phases and replies as text.
 pub mod Words
 pub mod Parts
 pub mod Sessions

@@ -1,3 +1,4 @@
+-- Lemmas about the parts of a path, and about bytes as words.
 pub mod Parts
 pub mod Valid
 pub mod Named

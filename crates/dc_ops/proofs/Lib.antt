@@ -1,3 +1,4 @@
+-- Lemmas about plans, what they touch, and what they leave of a tree.
 pub mod Rooms
 pub mod Goes
 pub mod Looks

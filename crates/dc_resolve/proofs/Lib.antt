@@ -1,3 +1,4 @@
+-- Lemmas about a path that is resolved name by name, and by links.
 pub mod Placing
 pub mod Fronts
 pub mod Going

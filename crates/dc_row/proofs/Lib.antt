@@ -1,3 +1,4 @@
+-- Lemmas about the words of a row and what they spell.
 pub mod Written
 pub mod Read
 pub mod Labels

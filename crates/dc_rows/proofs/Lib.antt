@@ -1,3 +1,4 @@
+-- Lemmas about rows that are filled, pinned, emptied, shut and filled again.
 pub mod Cells
 pub mod Narrow
 pub mod Slots

@@ -1,3 +1,4 @@
+-- Lemmas about sessions, their shares and clocks, and the order of a run.
 pub mod Alone
 pub mod BytesLemmas
 pub mod Clocks

@@ -1,3 +1,4 @@
+-- Lemmas about the list by last use and the pins.
 pub mod Lists
 pub mod Entries
 pub mod Orders

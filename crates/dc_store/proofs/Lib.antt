@@ -1,3 +1,4 @@
+-- Lemmas about inodes, entries and names, and about the tree that they stand for.
 pub mod Decides
 pub mod Spots
 pub mod Keys

@@ -1,3 +1,4 @@
+-- Lemmas about the rule of the table, which each step keeps, and about shares.
 pub mod Totals
 pub mod Sharing
 pub mod Cells

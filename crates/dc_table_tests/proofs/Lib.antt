@@ -1,2 +1,3 @@
+-- Lemmas for walks that a test takes by hand.
 pub mod Agreeing
 pub mod ByHand

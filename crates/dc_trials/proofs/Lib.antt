@@ -1,0 +1,1 @@
+-- No answer here needs a lemma.

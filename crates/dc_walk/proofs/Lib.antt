@@ -1,3 +1,4 @@
+-- Lemmas about walks: what is seen of rows, the rows that answered, and what is answered.
 pub mod Seats
 pub mod Probed
 pub mod Marks
