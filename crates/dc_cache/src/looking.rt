@@ -113,6 +113,7 @@ impl Dcache {
         ensures answered { IfSome result (Answered pass.old pass.new
             (Look base path.entry.bytes.now follow)) }
         ensures nothing { IfNone result (NothingNew (view pass.old) (view pass.new)) }
+        ensures untried { HasNotTried (known pass.old) (known pass.new) }
         ensures noted { IfNone result (AreNoted (view pass.new) (share pass.new).rows pass.new.room) }
     {
         let look = dc_walk::Look { base, path, follow };
