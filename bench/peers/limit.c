@@ -5,6 +5,10 @@
  * words. The row of a link's text has tag 2, the link's number, a 0, and the text, which begins at the root. A bucket
  * has four rows. Each load and each store is sequentially consistent.
  *
+ * It is the quickest walk over such rows that we know: of a name it packs the words that the name fills and no more, and
+ * of a row that it uses it reads all words. With -DWHOLE it clears and packs all 32 words of each name, as it did until
+ * November 2026.
+ *
  * Behind the rows stands a table of all names, which is read and changed by who has the lock. A change makes the counts
  * of its names' rows odd, adds one to the clock, writes what the rows tell now, and makes the counts even. */
 #define _GNU_SOURCE
@@ -20,7 +24,7 @@
 
 enum { BUCKETS = 1024, BUCKET_ROWS = 4, ROW = 36, NAME_WORDS = 32, MOST_NOTES = 256, ENTRY = 1, TEXT = 2, ROOT = 1 };
 enum { NONE, DIRECTORY, PLAIN_FILE, LINK };
-enum { MOST_LINKS = 40, TEXT_ROOM = 8 * NAME_WORDS, LINK_TEXTS = 1 << 13 };
+enum { MOST_LINKS = 40, MOST_PATH = 4095, TEXT_ROOM = 8 * NAME_WORDS, LINK_TEXTS = 1 << 13 };
 enum { HEADS = 1 << 17, WALKS = 8, TRIES = 20, MOST_DOUBLINGS = 9 };
 
 /* What a walk by rows finds: what the path leads to or that it leads nowhere, that a name has no row, or that a row
@@ -82,11 +86,42 @@ static inline uint64_t hash_number(uint64_t number)
     return hash;
 }
 
-/* A name in 32 words, the first byte lowest. */
-static inline void pack(const char *name, size_t length, uint64_t packed[NAME_WORDS])
+/* A name in the words that it fills, the first byte lowest, and how many these are. The last is filled up with zeros. */
+static inline size_t pack(const char *name, size_t length, uint64_t packed[NAME_WORDS])
 {
+#ifdef WHOLE
     memset(packed, 0, NAME_WORDS * sizeof *packed);
     memcpy(packed, name, length);
+    return NAME_WORDS;
+#else
+    size_t full = length / 8;
+    for (size_t i = 0; i < full; i++)
+        memcpy(&packed[i], name + 8 * i, 8);
+    if (length % 8 == 0)
+        return full;
+    packed[full] = 0;
+    for (size_t at = length; at > 8 * full; at--)
+        packed[full] = packed[full] << 8 | (unsigned char)name[at - 1];
+    return full + 1;
+#endif
+}
+
+/* Whether a row's text, all of which is read, is these words, and zeros after them. */
+static inline int is_text(size_t row, const uint64_t packed[NAME_WORDS], size_t filled)
+{
+    uint64_t differ = 0;
+    for (size_t i = 0; i < filled; i++)
+        differ |= words[row + 4 + i] ^ packed[i];
+    for (size_t i = filled; i < NAME_WORDS; i++)
+        differ |= words[row + 4 + i];
+    return !differ;
+}
+
+/* Writes a row's text: these words, and zeros after them. */
+static void write_text(size_t row, const uint64_t packed[NAME_WORDS], size_t filled)
+{
+    for (size_t i = 0; i < NAME_WORDS; i++)
+        words[row + 4 + i] = i < filled ? packed[i] : 0;
 }
 
 static size_t row_of(uint64_t hash, size_t i)
@@ -95,10 +130,11 @@ static size_t row_of(uint64_t hash, size_t i)
 }
 
 /* Reads the row of a key, if its bucket has one that is even: FOUND, else MISSED or DISTURBED. */
-static inline enum answer find(uint64_t number, uint64_t hash, const uint64_t name[NAME_WORDS], size_t length,
-                               struct told *told, struct note *note)
+static inline enum answer find(uint64_t number, uint64_t hash, const char *name, size_t length, struct told *told,
+                               struct note *note)
 {
-    uint64_t counts = 0;
+    uint64_t counts = 0, packed[NAME_WORDS];
+    size_t filled = pack(name, length, packed);
     for (size_t i = 0; i < BUCKET_ROWS; i++) {
         size_t row = row_of(hash, i);
         uint64_t count = words[row];
@@ -106,10 +142,10 @@ static inline enum answer find(uint64_t number, uint64_t hash, const uint64_t na
         counts |= count;
         if (count % 2 || (header & 0xffffff) != (ENTRY | (uint64_t)length << 8))
             continue;
-        uint64_t parent = words[row + 2], target = words[row + 3], differ = parent ^ number;
-        for (size_t j = 0; j < NAME_WORDS; j++)
-            differ |= words[row + 4 + j] ^ name[j];
-        if (differ)
+        if (words[row + 2] != number)
+            continue;
+        uint64_t target = words[row + 3];
+        if (!is_text(row, packed, filled))
             continue;
         *told = (struct told){target, (int)(header >> 24)};
         *note = (struct note){row, count};
@@ -165,13 +201,12 @@ static inline __attribute__((always_inline)) enum answer go_over(struct walked *
     while (at < length && told.kind == DIRECTORY) {
         at += 1;
         size_t begin = at;
-        uint64_t hash = hash_number(told.target), name[NAME_WORDS];
+        uint64_t hash = hash_number(told.target);
         while (at < length && path[at] != '/')
             hash = (hash ^ (unsigned char)path[at++]) * PRIME;
         if (at - begin > 8 * NAME_WORDS || used == MOST_NOTES)
             return MISSED;
-        pack(path + begin, at - begin, name);
-        enum answer answer = find(told.target, hash, name, at - begin, &told, &walked->notes[used]);
+        enum answer answer = find(told.target, hash, path + begin, at - begin, &told, &walked->notes[used]);
         if (answer != FOUND)
             return answer;
         used += 1;
@@ -208,6 +243,9 @@ static enum answer walk(const char *path, size_t length)
 {
     static _Thread_local struct walked walked;
     struct told told;
+    /* A text that is no path is refused, as the cache refuses it. */
+    if (!length || length > MOST_PATH || memchr(path, 0, length))
+        return ABSENT;
     walked.used = walked.links = 0;
     enum answer answer = go_over(&walked, path, length, &told);
     if (answer != FOUND)
@@ -287,13 +325,11 @@ static uint64_t header_of(size_t length, int kind)
 /* The row of a key, or 0. */
 static size_t row_with(const struct key *key)
 {
-    uint64_t name[NAME_WORDS];
     struct told told;
     struct note note;
     if (key->length > 8 * NAME_WORDS)
         return 0;
-    pack(key->name, key->length, name);
-    return find(key->parent, key->hash, name, key->length, &told, &note) == FOUND ? note.row : 0;
+    return find(key->parent, key->hash, key->name, key->length, &told, &note) == FOUND ? note.row : 0;
 }
 
 /* A row that tells nothing, or where there is none the one whose turn it is. */
@@ -310,14 +346,12 @@ static void fill(const struct key *key, struct told told)
     uint64_t name[NAME_WORDS];
     if (key->length > 8 * NAME_WORDS)
         return;
-    size_t row = row_for(key->hash);
-    pack(key->name, key->length, name);
+    size_t row = row_for(key->hash), filled = pack(key->name, key->length, name);
     words[row]++;
     words[row + 1] = header_of(key->length, told.kind);
     words[row + 2] = key->parent;
     words[row + 3] = told.target;
-    for (size_t i = 0; i < NAME_WORDS; i++)
-        words[row + 4 + i] = name[i];
+    write_text(row, name, filled);
     words[row]++;
 }
 
@@ -330,14 +364,12 @@ static void fill_text(uint64_t number)
     struct note note;
     if (length > TEXT_ROOM || find_text(number, old, &old_length, &note) == FOUND)
         return;
-    size_t row = row_for(hash_number(number));
-    pack(texts[number], length, text);
+    size_t row = row_for(hash_number(number)), filled = pack(texts[number], length, text);
     words[row]++;
     words[row + 1] = TEXT | (uint64_t)length << 8;
     words[row + 2] = number;
     words[row + 3] = 0;
-    for (size_t i = 0; i < NAME_WORDS; i++)
-        words[row + 4 + i] = text[i];
+    write_text(row, text, filled);
     words[row]++;
 }
 
