@@ -1,43 +1,62 @@
-/* A cache of directory entries in front of a tree of names in memory, for C11 and C++.
+/* Gigbewu: a tree of file names in memory, with a cache of directory entries in front of it. For C11 and C++.
  *
- * A cache holds a tree of directories, files and symbolic links: names and inode numbers, no bytes of files. It begins
- * with the root, directory 1, and is changed by the calls below alone. A look-up goes from row to row without a lock,
- * and checks afterwards that no row it used has changed.
+ *     #include <gigbewu.h>
+ *     #include <stdio.h>
+ *     int main(void)
+ *     {
+ *         struct gb_gate gate = gb_gate_new();
+ *         struct gb_pass pass = {0};
+ *         struct gb_found found = {0};
+ *         gb_cache_new(1024, 1000, &pass); // 1,024 buckets of four rows, up to 1,000 inodes
+ *         gb_mkdir(&gate, &pass, GB_ROOT, "/a", 2, &found);
+ *         int answer = gb_look(&gate, &pass, GB_ROOT, "/a", 2, GB_FOLLOW, &found);
+ *         printf("%d: inode %d\n", answer, (int)found.number); // 0: inode 2
+ *         return gb_close(&pass);
+ *     }
  *
- * Threads share a cache, and each calls it with a pass of its own. gb_cache_new makes the first pass, gb_pass_split one
- * more for another thread. A pass is the cache's as long as it is open: the cache ends with its last pass.
+ * The tree has directories, files and symbolic links: names and inode numbers, no bytes of files. It begins with the
+ * root, directory 1. Only the calls below change it. A look-up goes from row to row of the cache without a lock, and
+ * checks at its end that no row it used has changed.
  *
- * No call here waits. One that needs the lock tries for it once, and answers GB_BUSY if another pass has it; nothing
- * has happened then. The blocking forms at the end of this file (gb_look, gb_mkdir, ..) try again, and sleep meanwhile.
+ * You want                                     Call
+ * to look a path up                            gb_look; gb_look_fast if it may not wait
+ * its kind and names; a link's text; a list    gb_stat; gb_readlink; gb_list
+ * to change the tree                           gb_mkdir, gb_create, gb_symlink, gb_link, gb_unlink, gb_rmdir, gb_rename
+ * the same, but never to wait                  gb_try_stat, gb_try_mkdir, .. (GB_BUSY: another pass has the lock)
+ * a pass for one more thread                   gb_pass_split
+ * to see a change that another thread reports  gb_learn
+ * to know whether the cache has too few rows   gb_counts
  *
- * A path is so many bytes, and needs no zero byte at its end. `base` is the number of the directory where a relative
- * path starts. Names have up to 255 bytes, paths up to 4,095, and as many links are followed as on Linux. No pointer may
- * be null, also if nothing is to be read or written behind it.
+ * Each thread calls with a pass of its own. gb_cache_new makes the first one, gb_pass_split one more. A cache lives
+ * until its last pass is closed. A pass weighs 43 KB, and a split takes 20 to 70 microseconds: keep one for each thread
+ * rather than one for each request.
  *
- * What is proved. The library is proved as it is written, in Rattle. Each function is safe and ends, if its caller
- * keeps the rules below, and it answers what the proved call of its name does: whatever the schedule of the threads,
- * each call that answers 0 or a refusal takes effect at one moment between its call and its return, and the answer is
- * what that operation gives on the tree of that moment. In the order of these moments all answers are those of a single
- * thread. That is proved of the library's calls, and of each look-up, read and change below that it makes the call of its
- * name, with these arguments, and tells its answer in these numbers. What else is proved of a function, or is not, its
- * comment says. docs/PROMISES.md of the library has it clause by clause.
+ * No function of the library waits. One that needs the lock tries for it once, and answers GB_BUSY if another pass has
+ * it: then nothing has happened. The blocking forms at the end of this file (gb_look, gb_mkdir, ..) try again, and
+ * sleep meanwhile.
  *
- * Who may call. Any thread may call any function at any time, with an open pass that no other call has. The comments
- * say what else is asked.
+ * A path is `len` bytes, without a zero byte at its end. `base` is the number of the directory from which a relative
+ * path starts. Names have up to 255 bytes, paths up to 4,095, and one path may pass 40 links. Names may come from
+ * anybody: any bytes are safe, and none lead to a wrong answer. Somebody who chooses names whose hashes collide makes
+ * calls slower.
  *
- * What is not proved: this file, the compiler, the C library (malloc, free), and what a caller does wrong. The rules:
+ * Rules:
  *
- *   - A pass is in one call at a time. Two threads that use one pass at once are an error that may corrupt memory.
- *     Found at run time if that costs nothing: some such calls answer GB_BAD_PASS, others are not noticed.
- *   - A pass that moves to another thread does so by a lock, a thread's start or end, or a seq_cst atomic.
- *   - A pass is never copied by its bytes, and changed by these calls alone. Used after its end it is blank, which is
- *     found: GB_BAD_PASS. A copy made before is not blank, and using it is an error that is not noticed.
- *   - A pass knows its cache, so no call can be made with the pass of another cache. gb_pass_join takes two passes, and
- *     finds out if they are of two caches, unless passes of the second one are joined elsewhere at that moment; then
- *     it may end the pass all the same.
- *   - Pointers lead to as many bytes as is said, which nobody else writes during the call. No two of one call lead to the
- *     same bytes if either is written to: the passes of a call are two, and a path is not read from where the answer
- *     goes. Not tested.
+ *   - Call from any thread at any time, but use a pass in one call at a time. Two calls at once with one pass may
+ *     corrupt memory. Some such calls answer GB_BAD_PASS, others go unnoticed.
+ *   - Hand a pass to another thread by a lock, by a thread's start or end, or by a seq_cst atomic.
+ *   - Don't copy a pass. A closed pass is blank, and using it answers GB_BAD_PASS; a copy made before isn't blank, and
+ *     using it is an error that goes unnoticed.
+ *   - Don't join passes of two caches. That is usually, not always, reported: see gb_pass_join.
+ *   - Pointers must not be null, even with length 0. They lead to as many bytes as is said, which nobody else writes
+ *     during the call. If a call writes to one of its pointers, no other pointer of that call may lead to the same
+ *     bytes.
+ *
+ * What is proved: the library as it is written, in Rattle, if you keep these rules. Each function is safe and ends.
+ * Whatever the schedule of the threads, each call that answers 0 or a refusal takes effect at one moment between its
+ * call and its return, and its answer is the one that the tree of that moment gives. Put in the order of these moments,
+ * all answers are those of a single thread. The comment of a function says what else is proved of it, or only tested.
+ * docs/PROMISES.md of the library has it clause by clause. Not proved: this file, the compiler, the C library.
  */
 #ifndef GIGBEWU_H
 #define GIGBEWU_H
@@ -54,53 +73,59 @@ struct gb_pass {
     void *at;
 };
 
-/* What a call answers: 0 if it is done; above 0 a refusal, by Linux's number (ENOENT, EEXIST, ..: 1, 2, 16, 17, 20,
- * 21, 22, 28, 31, 36, 39, 40); below 0 one of these, and then the tree is as it was. */
+/* The root's number. */
+enum { GB_ROOT = 1 };
+
+/* What a call answers: 0 if it is done. Above 0 it is a refusal of the tree, by Linux's number: EPERM 1, ENOENT 2,
+ * EBUSY 16, EEXIST 17, ENOTDIR 20, EISDIR 21, EINVAL 22, ENOSPC 28, EMLINK 31, ENAMETOOLONG 36, ENOTEMPTY 39, ELOOP 40.
+ * Below 0 it is one of these, and the tree is as it was. */
 enum {
     GB_BUSY = -1,         /* another pass had the lock at some moment of this call: try again */
-    GB_AGAIN = -2,        /* gb_look_fast: the rows don't answer; `why` says why not */
+    GB_AGAIN = -2,        /* the rows don't answer; `why` says why not */
     GB_NO_MEMORY = -3,    /* malloc refused what the call needed */
     GB_SPENT = -4,        /* 2^62 changes were made, and no more can be; look-ups go on */
     GB_BAD_SIZE = -5,     /* gb_cache_new: not those numbers of buckets or inodes */
-    GB_BAD_PASS = -6,     /* a blank pass instead of an open one, or the other way round, or of another cache */
+    GB_BAD_PASS = -6,     /* a blank pass for an open one, an open one for a blank one, or one of another cache */
     GB_BAD_ARGUMENT = -7, /* `follow` or `flags` is none of the numbers below */
-    GB_NOT_YET = -8       /* gb_learn: so many changes have not been made */
+    GB_NOT_YET = -8       /* gb_learn: not that many changes have been made */
 };
 
 /* What a number names. */
 enum { GB_DIR = 1, GB_FILE = 2, GB_LINK = 3 };
 
-/* What becomes of a symbolic link at a path's end: it is followed; it is kept, unless a slash is behind it; it is
- * followed, and has to lead to a directory. Links before the end are always followed. */
+/* What becomes of a symbolic link at a path's end. GB_FOLLOW: it is followed. GB_NO_FOLLOW: it is kept, unless a slash
+ * is behind it. GB_DIRECTORY: it is followed, and has to lead to a directory. Links before the end are always
+ * followed. */
 enum { GB_FOLLOW = 0, GB_NO_FOLLOW = 1, GB_DIRECTORY = 2 };
 
-/* Of gb_try_rename, as Linux's renameat2 has them: nothing may stand at the new name; the two names swap what they
- * name. Both together are refused with EINVAL. */
+/* Flags of gb_rename, as Linux's renameat2 has them. GB_NO_REPLACE: nothing may stand at the new name. GB_EXCHANGE: the
+ * two names swap what they name. Both together are refused with EINVAL. */
 enum { GB_NO_REPLACE = 1, GB_EXCHANGE = 2 };
 
-/* Why gb_look_fast answered GB_AGAIN: no row tells of a name that is asked for; a row was being changed; a row that was
- * used has changed since; more rows would be used than can be noted; no row has the text of a link. */
+/* Why gb_look_fast or gb_readlink_fast answered GB_AGAIN. */
 enum {
     GB_WHY_NONE = 0,
-    GB_WHY_MISS = 1,
-    GB_WHY_BUSY = 2,
-    GB_WHY_CHANGED = 3,
-    GB_WHY_LONG = 4,
-    GB_WHY_LINK = 5
+    GB_WHY_MISS = 1,    /* no row tells of a name that is asked for */
+    GB_WHY_BUSY = 2,    /* a row was being changed */
+    GB_WHY_CHANGED = 3, /* a row that was used has changed since */
+    GB_WHY_LONG = 4,    /* more rows would be used than can be noted */
+    GB_WHY_LINK = 5     /* no row has the text of a link */
 };
 
-/* What was found. With answer 0 all of it holds, with a refusal `at` alone; with GB_AGAIN `why` alone; else none. */
+/* What was found. With answer 0 all of it holds, with a refusal `at` alone, with GB_AGAIN `why` alone, and what doesn't
+ * hold is 0. GB_BAD_PASS and GB_BAD_ARGUMENT leave it as it was, as they do all that a call may write to. */
 struct gb_found {
-    uint64_t number; /* what the path leads to; the inode that a change made, or gb_try_link gave a name; else 0 */
-    uint64_t count;  /* gb_try_stat, gb_try_readlink and gb_try_list say of what */
+    uint64_t number; /* what the path leads to; the inode that a change made, or gb_link gave a name; else 0 */
+    uint64_t count;  /* of gb_stat names or entries, of gb_readlink and gb_list bytes; else 0 */
     uint64_t at;     /* how many changes came before the moment of this answer */
     uint32_t kind;   /* GB_DIR, GB_FILE, GB_LINK; of changes 0 */
     uint32_t why;    /* GB_WHY_NONE, or the cause of GB_AGAIN */
 };
 
-/* What a change took away, so that a caller can let go what it keeps by inode number: the number and kind of what stood
- * at the name, and 1 if that name was its last (numbers are never used again). All 0 if nothing went. It is read
- * under the same hold of the lock. */
+/* What a change took away, so that you can let go of what you keep by inode number: the number and kind of what stood
+ * at the name, and 1 if that was its last name (numbers are never used again). It is read under the same hold of the
+ * lock. All 0 if nothing went, so also with a refusal and with GB_BUSY; as it was with GB_BAD_PASS and
+ * GB_BAD_ARGUMENT. */
 struct gb_gone {
     uint64_t number;
     uint32_t kind;
@@ -108,81 +133,88 @@ struct gb_gone {
 };
 
 /* Makes a cache and opens its first pass. `buckets`, of four rows each, is a power of two from 1 to 1,048,576. `inodes`
- * is how many may live at once, the root among them, from 1 to 1,048,576. With twice as many rows as names that are
- * looked up 4 look-ups in 100 find no row, with four times as many 4 in 1,000. A row weighs 380 bytes, and 64 more once
- * it is filled; with a name of 32 bytes or more some 45 and those of the name.
- * It takes a pass that is blank. That no other thread has its address yet is the caller's to see to.
- * Proved: it is safe and ends, it makes the cache of these sizes, and `blank` is its first pass then.
- * Answers 0, GB_BAD_SIZE exactly if the sizes are others, GB_NO_MEMORY, GB_BAD_PASS if the pass is open. */
+ * is how many may live at once, the root among them, from 1 to 1,048,576. A name that is looked up takes a row: with
+ * twice as many rows as such names 4 look-ups in 100 miss, with four times as many 4 in 1,000. A row weighs 380 bytes,
+ * and 64 more once it is filled; a name of 32 bytes or more some 45 besides its bytes.
+ * The pass must be blank, and no other thread may have its address yet.
+ * Proved: the cache is of these sizes, and `blank` is its first pass then.
+ * Answers 0, GB_NO_MEMORY, GB_BAD_PASS if the pass is open, GB_BAD_SIZE exactly if the sizes are others. */
 int gb_cache_new(uint64_t buckets, uint64_t inodes, struct gb_pass *blank);
 
-/* Opens one more pass of the cache of `pass`, for any thread. It has seen what `pass` has seen, and no answer that it
- * gets is older. Takes no lock. The thread that has `pass` makes the call, and hands the new one over.
- * Proved: it is safe and ends, and the new pass has half of what `pass` had.
+/* Opens one more pass of the cache of `pass`, for any thread. It has seen what `pass` has seen, and gets no older
+ * answer. The thread that has `pass` makes the call, and hands the new one over. Takes no lock.
+ * Proved: the new pass has half of what `pass` had.
  * Answers 0, GB_NO_MEMORY, GB_BAD_PASS. */
 int gb_pass_split(struct gb_pass *pass, struct gb_pass *blank);
 
-/* Ends `other`, which is blank then; `pass` has seen what either has seen. They are two passes of one cache, and the
- * thread that calls has both.
- * Proved: it is safe and ends; either both passes are as they were, or the other has ended. That two of one cache are
- * joined is tested.
+/* Closes `other`, and `pass` has then seen what either has seen. The thread that calls has both, and they are of one
+ * cache: passes of two caches are refused with GB_BAD_PASS, unless other passes of the second cache are being joined in
+ * another thread at that moment; then `other` may be closed all the same.
+ * Proved: either both passes are as they were, or `other` is blank. That two of one cache are joined is tested.
  * Answers 0, GB_BAD_PASS. */
 int gb_pass_join(struct gb_pass *pass, struct gb_pass *other);
 
-/* Ends a pass, which is blank then, and with the last pass of a cache its tree and all its memory. The caller sees to
- * it that what the threads did comes before, as by pthread_join.
+/* Closes a pass, which is blank then. The last pass of a cache ends it, its tree and all its memory. Make sure that
+ * what other threads did with the cache comes before, as by pthread_join. Takes no memory.
  * Proved: an open pass is blank then. That all memory is given back is tested.
  * Answers 0, GB_BAD_PASS. */
 int gb_close(struct gb_pass *pass);
 
-/* Looks a path up by the rows alone. It takes no lock and no memory, never waits, and makes a bounded number of loads,
- * all of which is proved, as is the reason that `why` gives if it answers GB_AGAIN. gb_try_look answers then.
+/* Looks a path up by the rows alone. It takes no lock and no memory, never waits, and makes a bounded number of loads.
+ * If it answers GB_AGAIN, gb_try_look answers.
+ * Proved: the answer, that it tries for no lock, the bound, and the reason that `why` gives. It is handed no allocator,
+ * and a test counts malloc.
  * Answers 0 with number and kind, a refusal, GB_AGAIN, GB_BAD_PASS, GB_BAD_ARGUMENT. */
 int gb_look_fast(struct gb_pass *pass, uint64_t base, const char *path, size_t len, uint32_t follow,
                  struct gb_found *found);
 
-/* Looks a path up under the lock, for whom gb_look_fast has answered GB_AGAIN, and fills rows for the next look-up as
- * far as there is memory. Want of memory is no answer of it. A text that is no path is refused without the lock.
- * Proved: the answer is that of one moment between the call and the return. That rows are filled is tested.
+/* Looks a path up under the lock, for a caller whose gb_look_fast has answered GB_AGAIN, and fills rows for the next
+ * look-up as far as there is memory. It never answers GB_NO_MEMORY. A text that is no path is refused without the lock.
+ * Proved: the answer. That rows are filled is tested.
  * Answers 0 with number and kind, a refusal, GB_BUSY, GB_BAD_PASS, GB_BAD_ARGUMENT. */
 int gb_try_look(struct gb_pass *pass, uint64_t base, const char *path, size_t len, uint32_t follow,
                 struct gb_found *found);
 
 /* Number and kind of what a path leads to, a last link followed, and in `count` how many names it has, or of a
  * directory how many entries. Takes the lock, and no memory.
- * Proved: all three are those of one moment between the call and the return.
+ * Proved: all three are those of one moment.
  * Answers 0, a refusal, GB_BUSY, GB_BAD_PASS. */
 int gb_try_stat(struct gb_pass *pass, uint64_t base, const char *path, size_t len, struct gb_found *found);
 
-/* The text of a symbolic link. Writes the first `room` bytes of it, or all if it has fewer, and no zero byte;
- * `count` is how many bytes the text has, at most 4,095. Takes the lock.
- * Proved: the text is that of one moment between the call and the return, and so are the bytes that are written.
- * Answers 0, a refusal (EINVAL of what is no link), GB_BUSY, GB_NO_MEMORY, GB_BAD_PASS. */
+/* What the rows alone tell of a readlink, under the terms of gb_look_fast: no lock, no memory, no wait. If the path
+ * leads to what is no link, or nowhere, it is refused as gb_try_readlink would refuse it. If it leads to a link, the
+ * answer is 0 with the link's number, and gb_try_readlink reads its text.
+ * Proved: as of gb_look_fast.
+ * Answers 0 with number and kind, a refusal (EINVAL if it is no link), GB_AGAIN, GB_BAD_PASS. */
+int gb_readlink_fast(struct gb_pass *pass, uint64_t base, const char *path, size_t len, struct gb_found *found);
+
+/* The text of a symbolic link. Writes the first `room` bytes of it, or all if it has fewer, and no zero byte. `count`
+ * is how many bytes the text has, at most 4,095. Takes the lock.
+ * Proved: the text is that of one moment, and so are the bytes that are written. The rest of `text` is as it was.
+ * Answers 0, a refusal (EINVAL if it is no link), GB_BUSY, GB_NO_MEMORY, GB_BAD_PASS. */
 int gb_try_readlink(struct gb_pass *pass, uint64_t base, const char *path, size_t len, char *text, size_t room,
                     struct gb_found *found);
 
-/* The names in a directory, in no order that is promised, without dot and dot-dot. Writes each with a zero byte behind
- * it, whole names as far as they fit into `room`; `count` is how many bytes all of them take. If that is more than
- * `room`, ask again with more. Takes the lock.
- * Proved: the names were read at one moment between the call and the return, and take `count` bytes. How they are
- * written to `names` is tested.
+/* The names in a directory, in no promised order, without dot and dot-dot. Writes whole names, each with a zero byte
+ * behind it, up to the first that doesn't fit into `room`. `count` is how many bytes all of them take: if that is more
+ * than `room`, ask again with more. Takes the lock.
+ * Proved: the names are those of one moment, and so are the bytes that are written. The rest of `names` is as it was.
  * Answers 0, a refusal (ENOTDIR), GB_BUSY, GB_NO_MEMORY, GB_BAD_PASS. */
 int gb_try_list(struct gb_pass *pass, uint64_t base, const char *path, size_t len, char *names, size_t room,
                 struct gb_found *found);
 
-/* The seven changes. Each takes the lock, and the memory of what it makes or moves. A last link is never followed.
- * Proved of each: it takes effect at one moment between the call and the return, whole or not at all, and every look-up
- * of any thread is on one side of that moment. After want of memory the tree is as it was. What `gone` says is so
- * of the same moment.
+/* The seven changes. Each takes the lock, and memory for what it makes or moves. A last link is never followed.
+ * Proved of each: it takes effect at one moment, whole or not at all, and every look-up of any thread is on one side of
+ * that moment. If it is out of memory, the tree is as it was. What `gone` says is true of the same moment.
  * They answer 0, a refusal, GB_BUSY, GB_NO_MEMORY, GB_SPENT, GB_BAD_PASS. */
 
-/* Makes an empty directory, whose number is found. */
+/* Makes an empty directory. Its number is found. */
 int gb_try_mkdir(struct gb_pass *pass, uint64_t base, const char *path, size_t len, struct gb_found *found);
 
-/* Makes a file, whose number is found. */
+/* Makes a file. Its number is found. */
 int gb_try_create(struct gb_pass *pass, uint64_t base, const char *path, size_t len, struct gb_found *found);
 
-/* Makes a symbolic link with a text, whose number is found. The text is tested as a path is: no zero byte, no name of
+/* Makes a symbolic link with a text. Its number is found. The text is tested as a path is: no zero byte, no name of
  * more than 255 bytes. */
 int gb_try_symlink(struct gb_pass *pass, uint64_t base, const char *text, size_t text_len, const char *path, size_t len,
                    struct gb_found *found);
@@ -191,38 +223,50 @@ int gb_try_symlink(struct gb_pass *pass, uint64_t base, const char *text, size_t
 int gb_try_link(struct gb_pass *pass, uint64_t base, const char *old_path, size_t old_len, const char *path, size_t len,
                 struct gb_found *found);
 
-/* Takes a name of a file or symbolic link away, which `gone` tells. */
+/* Takes a name of a file or symbolic link away. `gone` says what it named. */
 int gb_try_unlink(struct gb_pass *pass, uint64_t base, const char *path, size_t len, struct gb_found *found,
                   struct gb_gone *gone);
 
-/* Takes an empty directory away, which `gone` tells. */
+/* Takes an empty directory away. `gone` says which. */
 int gb_try_rmdir(struct gb_pass *pass, uint64_t base, const char *path, size_t len, struct gb_found *found,
                  struct gb_gone *gone);
 
-/* Gives what the old path names the new path for its name. `gone` tells what stood there and was replaced; it is all 0
- * if nothing stood, with GB_EXCHANGE, and if both paths name one file, which changes nothing.
+/* Gives what the old path names the new path for its name. `gone` says what stood there and was replaced. It is all 0
+ * if nothing stood there, with GB_EXCHANGE, and if both paths name one file, which changes nothing.
  * Answers GB_BAD_ARGUMENT too. */
 int gb_try_rename(struct gb_pass *pass, uint64_t base, const char *old_path, size_t old_len, const char *path,
                   size_t len, uint32_t flags, struct gb_found *found, struct gb_gone *gone);
 
-/* Learns how many changes were made, which it writes to `clock`: no later answer of this pass is older. So a thread
- * that was told of the change at `at` sees it, if it learns `at + 1`. Takes no lock and never waits.
- * Proved: the pass has then seen so many changes, and the answer is exact.
+/* Learns how many changes were made, and writes it to `clock`: no later answer of this pass is older. So a thread that
+ * is told of a change made at `at` learns `at + 1`, and then sees it. Takes no lock and no memory, and never waits.
+ * Proved: the pass has then seen that many changes, and the answer is exact.
  * Answers 0, GB_NOT_YET if fewer than `at` were made, GB_BAD_PASS. */
 int gb_learn(struct gb_pass *pass, uint64_t at, uint64_t *clock);
 
-/* Empties up to `most` rows that were least used, and writes to `emptied` how many. No answer depends on it. Takes the
- * lock, and no memory.
+/* Empties up to `most` rows, the least recently used first, and writes to `emptied` how many, if the answer is 0. No
+ * answer depends on it. Takes the lock, some 0.8 microseconds a row, and no memory.
  * Proved: `emptied` is at most `most`, and no answer is recorded.
  * Answers 0, GB_BUSY, GB_BAD_PASS. */
 int gb_try_shrink(struct gb_pass *pass, uint64_t most, uint64_t *emptied);
 
+/* Writes to `evictions` how many rows have lost their name to another one since the cache was made; those that
+ * gb_try_shrink emptied aren't among them. If the number keeps growing, the cache has too few buckets. Takes no lock
+ * and no memory.
+ * Proved: no answer is recorded. The number is tested.
+ * Answers 0, GB_BAD_PASS. */
+int gb_counts(struct gb_pass *pass, uint64_t *evictions);
+
 /* The blocking forms, in plain C. Nothing of them is proved.
  *
  * Each makes the call of its name until the answer is another than GB_BUSY: after a refused try it pauses, later it
- * yields the processor, then it sleeps by the two functions of a gate. One gate serves all threads of a cache; it may
- * serve several caches. Who calls a bare gb_try_ function on a cache whose other threads sleep at a gate, calls
- * gb_gate_call after each answer but GB_BUSY.
+ * yields the processor, then it sleeps by the functions of a gate. One gate serves all threads of a cache; it may serve
+ * several caches. If you call a bare gb_try_ function on a cache whose other threads sleep at a gate, call gb_gate_call
+ * after each answer but GB_BUSY.
+ *
+ * A thread that is passed over is handed the lock. One that has waited for GB_PATIENCE milliseconds takes a ticket.
+ * While a ticket is out, only the thread that has the next one tries; all others sleep, also those that begin a call.
+ * So it waits for the threads with earlier tickets, one call each, however often others come back. Bare calls don't
+ * look at tickets.
  *
  * No wake-up is lost. All steps named here, and those of the library's lock, are seq_cst, so they have one order.
  * (1) A thread W counts itself among `sleepers`, reads `calls`, and then tries once more.
@@ -230,9 +274,14 @@ int gb_try_shrink(struct gb_pass *pass, uint64_t most, uint64_t *emptied);
  *     and then, its call having returned, reads `sleepers` in gb_gate_call. W has counted itself by then.
  * (3) H thus raises `calls` and wakes one sleeper. W read `calls` before, so either `wait` finds another number there
  *     and returns at once, or W sleeps already and is one of those that may be woken.
- * (4) If another sleeper is woken in place of W, it tries: it gets the lock, or is refused by one who has it. Either way
- *     someone who had the lock calls again while W is counted. So while anyone sleeps, someone is yet to call.
- * `calls` wraps: a thread that were called 2^32 times between reading it and falling asleep would miss them all. */
+ * (4) If another sleeper is woken in place of W, it tries: it gets the lock, or is refused by one who has it. Either
+ *     way someone who had the lock calls again while W is counted. So while anyone sleeps, someone is yet to call.
+ * (5) While a ticket is out, (4) may fail: the sleeper that is woken may not try. But the thread N that has the next
+ *     ticket took it before its own (1), so H sees it in (3) and wakes all, N among them. N gets the lock at last, as
+ *     whoever refuses it calls after that. As it ends it raises `served`, and then calls as H does. A thread that
+ *     doesn't try since it isn't next has read `served` after `calls`, so that call wakes it: the one that is next now,
+ *     or with no ticket out one of all, as in (3).
+ * `calls` wraps: a thread that is called 2^32 times between reading it and falling asleep would miss them all. */
 struct gb_gate {
     uint32_t calls;    /* how often a sleeper was called, modulo 2^32 */
     uint32_t sleepers; /* threads that sleep, or are about to */
@@ -240,11 +289,18 @@ struct gb_gate {
     void (*wait)(struct gb_gate *gate, uint32_t seen);
     /* Wakes one thread at least that sleeps in `wait`, if any does. */
     void (*wake)(struct gb_gate *gate);
+    /* Wakes all that sleep in `wait`. */
+    void (*wake_all)(struct gb_gate *gate);
+    /* Milliseconds since any moment, modulo 2^32. If this or `wake_all` is NULL, nobody takes a ticket. */
+    uint32_t (*now)(void);
+    uint32_t tickets; /* taken so far, modulo 2^32: as many are out as were taken and not served */
+    uint32_t served;
 };
 
-/* How often a call is tried with pauses in between, and then with yields, before its thread sleeps. The pauses begin
- * with so many, and double so often: a try takes the lock's cache line from its holder, who then waits for it. */
-enum { GB_PAUSES = 20, GB_YIELDS = 16, GB_FIRST_PAUSES = 64, GB_DOUBLINGS = 5 };
+/* How often a call is tried with pauses in between, and then with yields, before its thread sleeps. The first pause is
+ * of GB_FIRST_PAUSES instructions, and the next ones double: a try takes the lock's cache line from its holder, who
+ * then waits for it. GB_PATIENCE milliseconds after its first yield or sleep a thread takes a ticket. */
+enum { GB_PAUSES = 20, GB_YIELDS = 16, GB_FIRST_PAUSES = 64, GB_DOUBLINGS = 5, GB_PATIENCE = 4 };
 
 static inline void gb_pause(void)
 {
@@ -255,7 +311,7 @@ static inline void gb_pause(void)
 #endif
 }
 
-/* The pauses after a try, so many of which were refused before. */
+/* The pauses after a try, when this many were refused before it. */
 static inline void gb_pause_for(uint32_t refused)
 {
     uint32_t doublings = refused < GB_DOUBLINGS ? refused : (uint32_t)GB_DOUBLINGS;
@@ -263,13 +319,24 @@ static inline void gb_pause_for(uint32_t refused)
         gb_pause();
 }
 
+/* The ticket that is next, in `next`. Answers whether it is out. */
+static inline int gb_gate_next(struct gb_gate *gate, uint32_t *next)
+{
+    *next = __atomic_load_n(&gate->served, __ATOMIC_SEQ_CST);
+    return __atomic_load_n(&gate->tickets, __ATOMIC_SEQ_CST) != *next;
+}
+
 /* Wakes a sleeper, if there is one. For whoever has just given the lock back. */
 static inline void gb_gate_call(struct gb_gate *gate)
 {
+    uint32_t next;
     if (__atomic_load_n(&gate->sleepers, __ATOMIC_SEQ_CST) == 0)
         return;
     __atomic_add_fetch(&gate->calls, 1, __ATOMIC_SEQ_CST);
-    gate->wake(gate);
+    if (gb_gate_next(gate, &next))
+        gate->wake_all(gate);
+    else
+        gate->wake(gate);
 }
 
 /* GB_BARE leaves out all that needs an operating system: a kernel yields not at all, and makes gates of its own. */
@@ -283,6 +350,7 @@ static inline void gb_yield(void)
 }
 #endif
 #include <sched.h>
+#include <time.h>
 #if defined(__linux__) && !defined(GB_BY_CONDITION)
 #include <linux/futex.h>
 #include <sys/syscall.h>
@@ -301,6 +369,14 @@ static inline void gb_yield(void)
     sched_yield();
 }
 
+/* By the clock of the day: if that is set, a ticket is taken earlier than it should be. */
+static inline uint32_t gb_milliseconds(void)
+{
+    struct timespec time = {0, 0};
+    timespec_get(&time, TIME_UTC);
+    return (uint32_t)((uint64_t)time.tv_sec * 1000 + (uint64_t)time.tv_nsec / 1000000);
+}
+
 #if defined(__linux__) && !defined(GB_BY_CONDITION)
 #ifndef __cplusplus
 /* With -std=c11 unistd.h lacks it. */
@@ -316,6 +392,11 @@ static inline void gb_gate_wait(struct gb_gate *gate, uint32_t seen)
 static inline void gb_gate_wake(struct gb_gate *gate)
 {
     syscall(SYS_futex, &gate->calls, FUTEX_WAKE_PRIVATE, 1, (void *)0, (void *)0, 0);
+}
+
+static inline void gb_gate_wake_all(struct gb_gate *gate)
+{
+    syscall(SYS_futex, &gate->calls, FUTEX_WAKE_PRIVATE, INT32_MAX, (void *)0, (void *)0, 0);
 }
 #else
 /* One lock and one condition for all gates that are made in this file, so each call wakes all that sleep. */
@@ -340,7 +421,7 @@ static inline void gb_gate_wait(struct gb_gate *gate, uint32_t seen)
     pthread_mutex_unlock(&bed->lock);
 }
 
-static inline void gb_gate_wake(struct gb_gate *gate)
+static inline void gb_gate_wake_all(struct gb_gate *gate)
 {
     struct gb_bed *bed = gb_the_bed();
     (void)gate;
@@ -348,47 +429,99 @@ static inline void gb_gate_wake(struct gb_gate *gate)
     pthread_cond_broadcast(&bed->called);
     pthread_mutex_unlock(&bed->lock);
 }
+
+static inline void gb_gate_wake(struct gb_gate *gate)
+{
+    gb_gate_wake_all(gate);
+}
 #endif
 
 /* A gate whose threads sleep by a futex, or if there is none by a condition variable. */
 static inline struct gb_gate gb_gate_new(void)
 {
-    struct gb_gate gate = {0, 0, gb_gate_wait, gb_gate_wake};
+    struct gb_gate gate = {0, 0, gb_gate_wait, gb_gate_wake, gb_gate_wake_all, gb_milliseconds, 0, 0};
     return gate;
 }
 #endif
 
-/* One blocking call: how often it has tried, and whether its thread is counted among the sleepers. */
+/* One blocking call. */
 struct gb_turn {
     struct gb_gate *gate;
-    uint32_t tries;
-    uint32_t seen;
-    uint32_t counted;
+    uint32_t tries;    /* how often it was refused, up to when it sleeps */
+    uint32_t seen;     /* `calls` before its last try */
+    uint32_t counted;  /* whether its thread is counted among the sleepers */
+    uint32_t timed;    /* whether it has looked at the gate's clock */
+    uint32_t since;    /* when it did so first */
+    uint32_t ticketed; /* whether it has a ticket */
+    uint32_t ticket;
 };
+
+/* Whether it may try: if a ticket is out, only the one that has the next. */
+static inline int gb_turn_may_try(const struct gb_turn *turn)
+{
+    uint32_t next;
+    return !gb_gate_next(turn->gate, &next) || (turn->ticketed && turn->ticket == next);
+}
+
+/* Whether it was passed over: it has waited for longer than it has patience, since it first asked. */
+static inline int gb_turn_is_late(struct gb_turn *turn)
+{
+    struct gb_gate *gate = turn->gate;
+    if (!gate->now || !gate->wake_all)
+        return 0;
+    uint32_t now = gate->now();
+    if (!turn->timed) {
+        turn->timed = 1;
+        turn->since = now;
+    }
+    return now - turn->since >= GB_PATIENCE;
+}
+
+/* Before a try that a sleep may follow. The order counts: first it is seen as a sleeper, and has its ticket if it was
+ * passed over, then it reads `calls`, then it tries or asks whether it may. */
+static inline void gb_turn_count(struct gb_turn *turn)
+{
+    struct gb_gate *gate = turn->gate;
+    if (!turn->counted)
+        __atomic_add_fetch(&gate->sleepers, 1, __ATOMIC_SEQ_CST);
+    turn->counted = 1;
+    if (!turn->ticketed && gb_turn_is_late(turn)) {
+        turn->ticket = __atomic_fetch_add(&gate->tickets, 1, __ATOMIC_SEQ_CST);
+        turn->ticketed = 1;
+    }
+    turn->seen = __atomic_load_n(&gate->calls, __ATOMIC_SEQ_CST);
+}
+
+/* Is counted, and sleeps until it may try. */
+static inline void gb_turn_come(struct gb_turn *turn)
+{
+    gb_turn_count(turn);
+    while (!gb_turn_may_try(turn)) {
+        turn->gate->wait(turn->gate, turn->seen);
+        gb_turn_count(turn);
+    }
+}
 
 static inline struct gb_turn gb_turn_new(struct gb_gate *gate)
 {
-    struct gb_turn turn = {gate, 0, 0, 0};
+    struct gb_turn turn = {gate, 0, 0, 0, 0, 0, 0, 0};
+    if (!gb_turn_may_try(&turn))
+        gb_turn_come(&turn);
     return turn;
 }
 
-/* Before the last try ahead of a sleep. The order counts: first it is seen as a sleeper, then it reads, then it tries. */
-static inline void gb_turn_count(struct gb_turn *turn)
-{
-    if (!turn->counted)
-        __atomic_add_fetch(&turn->gate->sleepers, 1, __ATOMIC_SEQ_CST);
-    turn->counted = 1;
-    turn->seen = __atomic_load_n(&turn->gate->calls, __ATOMIC_SEQ_CST);
-}
-
+/* Its ticket is served before it calls, so that the next one may try. */
 static inline void gb_turn_end(struct gb_turn *turn)
 {
     if (turn->counted)
         __atomic_sub_fetch(&turn->gate->sleepers, 1, __ATOMIC_SEQ_CST);
+    if (turn->ticketed)
+        __atomic_add_fetch(&turn->gate->served, 1, __ATOMIC_SEQ_CST);
     gb_gate_call(turn->gate);
 }
 
-/* Whether the call is to be tried again, which waits a while first. */
+/* Whether the call is to be tried again, which waits a while first. On a busy machine a yield may take as long as a
+ * hold of the lock, so the clock is read from the first one on. */
 static inline int gb_turn_again(struct gb_turn *turn, int answer)
 {
     if (answer != GB_BUSY) {
@@ -399,29 +532,36 @@ static inline int gb_turn_again(struct gb_turn *turn, int answer)
         turn->tries++;
     if (turn->tries <= GB_PAUSES)
         gb_pause_for(turn->tries - 1);
-    else if (turn->tries < GB_PAUSES + GB_YIELDS)
+    else if (turn->tries < GB_PAUSES + GB_YIELDS && !gb_turn_is_late(turn))
         gb_yield();
     else {
         if (turn->counted)
             turn->gate->wait(turn->gate, turn->seen);
-        gb_turn_count(turn);
+        gb_turn_come(turn);
+        return 1;
     }
+    if (!gb_turn_may_try(turn))
+        gb_turn_come(turn);
     return 1;
 }
 
-/* gb_try_look, for whom gb_look_fast has just answered GB_AGAIN. */
+/* The body of a blocking form. */
+#define GB_BLOCKING(gate, call)              \
+    struct gb_turn turn = gb_turn_new(gate); \
+    int answer;                              \
+    do                                       \
+        answer = call;                       \
+    while (gb_turn_again(&turn, answer));    \
+    return answer
+
+/* gb_try_look, for a caller whose gb_look_fast has just answered GB_AGAIN. */
 static inline int gb_look_missed(struct gb_gate *gate, struct gb_pass *pass, uint64_t base, const char *path,
                                  size_t len, uint32_t follow, struct gb_found *found)
 {
-    struct gb_turn turn = gb_turn_new(gate);
-    int answer;
-    do
-        answer = gb_try_look(pass, base, path, len, follow, found);
-    while (gb_turn_again(&turn, answer));
-    return answer;
+    GB_BLOCKING(gate, gb_try_look(pass, base, path, len, follow, found));
 }
 
-/* gb_look_fast, and where the rows don't answer gb_look_missed. */
+/* gb_look_fast, and if the rows don't answer gb_look_missed. */
 static inline int gb_look(struct gb_gate *gate, struct gb_pass *pass, uint64_t base, const char *path, size_t len,
                           uint32_t follow, struct gb_found *found)
 {
@@ -435,108 +575,66 @@ static inline int gb_look(struct gb_gate *gate, struct gb_pass *pass, uint64_t b
 static inline int gb_stat(struct gb_gate *gate, struct gb_pass *pass, uint64_t base, const char *path, size_t len,
                           struct gb_found *found)
 {
-    struct gb_turn turn = gb_turn_new(gate);
-    int answer;
-    do
-        answer = gb_try_stat(pass, base, path, len, found);
-    while (gb_turn_again(&turn, answer));
-    return answer;
+    GB_BLOCKING(gate, gb_try_stat(pass, base, path, len, found));
 }
 
-/* gb_try_readlink. */
+/* gb_readlink_fast, and if the path leads to a link, or the rows don't answer, gb_try_readlink. */
 static inline int gb_readlink(struct gb_gate *gate, struct gb_pass *pass, uint64_t base, const char *path, size_t len,
                               char *text, size_t room, struct gb_found *found)
 {
-    struct gb_turn turn = gb_turn_new(gate);
-    int answer;
-    do
-        answer = gb_try_readlink(pass, base, path, len, text, room, found);
-    while (gb_turn_again(&turn, answer));
-    return answer;
+    int told = gb_readlink_fast(pass, base, path, len, found);
+    if (told != 0 && told != GB_AGAIN)
+        return told;
+    GB_BLOCKING(gate, gb_try_readlink(pass, base, path, len, text, room, found));
 }
 
 /* gb_try_list. */
 static inline int gb_list(struct gb_gate *gate, struct gb_pass *pass, uint64_t base, const char *path, size_t len,
                           char *names, size_t room, struct gb_found *found)
 {
-    struct gb_turn turn = gb_turn_new(gate);
-    int answer;
-    do
-        answer = gb_try_list(pass, base, path, len, names, room, found);
-    while (gb_turn_again(&turn, answer));
-    return answer;
+    GB_BLOCKING(gate, gb_try_list(pass, base, path, len, names, room, found));
 }
 
 /* gb_try_mkdir. */
 static inline int gb_mkdir(struct gb_gate *gate, struct gb_pass *pass, uint64_t base, const char *path, size_t len,
                            struct gb_found *found)
 {
-    struct gb_turn turn = gb_turn_new(gate);
-    int answer;
-    do
-        answer = gb_try_mkdir(pass, base, path, len, found);
-    while (gb_turn_again(&turn, answer));
-    return answer;
+    GB_BLOCKING(gate, gb_try_mkdir(pass, base, path, len, found));
 }
 
 /* gb_try_create. */
 static inline int gb_create(struct gb_gate *gate, struct gb_pass *pass, uint64_t base, const char *path, size_t len,
                             struct gb_found *found)
 {
-    struct gb_turn turn = gb_turn_new(gate);
-    int answer;
-    do
-        answer = gb_try_create(pass, base, path, len, found);
-    while (gb_turn_again(&turn, answer));
-    return answer;
+    GB_BLOCKING(gate, gb_try_create(pass, base, path, len, found));
 }
 
 /* gb_try_symlink. */
 static inline int gb_symlink(struct gb_gate *gate, struct gb_pass *pass, uint64_t base, const char *text,
                              size_t text_len, const char *path, size_t len, struct gb_found *found)
 {
-    struct gb_turn turn = gb_turn_new(gate);
-    int answer;
-    do
-        answer = gb_try_symlink(pass, base, text, text_len, path, len, found);
-    while (gb_turn_again(&turn, answer));
-    return answer;
+    GB_BLOCKING(gate, gb_try_symlink(pass, base, text, text_len, path, len, found));
 }
 
 /* gb_try_link. */
 static inline int gb_link(struct gb_gate *gate, struct gb_pass *pass, uint64_t base, const char *old_path,
                           size_t old_len, const char *path, size_t len, struct gb_found *found)
 {
-    struct gb_turn turn = gb_turn_new(gate);
-    int answer;
-    do
-        answer = gb_try_link(pass, base, old_path, old_len, path, len, found);
-    while (gb_turn_again(&turn, answer));
-    return answer;
+    GB_BLOCKING(gate, gb_try_link(pass, base, old_path, old_len, path, len, found));
 }
 
 /* gb_try_unlink. */
 static inline int gb_unlink(struct gb_gate *gate, struct gb_pass *pass, uint64_t base, const char *path, size_t len,
                             struct gb_found *found, struct gb_gone *gone)
 {
-    struct gb_turn turn = gb_turn_new(gate);
-    int answer;
-    do
-        answer = gb_try_unlink(pass, base, path, len, found, gone);
-    while (gb_turn_again(&turn, answer));
-    return answer;
+    GB_BLOCKING(gate, gb_try_unlink(pass, base, path, len, found, gone));
 }
 
 /* gb_try_rmdir. */
 static inline int gb_rmdir(struct gb_gate *gate, struct gb_pass *pass, uint64_t base, const char *path, size_t len,
                            struct gb_found *found, struct gb_gone *gone)
 {
-    struct gb_turn turn = gb_turn_new(gate);
-    int answer;
-    do
-        answer = gb_try_rmdir(pass, base, path, len, found, gone);
-    while (gb_turn_again(&turn, answer));
-    return answer;
+    GB_BLOCKING(gate, gb_try_rmdir(pass, base, path, len, found, gone));
 }
 
 /* gb_try_rename. */
@@ -544,25 +642,16 @@ static inline int gb_rename(struct gb_gate *gate, struct gb_pass *pass, uint64_t
                             size_t old_len, const char *path, size_t len, uint32_t flags, struct gb_found *found,
                             struct gb_gone *gone)
 {
-    struct gb_turn turn = gb_turn_new(gate);
-    int answer;
-    do
-        answer = gb_try_rename(pass, base, old_path, old_len, path, len, flags, found, gone);
-    while (gb_turn_again(&turn, answer));
-    return answer;
+    GB_BLOCKING(gate, gb_try_rename(pass, base, old_path, old_len, path, len, flags, found, gone));
 }
 
 /* gb_try_shrink. */
 static inline int gb_shrink(struct gb_gate *gate, struct gb_pass *pass, uint64_t most, uint64_t *emptied)
 {
-    struct gb_turn turn = gb_turn_new(gate);
-    int answer;
-    do
-        answer = gb_try_shrink(pass, most, emptied);
-    while (gb_turn_again(&turn, answer));
-    return answer;
+    GB_BLOCKING(gate, gb_try_shrink(pass, most, emptied));
 }
 
+#undef GB_BLOCKING
 #ifdef __cplusplus
 }
 #endif

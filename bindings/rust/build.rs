@@ -1,4 +1,4 @@
-//! Asks pkg-config where the library is. PKG_CONFIG_PATH names its folder where it isn't installed for all.
+//! Asks pkg-config where the library is. PKG_CONFIG_PATH names its folder if it isn't installed for all.
 
 use std::env;
 use std::process::Command;

@@ -1,6 +1,6 @@
 /* Calls each function of the header with good and bad arguments, by one thread, and compares what it answers.
  *
- * Prints each answer that is not as it should be, and last how many were. Ends with 1 where there was one.
+ * Prints each answer that is not as it should be, and last how many were. Ends with 1 if there was one.
  */
 #include <errno.h>
 #include <gigbewu.h>

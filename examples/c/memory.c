@@ -1,5 +1,6 @@
 /* Refuses each allocation of a call in turn: the call must answer GB_NO_MEMORY and change nothing, and succeed once it is
- * refused none. Look-ups must answer without any memory. Linked with --wrap=malloc,--wrap=realloc.
+ * refused none. Look-ups must answer without any memory, and calls that take none must ask for none. Linked with
+ * --wrap=malloc,--wrap=realloc.
  *
  * Prints the same whatever the library's number of allocations is.
  */
@@ -19,12 +20,14 @@ void *__wrap_realloc(void *old, size_t size);
 static struct gb_pass pass, other;
 static struct gb_found found;
 static struct gb_gone gone;
-/* So many allocations are still granted. */
+/* How many allocations are still granted. */
 static long granted = NEVER;
 static long refused;
+static long asked;
 
 static int is_refused(void)
 {
+    asked++;
     if (granted == NEVER)
         return 0;
     if (granted == 0)
@@ -134,6 +137,31 @@ static void look_without_memory(void)
     must(gb_try_stat(&pass, ROOT, "/link", 5, &found) == 0, "stat");
 }
 
+static void must_ask_for_none(int answer, int wanted, const char *what)
+{
+    long so_far = asked;
+    asked = 0;
+    must(answer == wanted && so_far == 0, what);
+}
+
+static void take_no_memory(void)
+{
+    uint64_t number;
+    must(gb_try_look(&pass, ROOT, "/link", 5, GB_FOLLOW, &found) == 0, "rows of a link");
+    asked = 0;
+    must_ask_for_none(gb_look_fast(&pass, ROOT, "/link", 5, GB_FOLLOW, &found), 0, "look_fast");
+    must_ask_for_none(gb_look_fast(&pass, ROOT, "/never", 6, GB_FOLLOW, &found), GB_AGAIN, "look_fast of a miss");
+    must_ask_for_none(gb_look_fast(&pass, ROOT, "", 0, GB_FOLLOW, &found), ENOENT, "look_fast of no path");
+    must_ask_for_none(gb_readlink_fast(&pass, ROOT, "/link", 5, &found), 0, "readlink_fast");
+    must_ask_for_none(gb_readlink_fast(&pass, ROOT, "/directory", 10, &found), EINVAL, "readlink_fast of a directory");
+    must_ask_for_none(gb_try_stat(&pass, ROOT, "/link", 5, &found), 0, "stat");
+    must_ask_for_none(gb_learn(&pass, 0, &number), 0, "learn");
+    must_ask_for_none(gb_counts(&pass, &number), 0, "counts");
+    must_ask_for_none(gb_try_shrink(&pass, UINT64_MAX, &number), 0, "shrink");
+    must_ask_for_none(gb_pass_join(&pass, &other), 0, "join");
+    must_ask_for_none(gb_close(&pass), 0, "close");
+}
+
 int main(void)
 {
     refuse_each("cache_new", make);
@@ -147,7 +175,7 @@ int main(void)
     refuse_each("list", list);
     refuse_each("rename", rename_file);
     must(refused > 0, "no allocation was seen");
-    must(gb_close(&other) == 0 && gb_close(&pass) == 0, "close");
+    take_no_memory();
     printf("each allocation refused in turn: nothing changed\n");
     return 0;
 }

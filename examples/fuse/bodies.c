@@ -99,7 +99,7 @@ static struct body *on_shelf(uint64_t number)
 }
 
 /* A number may be told of before its body has it. Its maker counts itself before the library makes the inode, and until
- * the body stands: so where nobody was making one, and that is asked before the shelf, a missing body has gone. */
+ * the body stands: so if nobody was making one, and that is asked before the shelf, a missing body has gone. */
 struct body *body_of(uint64_t number)
 {
     for (;;) {
@@ -127,6 +127,22 @@ void body_let_go(struct body *body, bool gone)
         body_free(body);
 }
 
+/* Of bytes cut off that are more than half of the room. */
+static void body_give_back(struct body *body, size_t size)
+{
+    if (size == 0) {
+        free(body->bytes);
+        body->bytes = NULL;
+        body->room = 0;
+    } else if (size < body->room / 2) {
+        char *bytes = realloc(body->bytes, size);
+        if (bytes) {
+            body->bytes = bytes;
+            body->room = size;
+        }
+    }
+}
+
 int body_resize(struct body *body, size_t size)
 {
     if (size > body->room) {
@@ -138,6 +154,8 @@ int body_resize(struct body *body, size_t size)
     }
     if (size > body->size)
         memset(body->bytes + body->size, 0, size - body->size);
+    if (size < body->size)
+        body_give_back(body, size);
     body->size = size;
     body->written = now();
     return 0;

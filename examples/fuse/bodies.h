@@ -34,7 +34,7 @@ long bodies_count(void);
 
 struct timespec now(void);
 
-/* A body without a number, which nobody else knows. NULL where memory lacks. */
+/* A body without a number, which nobody else knows. NULL if out of memory. */
 struct body *body_new(mode_t mode, uid_t owner, gid_t group);
 
 /* Ends a body that has no number. */
@@ -47,7 +47,7 @@ void body_number(struct body *body, uint64_t number);
 void making_begin(void);
 void making_end(void);
 
-/* The body of a number that was told of, for the caller to let go; NULL where it has gone since. */
+/* The body of a number that a call told, for the caller to let go; NULL if it has gone since. */
 struct body *body_of(uint64_t number);
 
 /* Ends a use of it. `gone`: its last name was taken away. The last to let go of what has gone ends it. */

@@ -3,7 +3,7 @@
  * usage: gbfs [libfuse's options] MOUNTPOINT
  *
  * libfuse hands whole paths over, and the kernel is told to keep none, so each system call below the mount is a look-up
- * of whole paths here: first by rows alone, and where these don't answer by the lock. What the tree doesn't keep is in
+ * of whole paths here: first by rows alone, and if these don't answer under the lock. What the tree doesn't keep is in
  * bodies. No lock of this program is held over a call of the library: what a change took away, the library tells.
  *
  * SIGUSR1 makes it tell how look-ups were answered, as it does at its end.
@@ -20,7 +20,8 @@
 #include <string.h>
 #include <unistd.h>
 
-enum { ROOT = 1, BUCKETS = 1024, INODES = 262144, BLOCK = 4096, LONGEST_NAME = 255 };
+/* Two rows for each inode that may live: they take some 200 MB, and 340 while they are made. */
+enum { INODES = 262144, BUCKETS = INODES / 2, BLOCK = 4096, LONGEST_NAME = 255 };
 
 static struct gb_gate gate;
 static struct gb_pass first_pass; /* its lock is `splitting` */
@@ -77,16 +78,16 @@ static int changed(int answer)
 static int look(const char *path, struct gb_found *found)
 {
     size_t len = strlen(path);
-    int answer = gb_look_fast(pass(), ROOT, path, len, GB_NO_FOLLOW, found);
+    int answer = gb_look_fast(pass(), GB_ROOT, path, len, GB_NO_FOLLOW, found);
     if (answer != GB_AGAIN) {
         atomic_fetch_add(&by_rows, 1);
         return told(answer);
     }
     atomic_fetch_add(&by_lock[found->why <= GB_WHY_LINK ? found->why : 0], 1);
-    return told(gb_look_missed(&gate, pass(), ROOT, path, len, GB_NO_FOLLOW, found));
+    return told(gb_look_missed(&gate, pass(), GB_ROOT, path, len, GB_NO_FOLLOW, found));
 }
 
-/* The locked body of an open file, or of what a path leads to. Where what was found has gone since, the path is asked
+/* The locked body of an open file, or of what a path leads to. If what was found has gone since, the path is asked
  * again: it leads elsewhere now, or nowhere. */
 static int take(const char *path, const struct fuse_file_info *file, struct body **body)
 {
@@ -121,10 +122,10 @@ static int make_inode(mode_t mode, const char *path, const char *text, struct gb
 {
     size_t len = strlen(path);
     if (S_ISDIR(mode))
-        return gb_mkdir(&gate, pass(), ROOT, path, len, found);
+        return gb_mkdir(&gate, pass(), GB_ROOT, path, len, found);
     if (S_ISREG(mode))
-        return gb_create(&gate, pass(), ROOT, path, len, found);
-    return gb_symlink(&gate, pass(), ROOT, text, strlen(text), path, len, found);
+        return gb_create(&gate, pass(), GB_ROOT, path, len, found);
+    return gb_symlink(&gate, pass(), GB_ROOT, text, strlen(text), path, len, found);
 }
 
 /* Makes an inode with its body, which is still to be let go. The body comes first, as memory may lack. */
@@ -206,7 +207,7 @@ static int fs_unlink(const char *path)
 {
     struct gb_found found;
     struct gb_gone gone;
-    int answer = gb_unlink(&gate, pass(), ROOT, path, strlen(path), &found, &gone);
+    int answer = gb_unlink(&gate, pass(), GB_ROOT, path, strlen(path), &found, &gone);
     return took(answer, &gone);
 }
 
@@ -214,7 +215,7 @@ static int fs_rmdir(const char *path)
 {
     struct gb_found found;
     struct gb_gone gone;
-    int answer = gb_rmdir(&gate, pass(), ROOT, path, strlen(path), &found, &gone);
+    int answer = gb_rmdir(&gate, pass(), GB_ROOT, path, strlen(path), &found, &gone);
     return took(answer, &gone);
 }
 
@@ -223,14 +224,14 @@ static int fs_rename(const char *old_path, const char *path, unsigned flags)
 {
     struct gb_found found;
     struct gb_gone gone;
-    int answer = gb_rename(&gate, pass(), ROOT, old_path, strlen(old_path), path, strlen(path), flags, &found, &gone);
+    int answer = gb_rename(&gate, pass(), GB_ROOT, old_path, strlen(old_path), path, strlen(path), flags, &found, &gone);
     return answer == GB_BAD_ARGUMENT ? -EINVAL : took(answer, &gone);
 }
 
 static int fs_link(const char *old_path, const char *path)
 {
     struct gb_found found;
-    int answer = gb_link(&gate, pass(), ROOT, old_path, strlen(old_path), path, strlen(path), &found);
+    int answer = gb_link(&gate, pass(), GB_ROOT, old_path, strlen(old_path), path, strlen(path), &found);
     if (answer == 0)
         count_names(body_of(found.number), 1, false);
     return changed(answer);
@@ -262,20 +263,10 @@ static int fs_getattr(const char *path, struct stat *told_of, struct fuse_file_i
 static int fs_readlink(const char *path, char *text, size_t room)
 {
     struct gb_found found;
-    int answer = gb_readlink(&gate, pass(), ROOT, path, strlen(path), text, room - 1, &found);
+    int answer = gb_readlink(&gate, pass(), GB_ROOT, path, strlen(path), text, room - 1, &found);
     if (answer == 0)
         text[found.count < room - 1 ? found.count : room - 1] = 0;
     return told(answer);
-}
-
-/* Later calls go by the directory's number: it may be renamed while it is open. */
-static int fs_opendir(const char *path, struct fuse_file_info *file)
-{
-    struct gb_found found;
-    int answer = look(path, &found);
-    if (answer == 0)
-        file->fh = found.number;
-    return answer;
 }
 
 /* All names of a directory at one moment, for the caller to free. */
@@ -297,20 +288,69 @@ static int names_in(uint64_t directory, char **names, size_t *size)
     }
 }
 
+/* An open directory: its number, as it may be renamed meanwhile, and its names as they were when it was last read from
+ * its beginning. */
+struct listing {
+    uint64_t directory;
+    char *names;
+    size_t size;
+};
+
+static struct listing *listing_of(const struct fuse_file_info *file)
+{
+    return (struct listing *)(uintptr_t)file->fh;
+}
+
+static int fs_opendir(const char *path, struct fuse_file_info *file)
+{
+    struct gb_found found;
+    int answer = look(path, &found);
+    if (answer != 0)
+        return answer;
+    struct listing *listing = calloc(1, sizeof *listing);
+    if (!listing)
+        return -ENOMEM;
+    listing->directory = found.number;
+    file->fh = (uintptr_t)listing;
+    return 0;
+}
+
+static int fs_releasedir(const char *path, struct fuse_file_info *file)
+{
+    struct listing *listing = listing_of(file);
+    (void)path;
+    free(listing->names);
+    free(listing);
+    return 0;
+}
+
+/* Behind dot the offset is 1, behind dot-dot 2, and behind a name 2 more than where the next one begins. With offsets
+ * libfuse asks for as many names as its reply has room for, and keeps none. */
 static int fs_readdir(const char *path, void *to, fuse_fill_dir_t add, off_t from, struct fuse_file_info *file,
                       enum fuse_readdir_flags flags)
 {
-    char *names;
-    size_t size;
-    int answer = names_in(file->fh, &names, &size);
-    (void)path, (void)from, (void)flags;
-    if (answer != 0)
-        return answer;
-    add(to, ".", NULL, 0, 0);
-    add(to, "..", NULL, 0, 0);
-    for (size_t at = 0; at < size; at += strlen(names + at) + 1)
-        add(to, names + at, NULL, 0, 0);
-    free(names);
+    struct listing *listing = listing_of(file);
+    (void)path, (void)flags;
+    if (from == 0) {
+        char *names;
+        size_t size;
+        int answer = names_in(listing->directory, &names, &size);
+        if (answer != 0)
+            return answer;
+        free(listing->names);
+        listing->names = names;
+        listing->size = size;
+        if (add(to, ".", NULL, 1, 0))
+            return 0;
+    }
+    if (from < 2 && add(to, "..", NULL, 2, 0))
+        return 0;
+    for (size_t at = from < 2 ? 0 : (size_t)from - 2; at < listing->size;) {
+        const char *name = listing->names + at;
+        at += strlen(name) + 1;
+        if (add(to, name, NULL, (off_t)at + 2, 0))
+            return 0;
+    }
     return 0;
 }
 
@@ -466,12 +506,12 @@ static void *fs_init(struct fuse_conn_info *connection, struct fuse_config *conf
 }
 
 static const struct fuse_operations operations = {
-    .init = fs_init,         .mkdir = fs_mkdir,     .mknod = fs_mknod,     .symlink = fs_symlink,
-    .create = fs_create,     .unlink = fs_unlink,   .rmdir = fs_rmdir,     .rename = fs_rename,
+    .init = fs_init,         .mkdir = fs_mkdir,     .mknod = fs_mknod,       .symlink = fs_symlink,
+    .create = fs_create,     .unlink = fs_unlink,   .rmdir = fs_rmdir,       .rename = fs_rename,
     .link = fs_link,         .getattr = fs_getattr, .readlink = fs_readlink, .opendir = fs_opendir,
-    .readdir = fs_readdir,   .statfs = fs_statfs,   .chmod = fs_chmod,     .chown = fs_chown,     .utimens = fs_utimens,
-    .truncate = fs_truncate, .open = fs_open,       .release = fs_release, .read = fs_read,
-    .write = fs_write,
+    .readdir = fs_readdir,   .statfs = fs_statfs,   .releasedir = fs_releasedir,
+    .chmod = fs_chmod,       .chown = fs_chown,     .utimens = fs_utimens,   .truncate = fs_truncate,
+    .open = fs_open,         .release = fs_release, .read = fs_read,         .write = fs_write,
 };
 
 /* The first pass, and the body of the root. */
@@ -483,7 +523,7 @@ static int begin(void)
         return -1;
     gate = gb_gate_new();
     bodies_begin();
-    body_number(root, ROOT);
+    body_number(root, GB_ROOT);
     return 0;
 }
 

@@ -21,7 +21,7 @@ impl Kind {
     }
 }
 
-/// What a path leads to. `at`: so many changes came before the moment of this answer.
+/// What a path leads to. `at`: this many changes came before the moment of this answer.
 #[derive(Clone, Copy, Debug, PartialEq, Eq)]
 pub struct Found {
     pub number: u64,
@@ -80,13 +80,13 @@ pub enum Error {
     Refused { errno: i32, at: u64 },
     /// The rows don't answer; [`Pass::look`](crate::Pass::look) does.
     Again(Why),
-    /// Memory lacks. The tree is as it was.
+    /// Out of memory. The tree is as it was.
     NoMemory,
     /// No more changes can be made.
     Spent,
     /// Not those numbers of buckets or inodes.
     BadSize,
-    /// So many changes have not been made; this many have.
+    /// Fewer changes have been made: this many.
     NotYet(u64),
     /// An answer that this crate's types leave no way to.
     Other(i32),

@@ -59,7 +59,7 @@ pub enum Follow {
     Directory = 2,
 }
 
-/// What a rename does where something stands at the new name.
+/// What a rename does if something stands at the new name.
 #[derive(Clone, Copy, Debug, PartialEq, Eq)]
 pub enum Replace {
     Yes = 0,
@@ -67,7 +67,7 @@ pub enum Replace {
     Exchange = 2,
 }
 
-/// A change: the number of what it made or linked, else 0; so many changes came before it; and what it
+/// A change: the number of what it made or linked, else 0; how many changes came before it; and what it
 /// took away.
 #[derive(Clone, Copy, Debug, PartialEq, Eq)]
 pub struct Done {
@@ -102,7 +102,8 @@ impl Cache {
     }
 }
 
-/// A thread's way into a cache. It ends where it is dropped.
+/// A thread's way into a cache. It ends as it is dropped. Making one takes 43 KB and 20 to 70 microseconds: keep one for
+/// each thread.
 pub struct Pass {
     raw: raw::Pass,
     gate: Arc<Gate>,
@@ -177,10 +178,20 @@ impl Pass {
         Ok(other)
     }
 
+    /// Ends another pass of this cache: this one has then seen what either has seen. A pass of another cache is given
+    /// back, unless passes of that cache are joined elsewhere at that moment: then it may end all the same.
+    pub fn join(&mut self, mut other: Pass) -> Result<(), Pass> {
+        // SAFETY: both passes are open and borrowed alone.
+        match unsafe { raw::gb_pass_join(&mut self.raw, &mut other.raw) } {
+            0 => Ok(()),
+            _ => Err(other),
+        }
+    }
+
     /// Looks a path up without a lock and without memory, and never waits.
     pub fn look_fast(&mut self, base: u64, path: &[u8], follow: Follow) -> Result<Found, Error> {
         let mut found = raw::Found::default();
-        // SAFETY: as of each call below, the pass is open and borrowed alone, and the pointers lead to so many bytes.
+        // SAFETY: as of each call below, the pass is open and borrowed alone, and the pointers lead to this many bytes.
         let answer = unsafe {
             raw::gb_look_fast(
                 &mut self.raw,
@@ -215,8 +226,22 @@ impl Pass {
         Ok((found.into(), count))
     }
 
-    /// The text of a symbolic link.
+    /// What the rows alone tell of a `readlink`, without a lock and without memory: its refusal, or the link that the path
+    /// leads to.
+    pub fn readlink_fast(&mut self, base: u64, path: &[u8]) -> Result<Found, Error> {
+        let mut found = raw::Found::default();
+        let answer = unsafe {
+            raw::gb_readlink_fast(&mut self.raw, base, text(path), path.len(), &mut found)
+        };
+        done(answer, found).map(Found::from)
+    }
+
+    /// The text of a symbolic link. If the path leads to none, the rows may tell, without the lock.
     pub fn readlink(&mut self, base: u64, path: &[u8]) -> Result<Vec<u8>, Error> {
+        match self.readlink_fast(base, path) {
+            Ok(_) | Err(Error::Again(_)) => {}
+            Err(refused) => return Err(refused),
+        }
         let mut read = vec![0; LONGEST_TEXT];
         let to: *mut c_char = read.as_mut_ptr().cast();
         let call = |pass, found| unsafe {
@@ -340,6 +365,13 @@ impl Pass {
         let mut emptied = 0;
         self.ask(|pass, _| unsafe { raw::gb_try_shrink(pass, most, &mut emptied) })?;
         Ok(emptied)
+    }
+
+    /// How many rows have lost their name to another one: if they are many, the cache has too few rows.
+    pub fn evictions(&mut self) -> Result<u64, Error> {
+        let mut evictions = 0;
+        let answer = unsafe { raw::gb_counts(&mut self.raw, &mut evictions) };
+        done(answer, raw::Found::default()).map(|_| evictions)
     }
 }
 

@@ -31,6 +31,7 @@ type Path = *const c_char;
 extern "C" {
     pub fn gb_cache_new(buckets: u64, inodes: u64, blank: *mut Pass) -> c_int;
     pub fn gb_pass_split(pass: *mut Pass, blank: *mut Pass) -> c_int;
+    pub fn gb_pass_join(pass: *mut Pass, other: *mut Pass) -> c_int;
     pub fn gb_close(pass: *mut Pass) -> c_int;
     pub fn gb_look_fast(
         pass: *mut Pass,
@@ -49,6 +50,13 @@ extern "C" {
         found: *mut Found,
     ) -> c_int;
     pub fn gb_try_stat(
+        pass: *mut Pass,
+        base: u64,
+        path: Path,
+        len: usize,
+        found: *mut Found,
+    ) -> c_int;
+    pub fn gb_readlink_fast(
         pass: *mut Pass,
         base: u64,
         path: Path,
@@ -134,4 +142,5 @@ extern "C" {
     ) -> c_int;
     pub fn gb_learn(pass: *mut Pass, at: u64, clock: *mut u64) -> c_int;
     pub fn gb_try_shrink(pass: *mut Pass, most: u64, emptied: *mut u64) -> c_int;
+    pub fn gb_counts(pass: *mut Pass, evictions: *mut u64) -> c_int;
 }

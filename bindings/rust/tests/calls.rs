@@ -14,6 +14,14 @@ fn each_call() -> Result<(), Error> {
     assert_eq!(pass.look(ROOT, b"/l", Follow::No)?.kind, Kind::Link);
     assert_eq!(pass.stat(ROOT, b"/l")?.1, 2);
     assert_eq!(pass.readlink(ROOT, b"/l")?, b"d/f");
+    assert_eq!(pass.readlink_fast(ROOT, b"/l")?.kind, Kind::Link);
+    pass.look(ROOT, b"/d/f", Follow::Yes)?;
+    let refused = pass.readlink_fast(ROOT, b"/d/f").unwrap_err();
+    assert_eq!(
+        (refused.errno(), pass.readlink(ROOT, b"/d/f")),
+        (Some(22), Err(refused))
+    );
+    assert_eq!(pass.evictions()?, 0);
     let mut names = pass.list(ROOT, b"/")?;
     names.sort();
     assert_eq!(names, [&b"d"[..], b"h", b"l"]);
@@ -66,6 +74,18 @@ fn long_lists() -> Result<(), Error> {
     let mut names = pass.list(ROOT, b"/")?;
     names.sort();
     assert_eq!(names, made);
+    Ok(())
+}
+
+/// A joined pass ends; one of another cache is given back, and is as it was.
+#[test]
+fn passes_are_joined() -> Result<(), Error> {
+    let cache = Cache::new(1, 2)?;
+    let mut pass = cache.pass()?;
+    let mut foreign = Cache::new(1, 1)?.pass()?;
+    assert!(pass.join(cache.pass()?).is_ok());
+    foreign = pass.join(foreign).err().expect("a pass of another cache");
+    assert_eq!(foreign.look(ROOT, b"/", Follow::Yes)?.number, ROOT);
     Ok(())
 }
 

@@ -11,7 +11,7 @@ use Rattle.dc_c.specs.declared.handle.Handle.{Handle}
 
 -- the hold of the handle was called, and put back
 pub called : {A O : Type 0} (Allows : Pass → Pass → A → Type 0) (Tells : A → ℤ → O → Type 0) (old new : Handle) (number : ℤ) (before written : O) (hold at back : Hold) (answer : A)
-    → old.holds ≡ hold ∷ [] → at ≡ hold → new.holds ≡ back ∷ [] → Allows at.pass back.pass answer → Tells answer number written → Answers A O Allows Tells old new number before written
+    → old.held.holds ≡ hold ∷ [] → at ≡ hold → new.held.holds ≡ back ∷ [] → Allows at.pass back.pass answer → Tells answer number written → Answers A O Allows Tells old new number before written
 called {A = A} {O = O} Allows Tells old new number before written hold at back answer was same is allowed told =
     subst (λ holds. OnHold holds (Refuses O statuses.BadPass old new number before written) (λ hold. Calls A O Allows Tells hold new number written)) (sym was)
     (record { called = back; back = is; answer = answer; allowed = subst (λ h. Allows h.pass back.pass answer) same allowed; told = told })
@@ -21,7 +21,7 @@ pub tried : {A : Type 0} (P : A → Type 0) (Q : Type 0) (o : Option A) → IfSo
 tried P Q None some none = none
 tried P Q (Some x) some none = some
 
--- what holds whether or not it is answered holds of the answer besides
+-- what holds whether or not there is an answer, with what holds of the answer
 pub besides : {A : Type 0} (P : A → Type 0) (N : Type 0) (o : Option A) → N → IfSome o P → IfSome o (λ x. N × P x)
 besides P N None always some = some
 besides P N (Some x) always some = (always, some)
@@ -37,7 +37,7 @@ meant o x B F is holds = subst (λ o. MatchOption o B F) is holds
 pub shown : (told as_told : Told) (n m : ℤ) (found : Found) → told ≡ as_told → Shows told n found → m ≡ n → Shows as_told m found
 shown told as_told n m found same is e = subst (λ t. Shows t m found) same (record { status = e ∙ is.status; written = is.written })
 
--- the same where another count is told
+-- the same with another count
 pub counted : (told as_told : Told) (n m : ℤ) (found : Found) (count : ℕ) {as_count : ℕ} → told ≡ as_told → count ≡ as_count → Shows (record told { found = record told.found { count = count } }) n found → m ≡ n
     → Shows (record as_told { found = record as_told.found { count = as_count } }) m found
 counted told as_told n m found count same counts is e =

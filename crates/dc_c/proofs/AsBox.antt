@@ -10,7 +10,7 @@ use Rattle.std_heap.proofs.Global.TheLaws as heap
 use Rattle.dc_hold.specs.contracts.hold.Hold as Inner
 use Rattle.dc_hold.proofs.hold.Hold.TheLaws as inner
 use Rattle.dc_c.specs.contracts.parts.Parts as Parts
-use Rattle.dc_c.specs.contracts.handle.Handle as Handle
+use Rattle.dc_c.specs.contracts.held.Held as Held
 
 abbrev pub E : Bx
 E = record { row = Inner.the_row; laws = inner.the_row_laws; al = record { row = Heap.the_row; laws = heap.the_row_laws; g = ghosts; d = dict; drops = impl [] tnil dnil } }
@@ -21,5 +21,5 @@ PartsRow = Parts.the_row Inner.the_row Heap.the_row ghosts
 abbrev pub FromParts : Slot 0
 FromParts = plain (λ _. PartsRow)
 
-abbrev pub FromHandle : Slot 0
-FromHandle = plain (λ _. Handle.the_row)
+abbrev pub FromHeld : Slot 0
+FromHeld = plain (λ _. Held.the_row)

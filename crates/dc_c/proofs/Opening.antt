@@ -20,7 +20,7 @@ pub on_open : (P : Type 0) (Q : Hold → Type 0) (holds : List Hold) → IsOpen 
 on_open P Q [] never is = absurd never
 on_open P Q (hold ∷ _) _ is = is hold
 
--- a hold that was made, if one was, is in a handle that was blank, and it is told how this ended
+-- a hold that was made, if one was, is in a handle that was blank, and the number says how this ended
 abbrev pub IsPut : {B : Type 0} → Result B Status → (B → Hold) → ℤ → List Hold → Type 0
 IsPut made value n holds = IfOk made (λ b. (holds ≡ value b ∷ []) × (n ≡ status_number Done)) × IfErr made (λ status. (holds ≡ []) × (n ≡ status_number status))
 

@@ -9,10 +9,10 @@ use Rattle.std_heap.specs.contracts.GlobalAllocator.TheImpl.{ghosts}
 use Rattle.dc_hold.specs.contracts.hold.Hold.{the_row}
 
 -- no handle has two holds
-abbrev pub handle_owns : Global → Ptr → List the_row.Denot → Fml
-handle_owns alloc p [] = feq Ptr p null_ptr
-handle_owns alloc p (x ∷ []) = box_owns (ghosts.dealloc_token alloc) the_row p x
-handle_owns alloc p (_ ∷ _ ∷ _) = ffalse
+abbrev pub held_owns : Global → Ptr → List the_row.Denot → Fml
+held_owns alloc p [] = feq Ptr p null_ptr
+held_owns alloc p (x ∷ []) = box_owns (ghosts.dealloc_token alloc) the_row p x
+held_owns alloc p (_ ∷ _ ∷ _) = ffalse
 
 abbrev pub holds_coded : Coded (List the_row.Denot)
 holds_coded = coded_list the_row.coded

@@ -10,8 +10,8 @@ ghost use Rattle.dc_hold.specs.declared.status.Status.TheVariants.{BadArgument};
 
 use crate::handle::Handle;
 use crate::looks::tell;
-use dc_cache::{Call, ChangeFault, Gone, Stamped};
-use dc_hold::{Found, Lost, Status, flags_of, lost_of, told_change};
+use dc_cache::{Call, ChangeFault, Stamped};
+use dc_hold::{Found, Gone, Status, flags_of, told_change, told_gone};
 use std::alloc::Global;
 
 /// What a change that had the lock came to.
@@ -22,7 +22,7 @@ fn change(alloc: Global, pass: &mut Handle, call: &Call<'_>, found: &mut Found) 
     requires { IsChange call.now }
     ensures { Makes (request_of call.now) pass.old pass.new result found.old found.new }
 {
-    let Some(mut hold) = pass.take(alloc) else {
+    let Some(mut hold) = pass.take() else {
         return Status::BadPass.number();
     };
     let tried = hold.try_change(alloc, call);
@@ -31,7 +31,7 @@ fn change(alloc: Global, pass: &mut Handle, call: &Call<'_>, found: &mut Found) 
 }
 
 /// What a change came to, and what it took away.
-fn parted(tried: Option<(Made, Option<Gone>)>) -> (Option<Made>, Option<Gone>)
+fn parted(tried: Option<(Made, Option<dc_cache::Gone>)>) -> (Option<Made>, Option<dc_cache::Gone>)
     ensures made { result.0 ≡ option_map (λ taken. taken.0) tried }
     ensures gone { result.1 ≡ option_and_then (λ taken. taken.1) tried }
 {
@@ -47,19 +47,19 @@ fn take(
     pass: &mut Handle,
     call: &Call<'_>,
     found: &mut Found,
-    gone: &mut Lost,
+    gone: &mut Gone,
 ) -> i32
     requires { IsChange call.now }
     ensures { Takes (request_of call.now) pass.old pass.new result
         (found.old, gone.old) (found.new, gone.new) }
 {
-    let Some(mut hold) = pass.take(alloc) else {
+    let Some(mut hold) = pass.take() else {
         return Status::BadPass.number();
     };
     let tried = hold.try_change_telling(alloc, call);
     pass.put(hold);
     let (made, went) = parted(tried);
-    *gone = lost_of(went);
+    *gone = told_gone(went);
     tell(found, told_change(&made))
 }
 
@@ -106,7 +106,7 @@ pub extern "C" fn gb_try_symlink(
     change(alloc, pass, &Call::Symlink { base, text, path }, found)
 }
 
-/// Gives what the first path names the second name besides.
+/// Gives what the first path names the second one as a further name.
 #[unsafe(no_mangle)]
 pub extern "C" fn gb_try_link(
     alloc: Global,
@@ -129,7 +129,7 @@ pub extern "C" fn gb_try_unlink(
     base: u64,
     path: &[u8],
     found: &mut Found,
-    gone: &mut Lost,
+    gone: &mut Gone,
 ) -> i32
     ensures takes { Takes (unlink base path.now) pass.old pass.new result
         (found.old, gone.old) (found.new, gone.new) }
@@ -145,7 +145,7 @@ pub extern "C" fn gb_try_rmdir(
     base: u64,
     path: &[u8],
     found: &mut Found,
-    gone: &mut Lost,
+    gone: &mut Gone,
 ) -> i32
     ensures takes { Takes (rmdir base path.now) pass.old pass.new result
         (found.old, gone.old) (found.new, gone.new) }
@@ -163,7 +163,7 @@ pub extern "C" fn gb_try_rename(
     new: &[u8],
     flags: u32,
     found: &mut Found,
-    gone: &mut Lost,
+    gone: &mut Gone,
 ) -> i32
     ensures takes { MatchOption (flags_by flags)
         (Refuses Written BadArgument pass.old pass.new result (found.old, gone.old) (found.new, gone.new))

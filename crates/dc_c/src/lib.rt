@@ -7,6 +7,7 @@
 
 mod changes;
 mod handle;
+mod held;
 mod looks;
 mod parts;
 mod passes;
@@ -16,5 +17,9 @@ pub use changes::{
     gb_try_unlink,
 };
 pub use handle::Handle;
-pub use looks::{gb_look_fast, gb_try_list, gb_try_look, gb_try_readlink, gb_try_stat};
-pub use passes::{gb_cache_new, gb_close, gb_learn, gb_pass_join, gb_pass_split, gb_try_shrink};
+pub use looks::{
+    gb_look_fast, gb_readlink_fast, gb_try_list, gb_try_look, gb_try_readlink, gb_try_stat,
+};
+pub use passes::{
+    gb_cache_new, gb_close, gb_counts, gb_learn, gb_pass_join, gb_pass_split, gb_try_shrink,
+};

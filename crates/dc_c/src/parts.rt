@@ -33,6 +33,8 @@ impl<T, A: Allocator> Parts<T, A> {
         ensures { result.value ≡ self.value }
     {
         let Parts { at, alloc } = self;
+        // SAFETY: the parts own what a box at this place owns (`also_owns`), and are gone as the box begins: only
+        // `Parts::of` and `Held::into_parts` make them, each of a box that was taken apart.
         unsafe { Box::from_raw(alloc, at) }
     }
 }

@@ -2,7 +2,7 @@
 
 ghost use Rattle.std.specs.Prelude.{◌≡◌, ◌∷◌, [], IfOk, IfErr};
 ghost use Rattle.dc_cache.specs.Passes.{view};
-ghost use Rattle.dc_c.specs.Shapes.{Begins, Closes, Joins, Learns, Shrinks, ShowsClock, ShowsMany, Splits};
+ghost use Rattle.dc_c.specs.Shapes.{Begins, Closes, Counts, Joins, Learns, Shrinks, ShowsClock, ShowsCount, ShowsMany, Splits};
 ghost use Rattle.dc_hold.specs.Allowed.{IsFirst, IsSplit};
 ghost use Rattle.dc_hold.specs.Numbers.{status_number, status_of_sizes};
 ghost use Rattle.dc_hold.specs.declared.status.Status.TheVariants.{Done, NoMemory};
@@ -40,11 +40,11 @@ fn cut_off(alloc: Global, hold: &mut Hold) -> Result<Box<Hold, Global>, Status>
 
 /// Puts a hold into a blank handle, if there is one, and answers how the call ended.
 fn opened(blank: &mut Handle, made: Result<Box<Hold, Global>, Status>) -> i32
-    requires { blank.old.holds ≡ [] }
+    requires { blank.old.held.holds ≡ [] }
     ensures done { IfOk made (λ hold.
-        (blank.new.holds ≡ hold.value ∷ []) × (result ≡ status_number Done)) }
+        (blank.new.held.holds ≡ hold.value ∷ []) × (result ≡ status_number Done)) }
     ensures fault { IfErr made (λ status.
-        (blank.new.holds ≡ []) × (result ≡ status_number status)) }
+        (blank.new.held.holds ≡ []) × (result ≡ status_number status)) }
 {
     match made {
         Ok(hold) => {
@@ -55,12 +55,12 @@ fn opened(blank: &mut Handle, made: Result<Box<Hold, Global>, Status>) -> i32
     }
 }
 
-/// Makes a cache with its first pass. `BadSize` where a cache may not have these sizes.
+/// Makes a cache with its first pass. `BadSize` if a cache may not have these sizes.
 #[unsafe(no_mangle)]
 pub extern "C" fn gb_cache_new(alloc: Global, buckets: u64, inodes: u64, blank: &mut Handle) -> i32
     ensures begins { Begins buckets inodes blank.old blank.new result }
 {
-    if blank.is_open(alloc) {
+    if blank.is_open() {
         return Status::BadPass.number();
     }
     opened(blank, begun(alloc, buckets, inodes))
@@ -69,12 +69,12 @@ pub extern "C" fn gb_cache_new(alloc: Global, buckets: u64, inodes: u64, blank: 
 /// Another pass of the same cache, for another thread.
 #[unsafe(no_mangle)]
 pub extern "C" fn gb_pass_split(alloc: Global, pass: &mut Handle, blank: &mut Handle) -> i32
-    ensures splits { Splits pass.old pass.new result blank.old.holds blank.new.holds }
+    ensures splits { Splits pass.old pass.new result blank.old.held.holds blank.new.held.holds }
 {
-    if blank.is_open(alloc) {
+    if blank.is_open() {
         return Status::BadPass.number();
     }
-    let Some(mut hold) = pass.take(alloc) else {
+    let Some(mut hold) = pass.take() else {
         return Status::BadPass.number();
     };
     let split = cut_off(alloc, &mut hold);
@@ -84,13 +84,13 @@ pub extern "C" fn gb_pass_split(alloc: Global, pass: &mut Handle, blank: &mut Ha
 
 /// Ends another pass of the same cache, of which this one then has seen what it saw.
 #[unsafe(no_mangle)]
-pub extern "C" fn gb_pass_join(alloc: Global, pass: &mut Handle, other: &mut Handle) -> i32
-    ensures joins { Joins pass.old pass.new result other.old.holds other.new.holds }
+pub extern "C" fn gb_pass_join(pass: &mut Handle, other: &mut Handle) -> i32
+    ensures joins { Joins pass.old pass.new result other.old.held.holds other.new.held.holds }
 {
-    let Some(mut hold) = pass.take(alloc) else {
+    let Some(mut hold) = pass.take() else {
         return Status::BadPass.number();
     };
-    let Some(ended) = other.take(alloc) else {
+    let Some(ended) = other.take() else {
         pass.put(hold);
         return Status::BadPass.number();
     };
@@ -108,10 +108,10 @@ pub extern "C" fn gb_pass_join(alloc: Global, pass: &mut Handle, other: &mut Han
 
 /// Ends a pass. The last one of a cache ends the cache.
 #[unsafe(no_mangle)]
-pub extern "C" fn gb_close(alloc: Global, pass: &mut Handle) -> i32
+pub extern "C" fn gb_close(pass: &mut Handle) -> i32
     ensures closes { Closes pass.old pass.new result }
 {
-    match pass.take(alloc) {
+    match pass.take() {
         Some(hold) => {
             drop(hold);
             Status::Done.number()
@@ -129,12 +129,12 @@ fn tell_clock(clock: &mut u64, learnt: (bool, u64)) -> i32
     Status::of_learn(has_come).number()
 }
 
-/// Sees how many changes were made, and whether these are so many at least.
+/// Sees how many changes were made, and whether these are at least `at`.
 #[unsafe(no_mangle)]
-pub extern "C" fn gb_learn(alloc: Global, pass: &mut Handle, at: u64, clock: &mut u64) -> i32
+pub extern "C" fn gb_learn(pass: &mut Handle, at: u64, clock: &mut u64) -> i32
     ensures learns { Learns at pass.old pass.new result clock.old clock.new }
 {
-    let Some(mut hold) = pass.take(alloc) else {
+    let Some(mut hold) = pass.take() else {
         return Status::BadPass.number();
     };
     let learnt = hold.learn(at);
@@ -155,20 +155,36 @@ fn tell_many(emptied: &mut u64, tried: Option<u64>) -> i32
     }
 }
 
-/// Empties up to so many rows.
+/// Empties up to this many rows.
 #[unsafe(no_mangle)]
-pub extern "C" fn gb_try_shrink(
-    alloc: Global,
-    pass: &mut Handle,
-    most: u64,
-    emptied: &mut u64,
-) -> i32
+pub extern "C" fn gb_try_shrink(pass: &mut Handle, most: u64, emptied: &mut u64) -> i32
     ensures shrinks { Shrinks most pass.old pass.new result emptied.old emptied.new }
 {
-    let Some(mut hold) = pass.take(alloc) else {
+    let Some(mut hold) = pass.take() else {
         return Status::BadPass.number();
     };
     let tried = hold.try_shrink(most);
     pass.put(hold);
     tell_many(emptied, tried)
+}
+
+/// Writes how many rows were evicted, and answers how the call ended.
+fn tell_count(evictions: &mut u64, count: u64) -> i32
+    ensures { ShowsCount count result evictions.new }
+{
+    *evictions = count;
+    Status::Done.number()
+}
+
+/// How many rows have lost their name to another.
+#[unsafe(no_mangle)]
+pub extern "C" fn gb_counts(pass: &mut Handle, evictions: &mut u64) -> i32
+    ensures counts { Counts pass.old pass.new result evictions.old evictions.new }
+{
+    let Some(hold) = pass.take() else {
+        return Status::BadPass.number();
+    };
+    let count = hold.evictions();
+    pass.put(hold);
+    tell_count(evictions, count)
 }

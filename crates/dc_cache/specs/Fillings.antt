@@ -1,18 +1,20 @@
--- What one who fills rows makes of the guard.
+-- What a walk that fills rows makes of the guard.
 use Rattle.std.specs.Prelude.{◌≡◌, IfSome}
 use Rattle.std.proofs.Common.{refl, ap, ◌∙◌}
 use Rattle.dc_plain.specs.Tellers.{Extends}
 use Rattle.dc_plain.specs.Trees.{told_of}
 use Rattle.dc_ops.specs.Same.{same_tells}
-use Rattle.dc_rows.specs.Guards.{Keeps, seat_of, kept_by}
+use Rattle.dc_rows.specs.Guards.{Keeps, rows_of, seat_of, kept_by}
+use Rattle.dc_rows.specs.RowChanges.{SamePins}
 use Rattle.dc_table.specs.Changes.{with_words, words_of}
 use Rattle.dc_walk.specs.Placing.{AreTrue}
 use Rattle.dc_cache.specs.declared.filler.Filler.{Filler}
 
--- it has written words of rows, has the same pass, and knows the same
+-- it has written words of rows, and moved no pin; it has the same pass, and knows the same
 pub record Fills (f g : Filler) : Type 0 where
   pub pass : g.guard.holder.pass.ghost_name ≡ f.guard.holder.pass.ghost_name
   pub keeps : Keeps f.guard g.guard
+  pub pins : SamePins (rows_of f.guard) (rows_of g.guard)
   pub known : g.known ≡ f.known
 
 pub fills_none : (f : Filler) → Fills f f
@@ -22,6 +24,7 @@ fills_none f = record {
     only = record { same = record { table = refl; id = refl; same_share = refl }; untried = record { tries = refl; got = refl; left = refl; past = refl }; holder = f.guard.holder.has_lock; only = refl };
     tree = record { tree = refl; clock = refl; same_limit = refl };
   };
+  pins = λ row. refl;
   known = refl;
 }
 
@@ -37,6 +40,7 @@ fills_more f g h a b = record {
     };
     tree = record { tree = b.keeps.tree.tree ∙ a.keeps.tree.tree; clock = b.keeps.tree.clock ∙ a.keeps.tree.clock; same_limit = b.keeps.tree.same_limit ∙ a.keeps.tree.same_limit };
   };
+  pins = λ row. b.pins row ∙ a.pins row;
   known = b.known ∙ a.known;
 }
 

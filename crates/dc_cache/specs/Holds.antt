@@ -1,17 +1,23 @@
--- What is done under one hold of the lock leaves in the pass that had it.
+-- What a hold of the lock leaves in the pass that had it.
 use Rattle.std.specs.Prelude.{◌≡◌, Result}
 use Rattle.std.specs.Borrow.{MutBor}
 use Rattle.dc_plain.specs.Requests.{Request, answer_of}
 use Rattle.dc_plain.specs.declared.call.Stamped.{Stamped}
-use Rattle.dc_rows.specs.Guards.{seat_of}
+use Rattle.dc_rows.specs.Guards.{rows_of, seat_of}
+use Rattle.dc_rows.specs.RowChanges.{SamePins}
 use Rattle.dc_rows.specs.declared.guard.Guard.{Guard}
 use Rattle.dc_table.specs.Changes.{Recorded}
-use Rattle.dc_table.specs.Passes.{Pass, view, share, IsSamePass, IsIdle}
+use Rattle.dc_table.specs.Passes.{Pass, known, view, share}
+use Rattle.dc_table.specs.Shares.{Known, HadOnce}
 use Rattle.dc_cache.specs.Answers.{ToldTo}
 
--- the guard's pass is back, without the lock
-abbrev pub HandsBack : Guard → MutBor Pass → Type 0
-HandsBack g back = (back.ghost_name ≡ g.holder.pass.ghost_name) × IsSamePass (seat_of g) back.now × IsIdle back.now
+-- the rows were handed back as the guard had them
+abbrev pub KeepsRows : Guard → MutBor Pass → Type 0
+KeepsRows g back = (known back.now).left ≡ rows_of g
+
+-- each row was handed back with as many pins as it had
+abbrev pub KeepsPins : Guard → MutBor Pass → Type 0
+KeepsPins g back = SamePins (rows_of g) (known back.now).left
 
 -- it recorded this call alone, with this reply at this point
 abbrev pub Records : Pass → Pass → Request → Stamped → Type 0
@@ -23,3 +29,13 @@ RecordsOne g back call stamped = Records (seat_of g) back.now call stamped
 -- so it did, or memory for the answer was refused
 abbrev pub TellsOne : {E : Type 0} → Guard → MutBor Pass → Request → Result Stamped E → Type 0
 TellsOne g back call told = ToldTo (share (seat_of g)).limit (view (seat_of g)) (view back.now) call told
+
+-- there was one hold of the lock, under which the rows stayed as they were
+pub record ReadsOnce (k l : Known) : Type 0 where
+  pub once : HadOnce k l
+  pub same_rows : l.left ≡ l.got
+
+-- there was one hold of the lock, under which no pin came to a row or went
+pub record FillsOnce (k l : Known) : Type 0 where
+  pub once : HadOnce k l
+  pub same_pins : SamePins l.got l.left

@@ -14,6 +14,7 @@ use Rattle.dc_plain.specs.declared.call.Follow.TheVariants as follow
 use Rattle.dc_plain.specs.declared.call.Reply.{Reply}
 use Rattle.dc_plain.specs.declared.call.Stamped.{Stamped}
 use Rattle.dc_events.specs.Standing.{tree_of}
+use Rattle.dc_table.specs.Shares.{HadOnce}
 use Rattle.dc_rows.specs.Outcomes.{Makes}
 use Rattle.dc_rows.specs.declared.fault.ChangeFault.{ChangeFault}
 use Rattle.dc_cache.specs.Answers.{Made}
@@ -76,6 +77,12 @@ if_made (Err fault) lost = None
 abbrev pub parted : Result Stamped ChangeFault → Result (Reply × ℕ) ChangeFault
 parted (Ok stamped) = Ok (stamped.reply, stamped.at)
 parted (Err fault) = Err fault
+
+-- under one hold of the lock a change was made after some history, or wasn't, and the rows were left as after it: those of the keys that it touches tell what the tree has then, and all others are as they were
+pub record LeavesWarm (p q : Pass) (call : Request) (result : Result Stamped ChangeFault) : Type 0 where
+  pub once : HadOnce (known p) (known q)
+  pub history : List Request
+  pub makes : Makes history (known q).got p.seat q.seat call (parted result)
 
 -- a change was made after some history, or wasn't, and what is told is what it took away from the tree of that history
 pub record TakesAway (p q : Pass) (call : Request) (result : Result Stamped ChangeFault) (told : Option Gone) : Type 0 where

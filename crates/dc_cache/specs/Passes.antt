@@ -8,9 +8,7 @@ use Rattle.dc_rows.specs.Outcomes as outcomes
 use Rattle.dc_table.specs.Shares as shares
 use Rattle.dc_table.specs.Shares.{Known, Share, tried}
 use Rattle.dc_walk.specs.Findings as walks
-use Rattle.dc_table.specs.declared.shared.Shared.{Shared}
-use Rattle.dc_cache.specs.declared.cache.Dcache.{Dcache}
-use Rattle.dc_cache.specs.declared.cache.Sleepless.{Sleepless}
+use Rattle.dc_cache.specs.declared.cache.Cache.{Cache}
 use Rattle.dc_cache.specs.declared.cache.Pass.{Pass}
 
 -- what the pass has done and seen, and its share
@@ -26,26 +24,19 @@ share p = (known p).share
 abbrev pub buckets_of : Pass → ℕ
 buckets_of p = walks.buckets_of p.seat
 
--- the pass is one of the cache, which has a bucket, and has not the lock
-abbrev pub Fits : Dcache → Pass → Type 0
+-- the pass is one of the cache, which has a bucket, and does not have the lock
+abbrev pub Fits : {W : Type 0} → Cache W → Pass → Type 0
 Fits cache p = walks.CanWalk cache.shared p.seat
-
--- the same of a cache that nobody sleeps on, and of the table of either
-abbrev pub FitsSleepless : Sleepless → Pass → Type 0
-FitsSleepless cache p = walks.CanWalk cache.shared p.seat
-
-abbrev pub FitsTable : Shared → Pass → Type 0
-FitsTable shared p = walks.CanWalk shared p.seat
 
 -- two passes are of one cache
 abbrev pub SameCache : Pass → Pass → Type 0
 SameCache p q = q.seat.table_id ≡ p.seat.table_id
 
--- another pass has the lock: this one has tried for it once, and has done and seen nothing
-abbrev pub Missed : Pass → Pass → Type 0
-Missed p q = known q ≡ tried (known p)
+-- the pass found the lock held: it has tried for it once, and did and saw nothing
+abbrev pub FoundHeld : Pass → Pass → Type 0
+FoundHeld p q = known q ≡ tried (known p)
 
--- so many rows were emptied: as many as were asked for, or all that were listed when the pass got the lock; the last of them, and no other
+-- this many rows were emptied: as many as were asked for, or all that were listed when the pass got the lock; the last of them, and no other
 abbrev pub Shrinks : ℕ → ℕ → Pass → Type 0
 Shrinks most emptied q = outcomes.Shrinks most emptied q.seat
 

@@ -13,7 +13,7 @@ use dc_index::HashedKey;
 use dc_names::{Kind, Part, hash};
 use dc_ops::StoreFinder;
 use dc_plain::{Key, Label, Target};
-use dc_resolve::{Bytes, Finder, Stop};
+use dc_resolve::{Bytes, Finder};
 use dc_row::RowText;
 use dc_rows::Guard;
 use dc_walk::{Room, key_of};
@@ -33,6 +33,10 @@ impl Bytes for ShortText {
     }
 }
 
+/// A link's text has no room in a row.
+#[derive(Drop)]
+pub(crate) struct NoRoom;
+
 /// Answers the questions of a look-up from the tree, and fills the row of each. It stops at a link
 /// whose text has no room in a row, since no look-up without the lock gets past that. Where a walk by rows
 /// has just given up, the rows in its room answer its questions again, in their order, if what they tell
@@ -44,7 +48,6 @@ pub(crate) struct Filler<'t> {
     pub known: Option<&'t Room>,
     /// The row that answers the next question.
     pub next: usize,
-    pub stopped: bool,
 }
 
 impl Filler<'_> {
@@ -53,13 +56,13 @@ impl Filler<'_> {
         requires known { KnowsTruth self.old }
         requires entry { (key_shown key).label ≢ Text }
         ensures fills { Fills self.old self.new }
-        ensures stopped { self.new.stopped ≡ self.old.stopped }
         ensures told { IfSome result (λ target. let key = key_shown key.entry in
             (told_of (kept_by self.old.guard).store).entry key.number key.label ≡ Some target) }
     {
         let room = self.known?;
         let target = room.told_at(self.next, key);
-        // Each question has its row, in their order, up to a key that is asked for twice.
+        // Each question has its row, in their order, but for a key that is asked for twice, after which
+        // rows and questions no longer line up: `told_at` compares the key, so no other key's row answers.
         self.next = self.next.saturating_add(1);
         target
     }
@@ -67,7 +70,6 @@ impl Filler<'_> {
     /// Fills the row of a key, if one can be had.
     fn fill(&mut self, key: &HashedKey<'_>)
         ensures fills { Fills self.old self.new }
-        ensures stopped { self.new.stopped ≡ self.old.stopped }
     {
         // A row that can't be had is missed again by the next look-up, here and below.
         let _ = self.guard.fill(self.alloc, key);
@@ -77,7 +79,6 @@ impl Filler<'_> {
     fn fill_entry(&mut self, key: &HashedKey<'_>, target: Option<Target>)
         requires target { LeadsTo (kept_by self.old.guard).store (key_in key.now) target }
         ensures fills { Fills self.old self.new }
-        ensures stopped { self.new.stopped ≡ self.old.stopped }
     {
         let _ = self.guard.fill_entry(self.alloc, key, target);
     }
@@ -86,11 +87,13 @@ impl Filler<'_> {
 impl Finder for Filler<'_> {
     type Text = ShortText;
 
+    type Stop = NoRoom;
+
     ghost said = { λ f. told_of (kept_by f.guard).store };
 
-    ghost has_stopped = { λ f. f.stopped };
-
     ghost becomes = { Fills };
+
+    ghost stops = { λ f g why. Fills f g };
 
     ghost may_ask = { λ f number label. KnowsTruth f };
 
@@ -98,7 +101,7 @@ impl Finder for Filler<'_> {
 
     ghost link_bytes = { 0 };
 
-    fn find(&mut self, dir: u64, part: Part<'_>) -> Result<Option<(u64, Kind)>, Stop> {
+    fn find(&mut self, dir: u64, part: Part<'_>) -> Result<Option<(u64, Kind)>, NoRoom> {
         let key = key_of(dir, part);
         self.find_hashed(dir, part, hash(dir, key.label.bytes()))
     }
@@ -108,7 +111,7 @@ impl Finder for Filler<'_> {
         dir: u64,
         part: Part<'_>,
         hash: u64,
-    ) -> Result<Option<(u64, Kind)>, Stop> {
+    ) -> Result<Option<(u64, Kind)>, NoRoom> {
         let key = key_of(dir, part);
         // Of a dot-dot no row says that it leads to a directory: the tree does.
         if let Some(target) = self.told(key)
@@ -119,16 +122,14 @@ impl Finder for Filler<'_> {
         let mut finder = StoreFinder {
             store: self.guard.store(),
         };
-        let found = finder.find_hashed(dir, part, hash);
+        let Ok(target) = finder.find_hashed(dir, part, hash);
         // The store's finder has no `Drop`, so it can't be let go, but is taken apart.
         let StoreFinder { store: _ } = finder;
-        // A store has an answer to each question, so its finder never stops.
-        let Ok(target) = found else { unreachable!() };
         self.fill_entry(&HashedKey { key, hash }, target);
         Ok(target)
     }
 
-    fn link_text(&mut self, number: u64) -> Result<ShortText, Stop> {
+    fn link_text(&mut self, number: u64) -> Result<ShortText, NoRoom> {
         self.fill(&HashedKey::new(Key {
             number,
             label: Label::Text,
@@ -136,21 +137,18 @@ impl Finder for Filler<'_> {
         let mut finder = StoreFinder {
             store: self.guard.store(),
         };
-        let told = finder.link_text(number);
+        let Ok(told) = finder.link_text(number);
         // Taken apart, as it has no `Drop`.
         let StoreFinder { store: _ } = finder;
-        match RowText::of(told?) {
-            Some(text) => Ok(ShortText { text }),
-            None => {
-                self.stopped = true;
-                Err(Stop)
-            }
-        }
+        let text = RowText::of(told).ok_or(NoRoom)?;
+        Ok(ShortText { text })
     }
 
     ghost stays = { fills_none };
 
     ghost goes_on = { fills_more };
+
+    ghost stops_later = { λ f g h why. fills_more f g h };
 
     ghost keeps = { fills_keep };
 

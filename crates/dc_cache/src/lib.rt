@@ -11,7 +11,7 @@
 //! let (cache, mut pass) = Dcache::new(alloc, 256, 65_536)?;
 //! let mkdir = Call::Mkdir { base: ROOT, path: b"/a" };
 //! let made = cache.change(&rt, alloc, &mut pass, &mkdir)?;
-//! let found = cache.look(&rt, alloc, &mut pass, ROOT, b"/a", Follow::Yes);
+//! let found = cache.resolve(&rt, alloc, &mut pass, ROOT, b"/a", Follow::Yes);
 //! let mut other = cache.split(&mut pass);
 //! let quick = cache.look_fast(&mut other, ROOT, parse(b"/a")?, Follow::Yes);
 //! cache.join(&mut pass, other);
@@ -19,13 +19,14 @@
 //! ```
 //!
 //! `made` is `Done(2)` at 0: the new directory has the number 2, and no change came before. `found` is
-//! `Found(2, Dir)` at 1, and so is `quick`, whose row the look-up before it has filled. `CALLING.md` shows
-//! a caller that is proved, and the crate `dc_uses` has it and four more, one in each file.
+//! `Found(2, Dir)` at 1, and so is `quick`, whose row the look-up before it has filled. `CALLING.md` says
+//! which call does what, and shows a caller that is proved; the crate `dc_uses` has it and four more, one
+//! in each file.
 //!
 //! # Passes
 //!
 //! A thread calls the cache with a `Pass`, which is a place for the rows that a look-up uses and, for the
-//! proof alone, a book of the calls that were answered with it. Threads share the `Dcache` by `&`; a pass
+//! proof alone, a book of the calls that were answered with it. Threads share the cache by `&`; a pass
 //! is lent to one call at a time, as `&mut` says. A pass serves the cache that it comes from and no other,
 //! which each contract states as `Fits cache pass`, and each call leaves that true.
 //!
@@ -38,43 +39,43 @@
 //!
 //! # Which calls wait, and which take memory
 //!
-//! There is one lock. The changes, the reads of the tree and the filling of rows take it.
+//! There is one lock. Changes, reads of the tree and the filling of rows take it. The two halves of this
+//! table stand in `never_waits` and `waits`.
 //!
-//! | call | waits for the lock | takes memory | without an answer |
+//! | call | takes the lock | takes memory | without an answer |
 //! |---|---|---|---|
-//! | `look_fast` | never, and takes none | none | `Again`, with the cause |
-//! | `readlink_fast` | never, and takes none | none | `Again`, with the cause; `Link` for a link |
-//! | `look_counted` | for each name | for rows | `Again`, with the cause |
-//! | `look` | if the rows don't answer | for rows, as far as there is any | never |
-//! | `look_filled` | once, if the rows don't answer | for rows, as far as there is any | never |
-//! | `look_missed`, after `look_fast` | once | for rows, as far as there is any | never |
-//! | `stat` | yes | none | never |
-//! | `readlink`, `list` | yes | for the text or the names | `NoMemory` |
-//! | `change` | yes | for what it makes or moves | `NoMemory`, `Spent` |
-//! | `shrink` | yes | none | never |
-//! | `try_look`, after `look_fast` | never | for rows, as far as there is any | `None` |
-//! | `try_stat`, `try_shrink` | never | none | `None` |
-//! | `try_readlink`, `try_list` | never | for the text or the names | `None`, `NoMemory` |
-//! | `try_change` | never | for what it makes or moves | `None`, `NoMemory`, `Spent` |
-//! | `learn`, `split`, `join`, `close` | never | none | as said above and below |
-//! | `counts` | never | none | never |
+//! | `look_fast`, `look_text` | never | none | `Again`, with the cause |
+//! | `readlink_fast` | never | none | `Again`, with the cause; `Link` for a link |
+//! | `try_look` | tries once | for rows, as far as there is any | `None` |
+//! | `try_stat`, `try_shrink` | tries once | none | `None` |
+//! | `try_readlink`, `try_list` | tries once | for the text or the names | `None`, `NoMemory` |
+//! | `try_change`, `try_change_telling` | tries once | for what it makes or moves | `None`, `NoMemory`, `Spent` |
+//! | `learn` | never | none | `NotYet` |
+//! | `counts`, `split`, `join`, `close` | never | none | as said above |
+//! | `resolve` | waits, once, if the rows don't answer | for rows, as far as there is any | never |
+//! | `look_missed`, after `look_fast` | waits, once | for rows, as far as there is any | never |
+//! | `look_counted` | waits, for each row that it pins and once more | for rows | `Again`, with the cause |
+//! | `look` | waits as `look_counted`, and once more, if the rows don't answer | for rows, as far as there is any | never |
+//! | `stat` | waits, once | none | never |
+//! | `readlink`, `list` | waits, once | for the text or the names | `NoMemory` |
+//! | `change` | waits, once | for what it makes or moves | `NoMemory`, `Spent` |
+//! | `shrink` | waits, once | none | never |
 //!
 //! A `try_` call tries for the lock once. It answers `None` if another pass has it, and then nothing at
 //! all has changed; else it answers as the call that waits. `try_look` asks the tree for the whole path, so
-//! that a caller asks the rows first, by `look_fast`, which takes no lock.
+//! a caller asks the rows first, by `look_fast`, which takes no lock.
 //!
 //! A call that waits takes `rt`, a runtime that can put a thread to sleep (the bound `Wait`); the type of
-//! a call without it says that it returns. A call that may take memory takes `alloc`, the allocator. Want
-//! of memory leaves the tree and the book as they were. A change that is refused, an `Unlink` and a
-//! `Rmdir` take none, and a `readlink` or a `list` that is refused takes none.
+//! a call without it says that it returns. A call that may take memory takes `alloc`, the allocator. If
+//! memory is refused, the tree and the book are as they were. A change that is refused, an `Unlink`, a
+//! `Rmdir` and an exchange take none, and a `readlink` or a `list` that is refused takes none.
 //!
 //! # Without a runtime
 //!
-//! `Sleepless` is a cache without a call that waits. It has the calls of the table that never do, by the
-//! same names, and no thread ever sleeps on it; so its calls wake nobody, where those of a `Dcache` wake
-//! one who waits. It serves callers that can neither sleep nor wake, as a library for C. Two calls are its
-//! own: `look_text`, a `look_fast` of any bytes, and `try_change_telling`, which tells besides what stood at
-//! the name that a change took away.
+//! A `Dcache` has all these calls. A `Sleepless` has those that never wait, so that no thread ever sleeps
+//! until its lock is free. Its calls wake nobody, and those of a `Dcache` that had the lock wake a thread
+//! that waits for it. So a `Sleepless` serves callers that can neither sleep nor wake, as a library for C.
+//! The two are one type, `Cache`, with the mark `Sleepers` or `Nobody`, and have the same contracts.
 //!
 //! # Base, at, follow
 //!
@@ -84,7 +85,7 @@
 //!
 //! `at` of an answer is its point: how many calls had altered the tree before it took effect. A change
 //! that altered the tree ends one above its `at`. What a pass has seen is past for it: none of its later
-//! calls takes effect before that. To see what another thread did, be told its point p by any means, and
+//! calls takes effect before that. To see what another thread did, learn its point p by any means, and
 //! call `learn(pass, p + 1)`: then every later call of this pass comes after that change. `learn` answers
 //! `NotYet` for a number that the cache hasn't come to.
 //!
@@ -102,29 +103,24 @@
 //! `Miss` and `Link` if no row has the name or the link's text, `Busy` and `Changed` if a change came
 //! between, `Long` if more than 256 rows would be used (no name is too long for a row),
 //! `Memory` from `look_counted`. After `Busy` and `Changed` a second `look_fast` may well answer; after
-//! the others only `look`, or a `try_look`, which fills the rows.
+//! the others only a call that takes the lock does: `look_missed`, or `try_look`, and both fill the rows.
 #![tactic(auto)]
 
 mod cache;
-mod changing;
-mod filled;
 mod filler;
 mod gone;
-mod held;
 mod links;
-mod looking;
-mod passing;
-mod reading;
-mod sleepless;
-mod tries;
-mod trying;
+mod never_waits;
+mod passes;
+mod under_lock;
+mod waits;
 
-pub use cache::{Dcache, Ended, NotYet, Pass, Sleepless};
+pub use cache::{Cache, Dcache, Ended, NotYet, Pass, Sleepless};
 pub use dc_names::{Kind, Name, NoMemory, Part, PathText, Refusal, TextFault, parse};
 pub use dc_plain::{Call, Flags, Follow, Reply, Sort, Stamped};
 pub use dc_rows::ChangeFault;
 pub use dc_store::{SlabStore, Store};
-pub use dc_table::{Counts, MakeFault};
+pub use dc_table::{Counts, MakeFault, Nobody, Sleepers, Wakes};
 pub use dc_walk::{Fast, MOST_LOADS, Why};
 pub use gone::Gone;
 pub use links::FastLink;

@@ -6,12 +6,13 @@ ghost use Rattle.dc_cache.specs.Passes.{buckets_of, known, view, share, Fits};
 ghost use Rattle.dc_table.specs.Shares.{HasNotTried};
 ghost use Rattle.dc_names.specs.declared.limits.TheConstants.{MOST_LOADS};
 
-use crate::cache::{Dcache, Pass};
+use crate::cache::{Cache, Pass};
 use dc_names::{Kind, PathText, Refusal};
 use dc_plain::{
     Follow, Reply, Stamped, opening_tree_is_well_formed, operations_keep_trees_well_formed,
     paths_lead_to_the_living,
 };
+use dc_table::Wakes;
 use dc_walk::{Fast, Why};
 
 /// What the rows tell of a `readlink`.
@@ -26,7 +27,7 @@ pub enum FastLink {
     Again(Why),
 }
 
-impl Dcache {
+impl<W: Wakes> Cache<W> {
     /// What a `readlink` is answered by the rows of the cache alone, where the path leads to no link: it
     /// takes no lock and no memory, never waits, and makes at most `MOST_LOADS` loads. It looks the path
     /// up without following a last link, and what is recorded is that look-up: a readlink on the tree of
@@ -40,6 +41,22 @@ impl Dcache {
         ensures loads { (view pass.new).loads ≤ (view pass.old).loads + MOST_LOADS }
     {
         match self.look_fast(pass, base, path, Follow::No) {
+            Fast::Done(found) => told_of(found),
+            Fast::Again(why) => FastLink::Again(why),
+        }
+    }
+
+    /// What the rows tell of a `readlink`, as `readlink_fast`, of a text that may be no path: then it is
+    /// refused.
+    pub fn readlink_text(&self, pass: &mut Pass, base: u64, path: &[u8]) -> FastLink
+        requires pass { Fits self.now pass.old }
+        ensures same { Fits self.now pass.new × (share pass.new ≡ share pass.old) }
+        ensures reads { ReadsFast base path.now (buckets_of pass.old)
+            (view pass.old) (view pass.new) result }
+        ensures untried { HasNotTried (known pass.old) (known pass.new) }
+        ensures loads { (view pass.new).loads ≤ (view pass.old).loads + MOST_LOADS }
+    {
+        match self.look_text(pass, base, path, Follow::No) {
             Fast::Done(found) => told_of(found),
             Fast::Again(why) => FastLink::Again(why),
         }

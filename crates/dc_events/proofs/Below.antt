@@ -1,4 +1,4 @@
--- The laws of the floors below that the lemmas of walks are given.
+-- The laws of the crates below that the lemmas of walks are given.
 use Rattle.dc_plain.specs.FactLaws.{RepliesByFacts}
 use Rattle.dc_plain.specs.LivingLaws.{SameTreeDecides}
 use Rattle.dc_row.specs.Decoding.{SpelledIsRead}

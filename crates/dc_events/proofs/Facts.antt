@@ -28,7 +28,7 @@ added_if : FactsBelow → (t : Tree) (words : List ℕ) (facts : List Fact) (b :
 added_if laws t words facts true told all = let s = told refl in subst (λ r. AllByRecursion (IsTrueIn t) (with_fact r facts)) (sym (laws.read words s.fact s.spells)) (added t s.fact facts s.holds all)
 added_if laws t words facts false told all = all
 
--- the facts of the checked notes are true where each of these notes tells the tree
+-- the facts of the checked notes are true if each of these notes tells the tree
 pub facts_true : FactsBelow → (t : Tree) (xs : List Note) → ((i : ℕ) (x : Note) → get_elem? xs i ≡ some x → x.checked ≡ true → Tells t (note_words x)) → AllByRecursion (IsTrueIn t) (facts_in xs)
 facts_true laws t [] trust = tt
 facts_true laws t (x ∷ xs) trust = added_if laws t (note_words x) (facts_in xs) x.checked (trust 0 x refl) (facts_true laws t xs (λ i. trust (suc i)))

@@ -1,4 +1,4 @@
--- Each event keeps the rule, by the laws of the floors below.
+-- Each event keeps the rule, by the laws of the crates below.
 use Rattle.dc_events.specs.Laws.{TreeLaws, HoldersKeepTheRule, WalkersKeepTheRule}
 use Rattle.dc_events.proofs.Below.{FactsBelow}
 use Rattle.dc_events.proofs.Holder as holder

@@ -155,7 +155,7 @@ module _ {limit : ℕ} {h : List Request} {ss : List (List Record)} {at : ℕ} (
     early = R.early;
   }
 
-  -- where none altered nothing, the one that altered goes
+  -- if none is left that altered nothing, the one that altered goes
   one_here : (H : Head ss at true) → at < length h
   one_here H = let one = hit_one at H.first H.is H.here in let m = all_one at ss H.place (H.first ∷ H.rest) H.there in let o = R.once at (omega arith) in dite (dec_lt at (length h)) (λ less. less)
       (λ more. let z : once_below at (length h) ≡ 0 = ap (λ b. cond b 1 0) (le-ltb at (length h) (omega arith)) in absurd (omega arith))
@@ -179,7 +179,7 @@ module _ {limit : ℕ} {h : List Request} {ss : List (List Record)} {at : ℕ} (
   next_tree : (H : Head ss at true) → tree_after limit t H.first.call ≡ tree_of limit (take (suc at) h)
   next_tree H = let placed = subst (λ k. get_elem? h k ≡ some H.first.call) H.here ((head_stands true H).placed H.is) in sym (ap (tree_of limit) (take_more h at H.first.call placed) ∙ tree_of-snoc limit (take at h) H.first.call)
 
-  -- where no strand has a record at this point, none has one at all
+  -- if no strand has a record at this point, none has one at all
   all_placed : NoHead ss at false → NoHead ss at true → (i : ℕ) (s : List Record) → get_elem? ss i ≡ some s → s ≡ []
   all_placed flat alt i [] e = refl
   all_placed flat alt i (r ∷ rest) e = let past : (j : ℕ) (s : List Record) → get_elem? ss j ≡ some s → hits at s ≡ 0 = λ j s f. later_none at (suc at) s (later_on at (suc at) s (R.rising j s f) (λ q qs is. let f' = f ∙ ap some is in

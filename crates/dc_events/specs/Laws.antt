@@ -70,7 +70,7 @@ pub record TreeLaws : Type 0 where
   pub runs : KeepsRunsWellFormed
   pub stay : UntouchedStay
 
--- empty rows, a free lock, the clock 0, and nobody who did anything
+-- empty rows, a free lock, the clock 0, and no actor that did anything
 abbrev pub NewTablesHaveTheRule : Type 0
 NewTablesHaveTheRule = (limit rows actors : ℕ) → Rule limit rows (opening_words rows) (replicate actors nobody) []
 

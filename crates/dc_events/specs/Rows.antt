@@ -18,7 +18,7 @@ base_of row = 2 + row * ROW_WORDS
 abbrev pub count : List ℕ → ℕ → ℕ
 count words row = get_or words (base_of row) 0
 
--- so many words from a place on
+-- this many words from a place on
 abbrev pub words_from : List ℕ → ℕ → ℕ → List ℕ
 words_from words k zero = []
 words_from words k (suc n) = get_or words k 0 ∷ words_from words (suc k) n

@@ -30,7 +30,7 @@ pub record Book : Type 0 where
   pub own : List Record
   pub joined : List (List Record)
 
--- who holds the lock knows the calls that altered the tree and all words
+-- the holder of the lock knows the calls that altered the tree and all words
 pub record Hold : Type 0 where
   pub holds : Bool
   pub history : List Request

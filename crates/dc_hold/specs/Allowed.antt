@@ -1,5 +1,5 @@
 -- What each call of a hold may come to, from its pass before to its pass after.
-use Rattle.std.specs.Prelude.{◌≡◌, ◌↔◌, ℕ, ◌+◌, ◌-◌, ◌*◌, ◌^◌, ◌≤◌, ◌++◌, min, length, take, drop, Bool, true, List, Option, Some, Result, Ok, MatchOption}
+use Rattle.std.specs.Prelude.{◌≡◌, ◌↔◌, ℕ, ◌+◌, ◌-◌, ◌*◌, ◌^◌, ◌≤◌, min, Bool, true, List, Option, Some, Result, Ok, MatchOption}
 use Rattle.dc_names.specs.Tables.{fit_a_table}
 use Rattle.dc_names.specs.declared.NoMemory.{NoMemory}
 use Rattle.dc_names.specs.declared.limits.TheConstants.{BUCKET_ROWS, MOST_LOADS}
@@ -9,14 +9,17 @@ use Rattle.dc_plain.specs.declared.call.Reply.TheVariants as replies
 use Rattle.dc_table.specs.Changes.{NothingNew}
 use Rattle.dc_table.specs.Shares.{first_known, kept_half, new_half, HasNotTried}
 use Rattle.dc_rows.specs.declared.fault.ChangeFault.{ChangeFault}
-use Rattle.dc_walk.specs.Fasts.{Keeps, IfAgain}
+use Rattle.dc_walk.specs.Fasts.{Keeps}
 use Rattle.dc_walk.specs.declared.answer.Fast as walk
 use Rattle.dc_cache.specs.Answers.{Answered, IfFast, Loaded, Made, Told}
 use Rattle.dc_cache.specs.Calls.{Request, Stamped, look}
+use Rattle.dc_cache.specs.Links.{ReadsFast}
 use Rattle.dc_cache.specs.Losses.{TakesAway}
-use Rattle.dc_cache.specs.Passes.{buckets_of, known, view, Missed, SameCache, Shrinks}
+use Rattle.dc_cache.specs.Passes.{buckets_of, known, view, FoundHeld, SameCache, Shrinks}
 use Rattle.dc_cache.specs.declared.cache.Pass.{Pass}
 use Rattle.dc_cache.specs.declared.gone.Gone as cache
+use Rattle.dc_cache.specs.declared.links.FastLink as links
+use Rattle.dc_hold.specs.Buffers.{Read}
 use Rattle.dc_hold.specs.Numbers.{bytes_of}
 
 -- the first pass of a new cache has the whole of it, and has done and seen nothing
@@ -34,49 +37,46 @@ pub record IsSplit (p q other : Pass) : Type 0 where
 abbrev pub How : Type 0
 How = Follow
 
--- a look-up by the rows alone: it doesn't try for the lock, makes so many loads at most, and gives up for a cause that it met
+-- a look-up by the rows alone: it doesn't try for the lock, makes at most this many loads, and gives up for a cause that it met
 abbrev pub Fast : Type 0
 Fast = walk.Fast
 
 pub record MayFind (base : ℕ) (path : List ℕ) (how : How) (p q : Pass) (fast : Fast) : Type 0 where
   pub answered : IfFast p q (look base path how) fast
-  pub keeps : IfAgain fast (Keeps base path how (buckets_of p) (view p) (view q) fast)
+  pub keeps : Keeps base path how (buckets_of p) (view p) (view q) fast
+  pub untried : HasNotTried (known p) (known q)
+  pub loads : (view q).loads ≤ (view p).loads + MOST_LOADS
+
+-- a readlink by the rows alone: it tells what the look-up tells that it records, or a cause, on the same terms
+abbrev pub Link : Type 0
+Link = links.FastLink
+
+pub record MayReadFast (base : ℕ) (path : List ℕ) (p q : Pass) (fast : Link) : Type 0 where
+  pub reads : ReadsFast base path (buckets_of p) (view p) (view q) fast
   pub untried : HasNotTried (known p) (known q)
   pub loads : (view q).loads ≤ (view p).loads + MOST_LOADS
 
 -- a look-up that asks the tree, or a count, whose answers take no memory
 abbrev pub MayLook : Request → Pass → Pass → Option Stamped → Type 0
-MayLook call p q tried = MatchOption tried (Missed p q) (Answered p q call)
+MayLook call p q tried = MatchOption tried (FoundHeld p q) (Answered p q call)
 
 -- a change
 abbrev pub Change : Type 0
 Change = Result Stamped ChangeFault
 
 abbrev pub MayMake : Request → Pass → Pass → Option Change → Type 0
-MayMake call p q tried = MatchOption tried (Missed p q) (Made p q call)
+MayMake call p q tried = MatchOption tried (FoundHeld p q) (Made p q call)
 
 -- a change that may take a name away, with what it took
 abbrev pub Taken : Type 0
 Taken = Change × Option cache.Gone
 
 abbrev pub MayTake : Request → Pass → Pass → Option Taken → Type 0
-MayTake call p q tried = MatchOption tried (Missed p q) (λ taken. TakesAway p q call taken.0 taken.1)
+MayTake call p q tried = MatchOption tried (FoundHeld p q) (λ taken. TakesAway p q call taken.0 taken.1)
 
 -- a read whose answer takes memory
-abbrev pub Read : Type 0
-Read = Option (Result Stamped NoMemory)
-
 abbrev pub MayRead : Request → Pass → Pass → Read → Type 0
-MayRead call p q tried = MatchOption tried (Missed p q) (Told p q call)
-
--- the first bytes of a text that was read, as many as there is room for
-abbrev text_over : List ℕ → Reply → List ℕ
-text_over room (replies.Text text) = let many = min (length room) (length text.items) in take many text.items ++ drop many room
-text_over room _ = room
-
-abbrev pub read_over : List ℕ → Read → List ℕ
-read_over room (Some (Ok stamped)) = text_over room stamped.reply
-read_over room _ = room
+MayRead call p q tried = MatchOption tried (FoundHeld p q) (Told p q call)
 
 -- how many bytes the names take that were read
 abbrev bytes_in : Reply → ℕ
@@ -87,12 +87,12 @@ abbrev pub bytes_told : Read → ℕ
 bytes_told (Some (Ok stamped)) = bytes_in stamped.reply
 bytes_told _ = 0
 
--- whether so many changes were made, by the clock that was loaded, as far as 64 bits tell it
+-- whether this many changes were made, by the clock that was loaded, as far as 64 bits tell it
 pub record MayLearn (at : ℕ) (p q : Pass) (learnt : Bool × ℕ) : Type 0 where
   pub loaded : Loaded (view p) (view q)
   pub clock : learnt.1 ≡ min (2 ^ 64 - 1) (view q).book.seen
   pub come : (learnt.0 ≡ true) ↔ (at ≤ learnt.1)
 
--- nothing is recorded as rows are emptied, and these are so many
+-- nothing is recorded as rows are emptied, and this many are
 abbrev pub MayShrink : ℕ → Pass → Pass → Option ℕ → Type 0
-MayShrink most p q tried = MatchOption tried (Missed p q) (λ many. NothingNew (view p) (view q) × Shrinks most many q)
+MayShrink most p q tried = MatchOption tried (FoundHeld p q) (λ many. NothingNew (view p) (view q) × Shrinks most many q)

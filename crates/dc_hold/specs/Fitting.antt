@@ -7,9 +7,9 @@ use Rattle.std.specs.contracts.alloc.Global as heap
 use Rattle.std_alloc.specs.contracts.boxed.Box as boxed
 use Rattle.std_heap.specs.contracts.GlobalAllocator.TheImpl.{ghosts}
 use Rattle.dc_table.specs.contracts.table.Guarded as guarded
-use Rattle.dc_cache.specs.declared.cache.Sleepless.{Sleepless}
+use Rattle.dc_cache.specs.declared.cache.Cache.{Cache}
 use Rattle.dc_cache.specs.declared.cache.Pass.{Pass}
-use Rattle.dc_cache.specs.Passes.{FitsSleepless}
+use Rattle.dc_cache.specs.Passes.{Fits}
 
 -- what lies in the slot of a table
 abbrev boxed_row : RattleType
@@ -18,5 +18,5 @@ boxed_row = boxed.the_row guarded.the_row heap.the_row ghosts
 boxed_coded : Coded boxed_row.Denot
 boxed_coded = boxed_row.coded
 
-pub fits_prop : (c : Sleepless) (p : Pass) → IsProp (FitsSleepless c p)
+pub fits_prop : {W : Type 0} (c : Cache W) (p : Pass) → IsProp (Fits c p)
 fits_prop c p = hlevel (Coded-set, codes, table_id_coded, boxed_coded)

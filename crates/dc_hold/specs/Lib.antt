@@ -1,5 +1,6 @@
--- What a program in C is told by numbers.
+-- What a hold's calls may come to, and what a program in C gets of it in numbers.
 pub mod Numbers
 pub mod Tells
 pub mod Fitting
+pub mod Buffers
 pub mod Allowed

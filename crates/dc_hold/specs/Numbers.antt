@@ -17,7 +17,7 @@ use Rattle.dc_walk.specs.declared.why.Why.TheVariants as causes
 use Rattle.dc_hold.specs.declared.status.Status.{Status}
 use Rattle.dc_hold.specs.declared.status.Status.TheVariants as statuses
 
--- 0 of an answer, the number of an error of a refusal, at most the most that Linux has, and below 0 where nothing is recorded
+-- 0 of an answer, the number of an error of a refusal, at most the most that Linux has, and below 0 if nothing is recorded
 abbrev pub status_number : Status → ℤ
 status_number statuses.Done = pos 0
 status_number (statuses.Refused number) = pos (min number MOST_ERRNO)
@@ -38,7 +38,7 @@ status_of_make makes.NoMemory = statuses.NoMemory
 abbrev pub status_of_sizes : ℕ → ℕ → Status
 status_of_sizes buckets inodes = if fit_a_table buckets inodes then statuses.NoMemory else statuses.BadSize
 
--- whether so many changes were made
+-- whether this many changes were made
 abbrev pub status_of_learn : Bool → Status
 status_of_learn has_come = if has_come then statuses.Done else statuses.NotYet
 

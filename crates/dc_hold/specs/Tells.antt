@@ -1,4 +1,4 @@
--- What a program in C is told of each answer of the cache.
+-- What each answer of the cache is in numbers, for a program in C.
 use Rattle.std.specs.Prelude.{ℕ, length, Bool, true, false, Option, Some, None, Result, Ok, Err}
 use Rattle.dc_names.specs.declared.NoMemory.{NoMemory}
 use Rattle.dc_plain.specs.declared.call.Reply.{Reply}
@@ -7,11 +7,14 @@ use Rattle.dc_plain.specs.declared.call.Stamped.{Stamped}
 use Rattle.dc_rows.specs.declared.fault.ChangeFault.{ChangeFault}
 use Rattle.dc_walk.specs.declared.answer.Fast.{Fast}
 use Rattle.dc_walk.specs.declared.answer.Fast.TheVariants as fasts
-use Rattle.dc_cache.specs.declared.gone.Gone.{Gone}
+use Rattle.dc_walk.specs.declared.why.Why.{Why}
+use Rattle.dc_cache.specs.declared.gone.Gone as cache
+use Rattle.dc_cache.specs.declared.links.FastLink.{FastLink}
+use Rattle.dc_cache.specs.declared.links.FastLink.TheVariants as links
 use Rattle.dc_hold.specs.Numbers.{kind_number, why_number, status_of_fault}
 use Rattle.dc_hold.specs.declared.status.Status.{Status}
 use Rattle.dc_hold.specs.declared.status.Status.TheVariants as statuses
-use Rattle.dc_hold.specs.declared.told.Lost.{Lost}
+use Rattle.dc_hold.specs.declared.told.Gone.{Gone}
 use Rattle.dc_hold.specs.declared.told.Told.{Told}
 
 abbrev pub nothing : Status → Told
@@ -33,10 +36,19 @@ reply_told (replies.Refused number) at = inode (statuses.Refused number) 0 0 0 a
 abbrev pub told_by : Stamped → Told
 told_by stamped = reply_told stamped.reply stamped.at
 
--- the cause of a look-up that gives up is told by its number
+-- the cause of a look-up that gives up, by its number
+abbrev pub again : Why → Told
+again why = record { status = statuses.Again; found = record { number = 0; count = 0; at = 0; kind = 0; why = why_number why } }
+
 abbrev pub tells_fast : Fast → Told
 tells_fast (fasts.Done stamped) = told_by stamped
-tells_fast (fasts.Again why) = record { status = statuses.Again; found = record { number = 0; count = 0; at = 0; kind = 0; why = why_number why } }
+tells_fast (fasts.Again why) = again why
+
+-- a link that was found, by its number and kind
+abbrev pub tells_link : FastLink → Told
+tells_link (links.Refused stamped) = told_by stamped
+tells_link (links.Link stamped) = told_by stamped
+tells_link (links.Again why) = again why
 
 abbrev pub tells_tried : Option Stamped → Told
 tells_tried (Some stamped) = told_by stamped
@@ -56,6 +68,7 @@ abbrev bit : Bool → ℕ
 bit true = 1
 bit false = 0
 
-abbrev pub tells_lost : Option Gone → Lost
-tells_lost (Some gone) = record { number = gone.number; kind = kind_number gone.kind; last = bit gone.last }
-tells_lost None = record { number = 0; kind = 0; last = 0 }
+-- what a change took away; all 0 if nothing went
+abbrev pub tells_gone : Option cache.Gone → Gone
+tells_gone (Some gone) = record { number = gone.number; kind = kind_number gone.kind; last = bit gone.last }
+tells_gone None = record { number = 0; kind = 0; last = 0 }

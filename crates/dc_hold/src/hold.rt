@@ -5,14 +5,16 @@ ghost use Rattle.std.specs.Arc.{arc_value};
 ghost use Rattle.dc_cache.specs.Answers.{Answered, Loaded, Made, Told};
 ghost use Rattle.dc_cache.specs.Calls.{look, stat, readlink, list, request_of};
 ghost use Rattle.dc_cache.specs.Losses.{TakesAway};
-ghost use Rattle.dc_cache.specs.Passes.{view, FitsSleepless, IsChange, Missed, Shrinks};
-ghost use Rattle.dc_hold.specs.Allowed.{IsFirst, IsSplit, MayFind};
+ghost use Rattle.dc_cache.specs.Passes.{view, Fits, FoundHeld, IsChange, Shrinks};
+ghost use Rattle.dc_hold.specs.Allowed.{IsFirst, IsSplit, MayFind, MayReadFast};
 ghost use Rattle.dc_hold.specs.Fitting.{fits_prop};
 ghost use Rattle.dc_hold.specs.Numbers.{status_of_sizes};
 ghost use Rattle.dc_table.specs.Changes.{NothingNew};
 
 use crate::status::Status;
-use dc_cache::{Call, ChangeFault, Fast, Follow, Gone, NoMemory, NotYet, Pass, Sleepless, Stamped};
+use dc_cache::{
+    Call, ChangeFault, Fast, FastLink, Follow, Gone, NoMemory, NotYet, Pass, Sleepless, Stamped,
+};
 use std::alloc::Global;
 use std::sync::Arc;
 use std::sync::atomic::AtomicU64;
@@ -31,10 +33,10 @@ struct Common {
 pub struct Hold {
     common: Arc<Common, Global>,
     pass: Pass,
-    ghost fits: { FitsSleepless (arc_value common).cache pass } by { fits_prop (arc_value common).cache pass },
+    ghost fits: { Fits (arc_value common).cache pass } by { fits_prop (arc_value common).cache pass },
 }
 
-// A hold may go to another thread: this is refused where its type is not `Send`.
+// A hold may go to another thread: this is refused if its type is not `Send`.
 fn sent<T: Send>(value: T) -> T
     ensures { result ≡ value }
 {
@@ -42,13 +44,13 @@ fn sent<T: Send>(value: T) -> T
 }
 
 impl Hold {
-    /// A cache with its first hold, or why there is none: `BadSize` where `Sleepless::new` says so, else
+    /// A cache with its first hold, or why there is none: `BadSize` if `Sleepless::with_buckets` says so, else
     /// `NoMemory`.
     pub fn new(alloc: Global, buckets: u64, max_inodes: u64) -> Result<Hold, Status>
         ensures first { IfOk result (λ hold. IsFirst buckets max_inodes hold.pass) }
         ensures fault { IfErr result (λ status. status ≡ status_of_sizes buckets max_inodes) }
     {
-        let (cache, pass) = match Sleepless::new(alloc, buckets, max_inodes) {
+        let (cache, pass) = match Sleepless::with_buckets(alloc, buckets, max_inodes) {
             Ok(made) => made,
             Err(fault) => return Err(Status::of_make(fault)),
         };
@@ -95,6 +97,19 @@ impl Hold {
             .look_text(&mut self.pass, base, path, follow)
     }
 
+    /// What the rows alone tell of a `readlink`, as `Sleepless::readlink_text`.
+    pub fn readlink_fast(&mut self, base: u64, path: &[u8]) -> FastLink
+        ensures told { MayReadFast base path.now self.old.pass self.new.pass result }
+    {
+        self.common.cache.readlink_text(&mut self.pass, base, path)
+    }
+
+    /// How many rows of the cache have lost their key to another.
+    #[must_use]
+    pub fn evictions(&self) -> u64 {
+        self.common.cache.counts().evictions
+    }
+
     /// Where a path leads, as `Sleepless::try_look`.
     #[must_use]
     pub fn try_look(
@@ -106,7 +121,7 @@ impl Hold {
     ) -> Option<Stamped>
         ensures answered { IfSome result
             (Answered self.old.pass self.new.pass (look base path.now follow)) }
-        ensures held { IfNone result (Missed self.old.pass self.new.pass) }
+        ensures held { IfNone result (FoundHeld self.old.pass self.new.pass) }
     {
         self.common
             .cache
@@ -117,7 +132,7 @@ impl Hold {
     #[must_use]
     pub fn try_stat(&mut self, base: u64, path: &[u8]) -> Option<Stamped>
         ensures answered { IfSome result (Answered self.old.pass self.new.pass (stat base path.now)) }
-        ensures held { IfNone result (Missed self.old.pass self.new.pass) }
+        ensures held { IfNone result (FoundHeld self.old.pass self.new.pass) }
     {
         self.common.cache.try_stat(&mut self.pass, base, path)
     }
@@ -131,7 +146,7 @@ impl Hold {
         path: &[u8],
     ) -> Option<Result<Stamped, NoMemory>>
         ensures told { IfSome result (Told self.old.pass self.new.pass (readlink base path.now)) }
-        ensures held { IfNone result (Missed self.old.pass self.new.pass) }
+        ensures held { IfNone result (FoundHeld self.old.pass self.new.pass) }
     {
         self.common
             .cache
@@ -147,7 +162,7 @@ impl Hold {
         path: &[u8],
     ) -> Option<Result<Stamped, NoMemory>>
         ensures told { IfSome result (Told self.old.pass self.new.pass (list base path.now)) }
-        ensures held { IfNone result (Missed self.old.pass self.new.pass) }
+        ensures held { IfNone result (FoundHeld self.old.pass self.new.pass) }
     {
         self.common
             .cache
@@ -163,7 +178,7 @@ impl Hold {
     ) -> Option<Result<Stamped, ChangeFault>>
         requires change { IsChange call.now }
         ensures made { IfSome result (Made self.old.pass self.new.pass (request_of call.now)) }
-        ensures held { IfNone result (Missed self.old.pass self.new.pass) }
+        ensures held { IfNone result (FoundHeld self.old.pass self.new.pass) }
     {
         self.common.cache.try_change(alloc, &mut self.pass, call)
     }
@@ -178,19 +193,19 @@ impl Hold {
         requires change { IsChange call.now }
         ensures made { IfSome result (λ r.
             TakesAway self.old.pass self.new.pass (request_of call.now) r.0 r.1) }
-        ensures held { IfNone result (Missed self.old.pass self.new.pass) }
+        ensures held { IfNone result (FoundHeld self.old.pass self.new.pass) }
     {
         self.common
             .cache
             .try_change_telling(alloc, &mut self.pass, call)
     }
 
-    /// Empties up to so many rows, as `Sleepless::try_shrink`.
+    /// Empties up to this many rows, as `Sleepless::try_shrink`.
     #[must_use]
     pub fn try_shrink(&mut self, most: u64) -> Option<u64>
         ensures nothing { NothingNew (view self.old.pass) (view self.new.pass) }
         ensures rows { IfSome result (λ emptied. Shrinks most emptied self.new.pass) }
-        ensures held { IfNone result (Missed self.old.pass self.new.pass) }
+        ensures held { IfNone result (FoundHeld self.old.pass self.new.pass) }
     {
         self.common.cache.try_shrink(&mut self.pass, most)
     }

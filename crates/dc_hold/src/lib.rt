@@ -1,4 +1,4 @@
-//! What a program in C has of a cache: one thread's hold on it, and what its calls are told in numbers.
+//! What a program in C has of a cache: one thread's hold on it, and the answers of its calls in numbers.
 //!
 //! A `Hold` is a pass with its cache, so that no pass can be given to another cache. No call of it waits:
 //! it is of a `Sleepless` cache. `told` has what an answer of the cache says to C, and `status` the one
@@ -6,13 +6,15 @@
 #![tactic(auto)]
 
 mod asked;
+mod buffer;
 mod hold;
-mod room;
 mod status;
 mod told;
 
 pub use asked::{flags_of, follow_of};
+pub use buffer::{put_names, put_text};
 pub use hold::Hold;
-pub use room::{put_names, put_text};
 pub use status::Status;
-pub use told::{Found, Lost, Told, lost_of, told_change, told_fast, told_read, told_tried};
+pub use told::{
+    Found, Gone, Told, told_change, told_fast, told_gone, told_link, told_read, told_tried,
+};

@@ -23,11 +23,11 @@ pub enum Status {
     Spent,
     /// A cache may not have these sizes.
     BadSize,
-    /// A pass is blank where an open one is wanted, or open where a blank one is, or is of another cache.
+    /// A blank pass for an open one, an open one for a blank one, or one of another cache.
     BadPass,
     /// A number that says neither how a link is followed nor how a rename may go.
     BadArgument,
-    /// The tree was not altered so often yet.
+    /// The tree has not been altered this often yet.
     NotYet,
 }
 
@@ -62,7 +62,7 @@ impl Status {
         }
     }
 
-    /// How the question ends whether so many changes were made.
+    /// How a call ends that asks whether this many changes were made.
     #[must_use]
     pub fn of_learn(has_come: bool) -> Status
         ensures { result ≡ status_of_learn has_come }

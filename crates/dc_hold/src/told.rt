@@ -1,12 +1,12 @@
-//! What a program in C is told of an answer.
+//! What an answer of the cache is in numbers, for a program in C.
 
 ghost use Rattle.std.specs.Prelude.{◌≡◌};
 ghost use Rattle.dc_hold.specs.Numbers.{kind_number, why_number};
 ghost use Rattle.dc_hold.specs.declared.status.Status.TheVariants as Status;
-ghost use Rattle.dc_hold.specs.Tells.{inode, nothing, told_by, tells_change, tells_fast, tells_lost, tells_read, tells_tried};
+ghost use Rattle.dc_hold.specs.Tells.{again, inode, nothing, told_by, tells_change, tells_fast, tells_gone, tells_link, tells_read, tells_tried};
 
 use crate::status::Status;
-use dc_cache::{ChangeFault, Fast, Gone, Kind, NoMemory, Reply, Stamped, Why};
+use dc_cache::{ChangeFault, Fast, FastLink, Kind, NoMemory, Reply, Stamped, Why};
 
 /// What was found, as C sees it; what a call does not tell is 0.
 #[repr(C)]
@@ -27,7 +27,7 @@ pub struct Found {
 /// What a change took away, as C sees it; all 0 if no name went.
 #[repr(C)]
 #[derive(Clone, Copy, Debug, PartialEq, Eq)]
-pub struct Lost {
+pub struct Gone {
     /// The number that the name led to.
     pub number: u64,
     /// The kind of that inode, as in `Found`.
@@ -133,6 +133,15 @@ fn told_stamped(stamped: &Stamped) -> Told
     }
 }
 
+/// The rows alone don't answer.
+fn told_again(why: &Why) -> Told
+    ensures { result ≡ again why.now }
+{
+    let mut told = nothing(Status::Again);
+    told.found.why = why_number(why);
+    told
+}
+
 /// What a look-up by the rows alone says.
 #[must_use]
 pub fn told_fast(fast: &Fast) -> Told
@@ -140,11 +149,19 @@ pub fn told_fast(fast: &Fast) -> Told
 {
     match fast {
         Fast::Done(stamped) => told_stamped(stamped),
-        Fast::Again(why) => {
-            let mut again = nothing(Status::Again);
-            again.found.why = why_number(why);
-            again
-        }
+        Fast::Again(why) => told_again(why),
+    }
+}
+
+/// What the rows alone say of a readlink.
+#[must_use]
+pub fn told_link(fast: &FastLink) -> Told
+    ensures { result ≡ tells_link fast.now }
+{
+    match fast {
+        FastLink::Refused(stamped) => told_stamped(stamped),
+        FastLink::Link(stamped) => told_stamped(stamped),
+        FastLink::Again(why) => told_again(why),
     }
 }
 
@@ -185,16 +202,16 @@ pub fn told_change(tried: &Option<Result<Stamped, ChangeFault>>) -> Told
 
 /// What a change took away.
 #[must_use]
-pub fn lost_of(gone: Option<Gone>) -> Lost
-    ensures { result ≡ tells_lost gone }
+pub fn told_gone(gone: Option<dc_cache::Gone>) -> Gone
+    ensures { result ≡ tells_gone gone }
 {
     match gone {
-        Some(gone) => Lost {
+        Some(gone) => Gone {
             number: gone.number,
             kind: kind_number(gone.kind),
             last: u32::from(gone.last),
         },
-        None => Lost {
+        None => Gone {
             number: 0,
             kind: 0,
             last: 0,

@@ -20,7 +20,7 @@ keys_shown keys = map key_shown keys
 abbrev pub keys_at : rust_spot.Spot → rust_spot.Spot → List Key
 keys_at from to = spot_key (spot_shown from) ∷ spot_key (spot_shown to) ∷ []
 
--- the key of its own that what is added has, where that is new
+-- the key of its own that what is added has, if that is new
 abbrev pub keys_made : ℕ → rust_new.New → List Key
 keys_made n news.Dir = own_keys n Dir
 keys_made n news.File = own_keys n File

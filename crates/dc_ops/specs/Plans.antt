@@ -84,7 +84,7 @@ SettlesIf t change listed found =
     MatchResult found (λ plan. MatchOption plan (change ≡ Ok (Nothing, t)) (IsPlanOf t change listed)) (λ refusal. change ≡ Err refusal)
 
 -- the plan of a change: its effect is the operation, the tree differs afterwards, its keys are those touched, each once,
--- and it takes no memory where the call takes none
+-- and it takes no memory if the call takes none
 pub record Plans (limit : ℕ) (t : Tree) (request : Request) (plan : rust_plan.Plan) : Type 0 where
   pub operation : operation limit t request ≡ effect plan t
   pub can : CanCarry plan t

@@ -19,7 +19,7 @@ use Rattle.dc_store.specs.Moved.{tree_moved}
 use Rattle.dc_ops.specs.Plans.{SettlesIf}
 use Rattle.dc_ops.specs.declared.plans.Plan as rust_plan
 
--- what was found at the old name gets the new one, which has to be free where nothing may be replaced
+-- what was found at the old name gets the new one, which has to be free if nothing may be replaced
 abbrev pub move_to : Tree → Spot → Spot → Target → Bool → Change
 move_to t from to moved no_replace = do
   let there = entry_of t to.dir (Entry to.name)
@@ -36,7 +36,7 @@ keys_of_move t from to = keys_renamed t from.dir from.name to.dir to.name
 abbrev pub lies_beneath : Tree → ℕ → ℕ → Bool
 lies_beneath t dir number = is_beneath (length t.inodes) t dir number
 
--- a move comes to a plan, to nothing where both names lead to one inode, or to its refusal
+-- a move comes to a plan, to nothing if both names lead to one inode, or to its refusal
 abbrev pub SettlesMove : Tree → rust_spot.Spot → rust_spot.Spot → Target → Bool → Result (Option rust_plan.Plan) Refusal → Type 0
 SettlesMove t from to moved no_replace found =
     SettlesIf t (move_to t (spot_shown from) (spot_shown to) moved no_replace) (keys_of_move t (spot_shown from) (spot_shown to)) found

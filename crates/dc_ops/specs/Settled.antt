@@ -30,7 +30,7 @@ SettlesUnlimited t request found = SettlesCall 0 t request found
 abbrev pub SettlesUnlimitedIf : Tree → Request → Result (Option rust_plan.Plan) Refusal → Type 0
 SettlesUnlimitedIf t request found = SettlesCallIf 0 t request found
 
--- where a plan was found, it takes no memory
+-- if a plan was found, it takes no memory
 abbrev pub FoundTakesNoMemory : Result (Option rust_plan.Plan) Refusal → Type 0
 FoundTakesNoMemory found = IfOk found (λ plan. IfSome plan (λ plan. PlanTakesNoMemory plan))
 

@@ -20,7 +20,7 @@ use dc_names::{Last, Name, Refusal};
 use dc_plain::{NUMBER_LIMIT, Target, Where};
 use dc_store::{Place, Store};
 
-/// This refusal where a test holds.
+/// This refusal if a test holds.
 pub(crate) fn refuse(test: bool, refusal: Refusal) -> Result<(), Refusal>
     ensures ok { OnOk result (test ≡ false) }
     ensures err { IfErr result (λ r. (test ≡ true) × (r ≡ refusal)) }

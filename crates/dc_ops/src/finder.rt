@@ -1,6 +1,6 @@
-//! A store that answers the questions of a walk.
+//! A store as a finder: it answers the questions of a walk, and never gives up.
 
-ghost use Rattle.std.specs.Prelude.{◌≡◌, ◌≤◌, false, refl, Some, option_map, IfSome, IsTrue};
+ghost use Rattle.std.specs.Prelude.{◌≡◌, ◌≤◌, refl, Some, option_map, IfSome, IsTrue};
 ghost use Rattle.dc_plain.specs.Facts.Label.{Entry, Parent};
 ghost use Rattle.dc_plain.specs.IsWellFormed.{IsWellFormed};
 ghost use Rattle.dc_plain.specs.Trees.{told_of, entry_of, target_at, names_of};
@@ -12,8 +12,9 @@ ghost use Rattle.dc_ops.specs.Same.{one_after, same_tells};
 
 use dc_names::{Kind, Name, Part};
 use dc_plain::{Target, names_lead_to_the_living};
-use dc_resolve::{Finder, Stop};
+use dc_resolve::Finder;
 use dc_store::{Place, Store};
+use std::convert::Infallible;
 
 /// Answers the questions of a walk from a store.
 pub struct StoreFinder<'a, S: Store> {
@@ -74,11 +75,14 @@ fn up<S: Store>(store: &S, dir: u64) -> Option<Target>
 impl<'a, S: Store> Finder for StoreFinder<'a, S> {
     type Text = &'a [u8];
 
+    // It has an answer to each question.
+    type Stop = Infallible;
+
     ghost said = { λ finder. told_of (S.tree finder.store.now) };
 
-    ghost has_stopped = { λ finder. false };
-
     ghost becomes = { λ f g. S.tree g.store.now ≡ S.tree f.store.now };
+
+    ghost stops = { λ f g why. ⊥ };
 
     ghost may_ask = { λ finder number label. Unit {0} };
 
@@ -86,7 +90,7 @@ impl<'a, S: Store> Finder for StoreFinder<'a, S> {
 
     ghost link_bytes = { 0 };
 
-    fn find(&mut self, dir: u64, part: Part<'_>) -> Result<Option<Target>, Stop> {
+    fn find(&mut self, dir: u64, part: Part<'_>) -> Result<Option<Target>, Infallible> {
         match part {
             Part::Normal(name) => Ok(entry(self.store, dir, name)),
             Part::DotDot => Ok(up(self.store, dir)),
@@ -95,14 +99,19 @@ impl<'a, S: Store> Finder for StoreFinder<'a, S> {
         }
     }
 
-    fn find_hashed(&mut self, dir: u64, part: Part<'_>, hash: u64) -> Result<Option<Target>, Stop> {
+    fn find_hashed(
+        &mut self,
+        dir: u64,
+        part: Part<'_>,
+        hash: u64,
+    ) -> Result<Option<Target>, Infallible> {
         match part {
             Part::Normal(name) => Ok(entry_by(self.store, dir, name, hash)),
             Part::DotDot | Part::Dot => self.find(dir, part),
         }
     }
 
-    fn link_text(&mut self, number: u64) -> Result<&'a [u8], Stop> {
+    fn link_text(&mut self, number: u64) -> Result<&'a [u8], Infallible> {
         match self.store.text(number) {
             Some(text) => Ok(text),
             // A walk asks only for a link that it was told of, and the store is the same still.
@@ -113,6 +122,8 @@ impl<'a, S: Store> Finder for StoreFinder<'a, S> {
     ghost stays = { λ f. refl };
 
     ghost goes_on = { λ f g h p q. one_after (S.tree f.store.now) (S.tree g.store.now) (S.tree h.store.now) p q };
+
+    ghost stops_later = { λ f g h why p stopped. stopped };
 
     ghost keeps = { λ f g p. same_tells (S.tree f.store.now) (S.tree g.store.now) p };
 

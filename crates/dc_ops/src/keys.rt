@@ -82,7 +82,7 @@ fn two_names<'a>(
 }
 
 impl Moved {
-    /// Its dot-dot, where it is a directory that gets another parent.
+    /// Its dot-dot, if it is a directory that gets another parent.
     fn parent_key<'a>(self) -> Option<Key<'a>>
         ensures { keys_in result ≡ keys_reparented self.number self.reparents }
     {
@@ -111,7 +111,7 @@ fn parent_key<'a>(number: u64, reparents: bool) -> Option<Key<'a>>
     Key::own(number, Kind::Dir)
 }
 
-/// The key of its own that what is added has, where that is new.
+/// The key of its own that what is added has, if that is new.
 fn made_key<'a>(number: u64, new: New<'_>) -> Option<Key<'a>>
     ensures { keys_in result ≡ keys_made number new.entry }
 {

@@ -34,19 +34,17 @@ pub(crate) fn walk_path<S: Store>(
         (end_on (S.tree store.now) base path.entry.bytes.now follow) }
 {
     let mut finder = StoreFinder { store };
-    let walked = walk(&mut finder, base, path, follow);
+    let Ok(walked) = walk(&mut finder, base, path, follow);
     // A finder has no `Drop`, so it can't be let go, but is taken apart.
     let StoreFinder { store: _ } = finder;
     match walked {
-        Walked::Found(number, kind) => Ok((number, kind)),
+        Walked::Found(target) => Ok(target),
         Walked::Refused(refusal) => Err(refusal),
-        // A store has an answer to each question, so its finder never stops.
-        Walked::Stopped => unreachable!(),
     }
 }
 
-/// Where the last part of a path is to be looked up, or the path's refusal. Where the directory is known
-/// the store isn't asked.
+/// Where the last part of a path is to be looked up, or the path's refusal. If the directory is known the
+/// store isn't asked.
 pub(crate) fn place_path<'p, S: Store>(
     store: &S,
     known: Option<Known<'_>>,
@@ -64,13 +62,11 @@ pub(crate) fn place_path<'p, S: Store>(
         return Ok(at);
     }
     let mut finder = StoreFinder { store };
-    let placed = place(&mut finder, base, path);
+    let Ok(placed) = place(&mut finder, base, path);
     // Taken apart, as it has no `Drop`.
     let StoreFinder { store: _ } = finder;
     match placed {
         Placed::At(at) => Ok(at),
         Placed::Refused(refusal) => Err(refusal),
-        // A store has an answer to each question, so its finder never stops.
-        Placed::Stopped => unreachable!(),
     }
 }

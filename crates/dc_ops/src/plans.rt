@@ -52,7 +52,7 @@ pub enum Plan<'a> {
         number: u64,
         /// Whether that is a directory whose parent becomes another.
         reparents: bool,
-        /// The key of its own that what stood at the new name has, where that was its last name.
+        /// The key of its own that what stood at the new name has, if that was its last name.
         lost: Option<Key<'a>>,
         /// Where the entry was found.
         at: Place,

@@ -1,6 +1,6 @@
 //! Calls that alter nothing.
 
-ghost use Rattle.std.specs.Prelude.{◌≡◌, ◌+◌, ◌*◌, ℕ, true, IfNone, IfOk, IfSome, OnErr, length};
+ghost use Rattle.std.specs.Prelude.{◌≡◌, ◌+◌, ◌*◌, ℕ, IfOk, OnErr, length};
 ghost use Rattle.dc_names.specs.declared.limits.TheConstants.{MOST_LINKS};
 ghost use Rattle.dc_names.specs.Refusals.{Gives};
 ghost use Rattle.dc_plain.specs.Reads.{look, stat, readlink, list_names};
@@ -11,6 +11,7 @@ ghost use Rattle.dc_plain.specs.Runs.{reply_of};
 ghost use Rattle.dc_ops.specs.Reads.{answered, IsAtLength};
 ghost use Rattle.dc_ops.specs.Settled.{DeclinesCall, RepliesBy};
 ghost use Rattle.dc_resolve.specs.Ends.{walk_by};
+ghost use Rattle.dc_resolve.specs.Finders.{KeepsAnswering};
 ghost use Rattle.dc_resolve.specs.Needs.{MayAsk};
 
 use crate::paths::{path_of, walk_path};
@@ -51,26 +52,23 @@ pub fn seek<S: Store>(store: &S, call: &Call<'_>) -> Reply
     }
 }
 
-/// Answers a `Look` by what a finder says of a tree, or `None` where the finder stopped.
-#[must_use]
+/// Answers a `Look` by what a finder says of a tree, or why the finder gave up.
 pub fn look_by<F: Finder>(
     finder: &mut F,
     base: u64,
     path: PathText<'_>,
     follow: Follow,
-) -> Option<Reply>
+) -> Result<Reply, F::Stop>
     requires may { MayAsk F.Finder finder.old (walk_by base path.bytes.now follow) }
     requires spend { F.may_spend finder.old
         (2 + length path.bytes.now + MOST_LINKS * F.link_bytes) }
-    ensures becomes { F.becomes finder.old finder.new }
-    ensures reply { IfSome result (RepliesBy (F.said finder.new) base path.entry.bytes.now follow) }
-    ensures stopped { IfNone result (F.has_stopped finder.new ≡ true) }
+    ensures reply { IfOk result (RepliesBy (F.said finder.new) base path.entry.bytes.now follow) }
+    ensures kept { KeepsAnswering F.Finder finder.old finder.new result }
 {
     alters_tells_whether_trees_differ();
-    match walk(finder, base, path, follow) {
-        Walked::Found(number, kind) => Some(Reply::Found(number, kind)),
-        Walked::Refused(refusal) => Some(Reply::Refused(refusal.number())),
-        Walked::Stopped => None,
+    match walk(finder, base, path, follow)? {
+        Walked::Found((number, kind)) => Ok(Reply::Found(number, kind)),
+        Walked::Refused(refusal) => Ok(Reply::Refused(refusal.number())),
     }
 }
 
@@ -93,7 +91,7 @@ fn stat<S: Store>(store: &S, base: u64, path: &[u8]) -> Reply
     }
 }
 
-/// Answers `Readlink` or `List`. `NoMemory` where memory for the text or the names was refused: never
+/// Answers `Readlink` or `List`. `NoMemory` if memory for the text or the names was refused: never
 /// in the place of a refusal.
 pub fn ask<S: Store>(alloc: Global, store: &S, call: &Call<'_>) -> Result<Reply, NoMemory>
     requires { IsToldAtLength call.now }

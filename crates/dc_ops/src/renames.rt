@@ -25,7 +25,7 @@ use dc_plain::{
 };
 use dc_store::{Place, Store};
 
-/// The plan of a rename, or none where both names lead to one inode.
+/// The plan of a rename, or none if both names lead to one inode.
 pub(crate) fn plan_rename<'a, S: Store>(
     store: &S,
     known: Option<Known<'_>>,
@@ -174,7 +174,7 @@ fn is_one(moved: Target, there: Option<Target>) -> bool
     }
 }
 
-/// Refuses where what stands at the new name may not be replaced.
+/// Refuses if what stands at the new name may not be replaced.
 fn check_replaceable<S: Store>(
     store: &S,
     moved: Target,
@@ -202,7 +202,7 @@ fn reparents(moved: Target, from: u64, to: u64) -> bool
     is_directory(moved) && from != to
 }
 
-/// The key of its own that goes with a last name, where something stands there.
+/// The key of its own that goes with a last name, if something stands there.
 fn lost_there<'a, S: Store>(store: &S, there: Option<Target>) -> Option<Key<'a>>
     requires lives { IfSome there (λ target.
         target_at (S.tree store.now) target.0 ≡ Some target) }

@@ -77,7 +77,7 @@ pub(crate) fn is_empty<S: Store>(store: &S, target: Target) -> bool
     store.count(target.0) == 0
 }
 
-/// The key of its own that an inode loses with an entry, where that is its last name. A file has none,
+/// The key of its own that an inode loses with an entry, if that is its last name. A file has none,
 /// so its names are not counted.
 pub(crate) fn lost_key<'a, S: Store>(store: &S, target: Target) -> Option<Key<'a>>
     requires lives { target_at (S.tree store.now) target.0 ≡ Some target }

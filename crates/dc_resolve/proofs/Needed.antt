@@ -1,5 +1,5 @@
 -- Questions that an outcome needs.
-use Rattle.std.proofs.Common.{◌≡◌, ℕ, ◌<◌, List, [], ◌∷◌, ◌++◌, ◌&&◌, ◌||◌, ◌-◌, ◌==◌, not, if◌then◌else◌, Bool, true, false, Option, Some, None, option_map, IsTrue, Result, Ok, Err, IfOk, refl, ap, sym, ◌∙◌}
+use Rattle.std.proofs.Common.{◌≡◌, ℕ, ◌<◌, List, [], ◌∷◌, ◌++◌, ◌&&◌, ◌||◌, ◌-◌, ◌==◌, not, if◌then◌else◌, Bool, true, false, Option, Some, None, option_map, IsTrue, Result, Ok, Err, IfOk, OnOk, refl, ap, sym, ◌∙◌}
 use Rattle.std.proofs.lemmas.Bool.{and_parts}
 use Rattle.std.proofs.lemmas.List.{append-nil}
 use Rattle.dc_names.specs.Bytes.{is_empty}
@@ -19,8 +19,7 @@ use Rattle.dc_resolve.specs.Ends.{resolve_by}
 use Rattle.dc_resolve.specs.Resolves.{resolve_at, ResolvesTo}
 use Rattle.dc_resolve.specs.Walks.{following, LeadsTo}
 use Rattle.dc_resolve.specs.declared.finder.Finder.{Ghosts}
-use Rattle.dc_resolve.specs.declared.finder.Stop.{Stop}
-use Rattle.dc_resolve.specs.declared.outcome.End.{End}
+use Rattle.dc_resolve.specs.declared.walked.Walked.{Walked}
 use Rattle.dc_resolve.proofs.Following.{resolve_is, unfollowed, with_told}
 use Rattle.dc_resolve.proofs.Going.{told_still}
 use Rattle.dc_resolve.proofs.Passing.{last_of, not_kept, CameTo, CameToLink}
@@ -50,13 +49,13 @@ start_still : (base : ℕ) (path : Path) {first teller : Teller} {found : Option
 start_still base path more is = start_by (path.absolute || base == 1) base (more.entry base Parent) is
 
 -- where the parts of some bytes lead from there
-pub ends_by : {first said : Teller} (how : Follow) (base : ℕ) (text bytes : List ℕ) (slash : Bool) {place : Target} (result : Result End Stop) → Extends first said → start first base (path_in text) ≡ Some (Some place)
+pub ends_by : {S : Type 0} {first said : Teller} (on : Type 0) (how : Follow) (base : ℕ) (text bytes : List ℕ) (slash : Bool) {place : Target} (result : Result Walked S) → (on → Extends first said) → OnOk result on → start first base (path_in text) ≡ Some (Some place)
     → IfOk result (LeadsTo said how MOST_LINKS place (parts_of bytes) slash) → IfOk result (ResolvesTo said base text bytes slash how)
-ends_by how base text bytes slash (Err e) keeps is leads = tt
-ends_by how base text bytes slash (Ok end) keeps is leads = λ teller told.
-    ap (λ o. with_start o (λ at. resolve teller how MOST_LINKS at (parts_of bytes) slash)) (start_still base (path_in text) (told_still keeps told) is) ∙ leads.ends teller told
+ends_by on how base text bytes slash (Err e) keeps went is leads = tt
+ends_by on how base text bytes slash (Ok end) keeps went is leads = λ teller told.
+    ap (λ o. with_start o (λ at. resolve teller how MOST_LINKS at (parts_of bytes) slash)) (start_still base (path_in text) (told_still (keeps went) told) is) ∙ leads.ends teller told
 
-module _ {F T : Type 0} (g : Ghosts F T) where
+module _ {F T S : Type 0} (g : Ghosts F T S) where
   -- what has no outcome without another
   pub needed_by : {A B : Type 0} {finder : F} {outcome : Teller → Option A} {first : Teller → Option B}
       → ((teller : Teller) → first teller ≡ None → outcome teller ≡ None) → MayAsk g finder outcome → MayAsk g finder first

@@ -1,5 +1,5 @@
 -- Walks over bytes, whatever is left below them.
-use Rattle.std.proofs.Common.{◌≡◌, ℕ, ◌<◌, ◌-◌, List, [], ◌∷◌, ◌++◌, ◌&&◌, ◌||◌, Bool, true, false, not, Option, Some, None, Result, Ok, Err, IfOk, length, if◌then◌else◌, refl, ap, sym, subst, ◌∙◌, arith, rules}
+use Rattle.std.proofs.Common.{◌≡◌, ℕ, ◌<◌, ◌-◌, List, [], ◌∷◌, ◌++◌, ◌&&◌, ◌||◌, Bool, true, false, not, Option, Some, None, Result, Ok, Err, IfOk, OnOk, length, if◌then◌else◌, refl, ap, sym, subst, ◌∙◌, arith, rules}
 use Rattle.std.proofs.lemmas.Bool.Decides.{nat_tests}
 use Rattle.std.proofs.lemmas.List.{append-nil}
 use Rattle.std.specs.Borrow.{Bor}
@@ -11,20 +11,21 @@ use Rattle.dc_plain.specs.Resolution.{Met, Outcome, ending, keeps_link, over_par
 use Rattle.dc_plain.specs.Resolution.Met.{Goes, Stops, Meets}
 use Rattle.dc_plain.specs.Resolution.Outcome.{Found}
 use Rattle.dc_plain.specs.Tellers.{Extends}
-use Rattle.dc_resolve.specs.Steps.{end_shown, met_shown, IsTakenFrom, TakesFirst}
+use Rattle.dc_resolve.specs.Ends.{outcome_shown}
+use Rattle.dc_resolve.specs.Steps.{met_shown, IsTakenFrom, TakesFirst}
 use Rattle.dc_resolve.specs.Walks.{at_link, following, outcome_after, IfThrough, LeadsOver, LeadsThrough, LeadsTo}
 use Rattle.dc_resolve.specs.declared.outcome.Reached.{Reached}
 use Rattle.dc_resolve.specs.declared.outcome.Way.{Way}
 use Rattle.dc_resolve.specs.declared.outcome.Way.TheVariants.{Ended, Through}
-use Rattle.dc_resolve.specs.declared.outcome.End.{End}
-use Rattle.dc_resolve.specs.declared.outcome.End.TheVariants as ends
+use Rattle.dc_resolve.specs.declared.walked.Walked.{Walked}
+use Rattle.dc_resolve.specs.declared.walked.Walked.TheVariants as ends
 use Rattle.dc_names.specs.declared.kind.Kind.TheVariants.{Link}
 use Rattle.dc_names.specs.declared.refusal.Refusal.{Refusal}
 use Rattle.dc_names.specs.declared.refusal.Refusal.TheVariants.{TooManyLinks}
 use Rattle.dc_resolve.proofs.Following.{resolve_is, too_many, with_told}
 use Rattle.dc_resolve.proofs.Going.{told_still}
 
--- none is left where none is left of the bytes, nor below
+-- none is left if none is left of the bytes, nor below
 pub last_of : (xs below : List Part) (is_last : Bool) → is_empty below ≡ is_last → is_empty (xs ++ below) ≡ (is_last && is_empty xs)
 last_of [] below true e = e
 last_of [] below false e = e
@@ -48,7 +49,7 @@ over_first {teller = teller} how slash {place = place} {bytes = bytes} {after = 
     ∙ (λ i. with_met ((from.taken.leads teller more ∙ ap Some is) i) (λ next. sym (resolve_is teller how links next rest slash) i) (λ link. if is_empty rest && not slash && keeps_link how then Some (Found link) else following teller how links place link.0 rest slash))
 
 module _ (how : Follow) (slash is_last : Bool) (links : ℕ) (start : Target) (bytes : List ℕ) where
-  -- a walk came to a place, with so many links to follow and these bytes left
+  -- a walk came to a place, with this many links to follow and these bytes left
   pub record CameTo (said : Teller) (left : ℕ) (place : Target) (rest : List ℕ) : Type 0 where
     pub above : (teller : Teller) → Extends said teller → (below : List Part) → is_empty below ≡ is_last
         → resolve teller how links start (parts_of bytes ++ below) slash ≡ resolve teller how left place (parts_of rest ++ below) slash
@@ -58,7 +59,7 @@ module _ (how : Follow) (slash is_last : Bool) (links : ℕ) (start : Target) (b
     pub above : (teller : Teller) → Extends said teller → (below : List Part) → is_empty below ≡ is_last
         → resolve teller how links start (parts_of bytes ++ below) slash ≡ at_link teller how left at link (parts_of rest ++ below) slash
 
--- no part is left where none was taken
+-- no part is left if none was taken
 pub none_first : (said : Teller) (place : Target) (bytes : List ℕ) {met : Option (Reached × Bor (List ℕ))} → TakesFirst said place bytes met → met ≡ None → parts_of bytes ≡ []
 none_first said place bytes takes is = subst (TakesFirst said place bytes) is takes
 
@@ -92,7 +93,7 @@ module _ {how : Follow} {slash is_last : Bool} {links : ℕ} {start : Target} {b
 
   -- and on from a link, by where it leads
   module _ {at : Target} {link : ℕ} {at_end : Bool} {way : Way} where
-    pub ended_at_link : {end : End} → CameToLink how slash is_last links start bytes said left at link rest → Extends said later → at_end ≡ (is_last && is_empty (parts_of rest))
+    pub ended_at_link : {end : Walked} → CameToLink how slash is_last links start bytes said left at link rest → Extends said later → at_end ≡ (is_last && is_empty (parts_of rest))
         → LeadsThrough later how left slash at link at_end way → way ≡ Ended end → LeadsOver later how links slash start bytes is_last (Ended end)
     ended_at_link came keeps last leads is = record {
       above = λ teller told below e. came.above teller (told_still keeps told) below e
@@ -126,7 +127,7 @@ refused_at_link {how = how} {links = links} {slash = slash} {at = at} {link = li
   above = λ teller told below e. not_kept teller how links at link below slash e follows ∙ too_many teller how links at link below slash none;
 }
 
--- a slash that ends a text ends the path where nothing is left below, and else the walk goes on as before
+-- a slash that ends a text ends the path if nothing is left below, and else the walk goes on as before
 slash_below : (way : Way) (slash is_last ends_so : Bool) (go : Target → ℕ → Bool → Option Outcome) (P : ℕ → Type 0) → IfThrough way (λ left. (is_last ≡ false) × P left)
     → outcome_after way (λ next left. go next left (slash || is_last && ends_so)) ≡ outcome_after way (λ next left. go next left slash)
 slash_below (Ended end) slash is_last ends_so go P middle = refl
@@ -136,10 +137,10 @@ slash_below (Through next left) slash is_last ends_so go P middle = ap (go next 
     or_not true = refl
     or_not false = refl
 
--- both of a result
-pub if_ok_both : {A E : Type 0} (result : Result A E) (P Q R : A → Type 0) → ((x : A) → P x → Q x → R x) → IfOk result P → IfOk result Q → IfOk result R
-if_ok_both (Ok x) P Q R follows p q = follows x p q
-if_ok_both (Err e) P Q R follows p q = tt
+-- all of a result
+pub if_ok_all : {A E : Type 0} (result : Result A E) (on : Type 0) (P Q R : A → Type 0) → (on → (x : A) → P x → Q x → R x) → OnOk result on → IfOk result P → IfOk result Q → IfOk result R
+if_ok_all (Ok x) on P Q R follows is p q = follows is x p q
+if_ok_all (Err e) on P Q R follows is p q = tt
 
 -- the text of a link leads where the link does
 pub over_text : {said : Teller} {how : Follow} {links : ℕ} {slash : Bool} {at base : Target} {link : ℕ} {is_last : Bool} {text bytes : List ℕ} {ends : Bool} {way : Way} (P : ℕ → Type 0)
@@ -156,7 +157,7 @@ over_text {how = how} {links = links} {slash = slash} {at = at} {link = link} {i
 }
 
 -- nothing is below
-pub leads_alone : {said : Teller} {how : Follow} {links : ℕ} {slash : Bool} {place : Target} {bytes : List ℕ} {way : Way} {end : End}
+pub leads_alone : {said : Teller} {how : Follow} {links : ℕ} {slash : Bool} {place : Target} {bytes : List ℕ} {way : Way} {end : Walked}
     → LeadsOver said how links slash place bytes true way → way ≡ Ended end → LeadsTo said how links place (parts_of bytes) slash end
 leads_alone {how = how} {links = links} {slash = slash} {place = place} {bytes = bytes} leads is = record {
   ends = λ teller told. ap (λ parts. resolve teller how links place parts slash) (sym (append-nil (parts_of bytes)))
@@ -169,7 +170,7 @@ none_in (part ∷ below) e = let none : length (part ∷ below) ≡ 0 = grind (a
 
 module _ (said : Teller) (how : Follow) (links : ℕ) (slash is_last : Bool) (place : Target) where
   -- nothing is left, nor below
-  pub ends_here : (end : End) → is_last ≡ true → end_shown end ≡ ending how place slash → LeadsOver said how links slash place [] is_last (Ended end)
+  pub ends_here : (end : Walked) → is_last ≡ true → outcome_shown end ≡ ending how place slash → LeadsOver said how links slash place [] is_last (Ended end)
   ends_here end last is = record {
     above = λ teller told below e. resolve_is teller how links place below slash
         ∙ ap (λ parts. over_parts teller how (following teller how links) place parts slash) (none_in below (e ∙ last)) ∙ ap Some (sym is);

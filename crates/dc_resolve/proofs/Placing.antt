@@ -8,8 +8,8 @@ use Rattle.dc_plain.specs.Facts.{Target, Teller}
 use Rattle.dc_plain.specs.Places.{place, placed_by, start, with_start}
 use Rattle.dc_plain.specs.Resolution.{Outcome, resolve}
 use Rattle.dc_resolve.specs.Fronts.{Begins, IsPlaceIn, LeadsToFront}
-use Rattle.dc_resolve.specs.Steps.{end_shown}
-use Rattle.dc_resolve.specs.declared.outcome.End.{End}
+use Rattle.dc_resolve.specs.Ends.{outcome_shown}
+use Rattle.dc_resolve.specs.declared.walked.Walked.{Walked}
 use Rattle.dc_resolve.proofs.Fronts.{begins_so, front_of, last_of}
 use Rattle.dc_resolve.proofs.Slashes.{resolve_same}
 
@@ -23,11 +23,11 @@ place_is teller base text front last same split found =
     (λ i. placed_by (at_last i) (has_end_slash text) (with_start (start teller base (path_in text)) (λ at. resolve teller follow.Dir MOST_LINKS at (before i) false)))
     ∙ ap (placed_by (Some last) (has_end_slash text)) found
 
--- where the front leads to an end that was met
-pub place_met : (teller : Teller) (base : ℕ) (text front : List ℕ) (last : Part) {bytes : List ℕ} {found met : End} → bytes ≡ text → parts_of bytes ≡ parts_of front ++ last ∷ []
-    → with_start (start teller base (path_in text)) (λ at. resolve teller follow.Dir MOST_LINKS at (parts_of front) false) ≡ Some (end_shown found) → found ≡ met
-    → place teller base (path_in text) ≡ placed_by (Some last) (has_end_slash text) (Some (end_shown met))
-place_met teller base text front last same split found is = place_is teller base text front last same split (found ∙ ap (λ e. Some (end_shown e)) is)
+-- if the front leads to an end that was met
+pub place_met : (teller : Teller) (base : ℕ) (text front : List ℕ) (last : Part) {bytes : List ℕ} {found met : Walked} → bytes ≡ text → parts_of bytes ≡ parts_of front ++ last ∷ []
+    → with_start (start teller base (path_in text)) (λ at. resolve teller follow.Dir MOST_LINKS at (parts_of front) false) ≡ Some (outcome_shown found) → found ≡ met
+    → place teller base (path_in text) ≡ placed_by (Some last) (has_end_slash text) (Some (outcome_shown met))
+place_met teller base text front last same split found is = place_is teller base text front last same split (found ∙ ap (λ e. Some (outcome_shown e)) is)
 
 with_start_same : (at : Option (Option Target)) {g h : Target → Option Outcome} → ((x : Target) → g x ≡ h x) → with_start at g ≡ with_start at h
 with_start_same None e = refl

@@ -9,7 +9,6 @@ use Rattle.dc_names.specs.Paths.{Part, bytes_of, part_of, parts_of}
 use Rattle.dc_names.specs.Paths.Part.{Name, Dot, DotDot}
 use Rattle.dc_resolve.specs.Spends.{names_bytes, way_bytes, LeavesLinks, MaySpend, Spends}
 use Rattle.dc_resolve.specs.declared.finder.Finder.{Ghosts}
-use Rattle.dc_resolve.specs.declared.finder.Stop.{Stop}
 use Rattle.dc_resolve.specs.declared.outcome.Way.{Way}
 use Rattle.dc_resolve.specs.declared.outcome.Way.TheVariants.{Ended, Through}
 
@@ -71,7 +70,7 @@ link_more (suc links) n some =
     let same : suc links - 1 ≡ links = omega arith in
     rw same (omega (arith, suc-mul links n))
 
-module _ {F T : Type 0} (g : Ghosts F T) where
+module _ {F T S : Type 0} (g : Ghosts F T S) where
   may_same : {f : F} {n m : ℕ} → n ≡ m → g.may_spend f n → g.may_spend f m
   may_same {f} e may = subst (g.may_spend f) e may
 
@@ -121,7 +120,7 @@ module _ {F T : Type 0} (g : Ghosts F T) where
     pub may_over : MaySpend g old (links * g.link_bytes) → MaySpend g told (way_bytes g bytes (links - 1))
     may_over may = may_left (links * g.link_bytes) (way_bytes g bytes (links - 1)) spends_link may
 
-    pub over_link : (new : F) (result : Result Way Stop) → IfOk result (LeavesLinks g told new (way_bytes g bytes (links - 1))) → IfOk result (LeavesLinks g old new (links * g.link_bytes))
+    pub over_link : (new : F) {E : Type 0} (result : Result Way E) → IfOk result (LeavesLinks g told new (way_bytes g bytes (links - 1))) → IfOk result (LeavesLinks g old new (links * g.link_bytes))
     over_link new (Err e) leaves = tt
     over_link new (Ok (Ended end)) leaves = tt
     over_link new (Ok (Through next left)) leaves = spends_on (links * g.link_bytes) (way_bytes g bytes (links - 1)) (left * g.link_bytes) spends_link leaves

@@ -29,12 +29,12 @@ asks place part = is_directory place && is_asked place.0 part
 abbrev pub MayAskFirst : (ℕ → Label → Type 0) → Target → List Part → Type 0
 MayAskFirst may place parts = (part : Part) (rest : List Part) → parts ≡ part ∷ rest → IsTrue (asks place part) → may place.0 (label_of part)
 
-module _ {F T : Type 0} (g : Ghosts F T) (finder : F) where
+module _ {F T S : Type 0} (g : Ghosts F T S) (finder : F) where
   -- what an outcome needs may be asked, whatever has been asked before
   abbrev pub MayAsk : {A : Type 0} → (Teller → Option A) → Type 0
   MayAsk outcome = (f : F) → g.becomes finder f → (n : ℕ) (label : Label) → IsNeeded outcome (g.said f) n label → g.may_ask f n label
 
-  -- what the resolution of some bytes needs may be asked, with so many links to follow, above something that is nothing or not
+  -- what the resolution of some bytes needs may be asked, with this many links to follow, above something that is nothing or not
   abbrev pub MayAskOver : Follow → ℕ → Bool → Target → List ℕ → Bool → Type 0
   MayAskOver how links slash place bytes is_last = (below : List Part) × (is_empty below ≡ is_last) × MayAsk (λ teller. resolve teller how links place (parts_of bytes ++ below) slash)
 

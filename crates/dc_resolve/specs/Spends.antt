@@ -17,19 +17,19 @@ abbrev pub met_bytes : Option (Reached × Bor (List ℕ)) → ℕ
 met_bytes None = 0
 met_bytes (Some met) = names_bytes (parts_of met.1.now)
 
-module _ {F T : Type 0} (g : Ghosts F T) where
-  -- the bytes of a text's parts, and of so many links
+module _ {F T S : Type 0} (g : Ghosts F T S) where
+  -- the bytes of a text's parts, and of this many links
   abbrev pub way_bytes : List ℕ → ℕ → ℕ
   way_bytes text links = names_bytes (parts_of text) + links * g.link_bytes
 
-  -- a finder may be asked for so many bytes
+  -- a finder may be asked for this many bytes
   abbrev pub MaySpend : F → ℕ → Type 0
   MaySpend finder bytes = (more : ℕ) × g.may_spend finder (bytes + more)
 
-  -- of so many bytes so many are left, beside whatever else it may be asked for
+  -- of this many bytes this many are left, beside whatever else it may be asked for
   abbrev pub Spends : F → F → ℕ → ℕ → Type 0
   Spends old new bytes left = (more : ℕ) → g.may_spend old (bytes + more) → g.may_spend new (left + more)
 
-  -- of so many bytes those of the links are left that may still be followed, where something is to follow
+  -- of this many bytes those of the links are left that may still be followed, if something is to follow
   abbrev pub LeavesLinks : F → F → ℕ → Way → Type 0
   LeavesLinks old new bytes way = IfThrough way (λ left. Spends old new bytes (left * g.link_bytes))

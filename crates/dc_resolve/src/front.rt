@@ -14,7 +14,7 @@ pub fn before_last_part(text: &[u8]) -> &[u8] {
     before_last(before_slashes(text))
 }
 
-/// The bytes before the last component, and that component, or `None` where slashes alone are left.
+/// The bytes before the last component, and that component, or `None` if slashes alone are left.
 pub(crate) fn split_last(bytes: &[u8]) -> Option<(&[u8], Part<'_>)>
     requires { IsTrue (has_parts bytes.now) }
     ensures last { IfSome result (λ r. parts_of bytes.now ≡ parts_of r.0.now ++ part_shown r.1 ∷ []) }

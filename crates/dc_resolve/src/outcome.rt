@@ -1,17 +1,12 @@
-//! What a resolution comes to, step by step and at its end.
+//! What a resolution comes to, step by step.
 
+use crate::Walked;
 use dc_names::Refusal;
 use dc_plain::Target;
 
-/// Where a resolution ends.
-pub(crate) enum End {
-    Found(Target),
-    Refused(Refusal),
-}
-
 /// Where a walk over some bytes comes to.
 pub(crate) enum Way {
-    Ended(End),
+    Ended(Walked),
     /// The place after the last of them, and how many links may be followed from there.
     Through(Target, u64),
 }

@@ -9,9 +9,9 @@ ghost use Rattle.dc_resolve.specs.Needs.{MayAskFirst};
 ghost use Rattle.dc_resolve.specs.Spends.{met_bytes, names_bytes, MaySpend, Spends};
 ghost use Rattle.dc_resolve.specs.Steps.{TakesFirst};
 
+use crate::Finder;
 use crate::outcome::Reached;
 use crate::step::step_on;
-use crate::{Finder, Stop};
 use dc_names::first_part_hashed;
 use dc_plain::Target;
 
@@ -46,7 +46,7 @@ pub(crate) fn ask_first<'b, F: Finder>(
     finder: &mut F,
     place: Target,
     bytes: &'b [u8],
-) -> Result<Option<(Reached, &'b [u8])>, Stop>
+) -> Result<Option<(Reached, &'b [u8])>, F::Stop>
     requires valid { IsTrue (has_parts bytes.now) }
     requires may { MayAskFirst (F.may_ask finder.old) place (parts_of bytes.now) }
     requires spend { MaySpend F.Finder finder.old (names_bytes (parts_of bytes.now)) }

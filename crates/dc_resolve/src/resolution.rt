@@ -15,10 +15,10 @@ ghost use Rattle.dc_resolve.specs.Resolves.{resolve_at, ResolvesTo};
 ghost use Rattle.dc_resolve.specs.Spends.{way_bytes, LeavesLinks, MaySpend, Spends};
 ghost use Rattle.dc_resolve.specs.Walks.{IfThrough, LeadsOver, LeadsThrough, LeadsTo};
 
-use crate::outcome::{End, Reached, Way};
+use crate::outcome::{Reached, Way};
 use crate::parts::{ask_first, is_end};
 use crate::step::{ending, is_kept};
-use crate::{Bytes, Finder, Stop};
+use crate::{Bytes, Finder, Walked};
 use dc_names::{Kind, MOST_LINKS, Part, PathText, Refusal};
 use dc_plain::{Follow, ROOT, Target};
 
@@ -66,7 +66,7 @@ fn walk_bytes<F: Finder>(
     slash: bool,
     follow: Follow,
     links: u64,
-) -> Result<Way, Stop>
+) -> Result<Way, F::Stop>
     requires valid { IsTrue (has_parts bytes.now) }
     requires may { MayAskOver F.Finder finder.old follow links slash start bytes.now is_last }
     requires spend { MaySpend F.Finder finder.old (way_bytes F.Finder bytes.now links) }
@@ -89,7 +89,7 @@ fn walk_bytes<F: Finder>(
         match reached {
             Reached::Dir(number) => place = (number, Kind::Dir),
             Reached::File(number) => place = (number, Kind::File),
-            Reached::Stops(refusal) => return Ok(Way::Ended(End::Refused(refusal))),
+            Reached::Stops(refusal) => return Ok(Way::Ended(Walked::Refused(refusal))),
             Reached::Meets(link) => {
                 // Only at a link does it matter whether it is the last, so only here it is looked for.
                 let is_last = is_end(rest, is_last);
@@ -122,7 +122,7 @@ fn walk_link<F: Finder>(
     slash: bool,
     follow: Follow,
     links: u64,
-) -> Result<Way, Stop>
+) -> Result<Way, F::Stop>
     requires link { IsSaidLink (F.said finder.old) link }
     requires may { MayAskThrough F.Finder finder.old follow links slash at link is_last }
     requires spend { MaySpend F.Finder finder.old (links * F.link_bytes) }
@@ -134,10 +134,10 @@ fn walk_link<F: Finder>(
     ensures kept { KeepsAnswering F.Finder finder.old finder.new result }
 {
     if is_kept(follow, is_last, slash) {
-        return Ok(Way::Ended(End::Found((link, Kind::Link))));
+        return Ok(Way::Ended(Walked::Found((link, Kind::Link))));
     }
     if links == 0 {
-        return Ok(Way::Ended(End::Refused(Refusal::TooManyLinks)));
+        return Ok(Way::Ended(Walked::Refused(Refusal::TooManyLinks)));
     }
     let text = finder.link_text(link)?;
     let path = PathText::known(text.bytes());
@@ -155,7 +155,7 @@ fn resolve<F: Finder>(
     parts: &[u8],
     slash: bool,
     follow: Follow,
-) -> Result<End, Stop>
+) -> Result<Walked, F::Stop>
     requires valid { IsTrue (has_parts parts.now) }
     requires may { MayAsk F.Finder finder.old (resolve_at follow place parts.now slash) }
     requires spend { MaySpend F.Finder finder.old (way_bytes F.Finder parts.now MOST_LINKS) }
@@ -173,7 +173,11 @@ fn resolve<F: Finder>(
 /// Where a path begins, if its starting directory is live.
 // Inlined: it has one caller, and mostly tests one byte.
 #[inline(always)]
-fn start<F: Finder>(finder: &mut F, base: u64, path: PathText<'_>) -> Result<Option<Target>, Stop>
+fn start<F: Finder>(
+    finder: &mut F,
+    base: u64,
+    path: PathText<'_>,
+) -> Result<Option<Target>, F::Stop>
     requires may { (begins_with_slash path.bytes.now || base == 1) ≡ false →
         F.may_ask finder.old base Parent }
     requires spend { MaySpend F.Finder finder.old 2 }
@@ -201,7 +205,7 @@ pub(crate) fn resolve_from<F: Finder>(
     parts: &[u8],
     slash: bool,
     follow: Follow,
-) -> Result<End, Stop>
+) -> Result<Walked, F::Stop>
     requires valid { IsTrue (has_parts parts.now) }
     requires may { MayAsk F.Finder finder.old
         (resolve_by base path.bytes.now parts.now slash follow) }
@@ -212,6 +216,6 @@ pub(crate) fn resolve_from<F: Finder>(
 {
     match start(finder, base, path)? {
         Some(place) => resolve(finder, place, parts, slash, follow),
-        None => Ok(End::Refused(Refusal::NotFound)),
+        None => Ok(Walked::Refused(Refusal::NotFound)),
     }
 }

@@ -7,13 +7,14 @@ ghost use Rattle.dc_names.specs.Paths.{bytes_of};
 ghost use Rattle.dc_names.specs.declared.kind.Kind.TheVariants.{Link};
 ghost use Rattle.dc_plain.specs.Resolution.{ending, keeps_link, met_by};
 ghost use Rattle.dc_resolve.specs.Asked.{label_of};
+ghost use Rattle.dc_resolve.specs.Ends.{outcome_shown};
 ghost use Rattle.dc_resolve.specs.Finders.{KeepsAnswering};
 ghost use Rattle.dc_resolve.specs.Needs.{asks};
 ghost use Rattle.dc_resolve.specs.Spends.{MaySpend, Spends};
-ghost use Rattle.dc_resolve.specs.Steps.{met_shown, end_shown, Leads, IfMeets, IsSaidMet};
+ghost use Rattle.dc_resolve.specs.Steps.{met_shown, Leads, IfMeets, IsSaidMet};
 
-use crate::outcome::{End, Reached};
-use crate::{Finder, Stop};
+use crate::outcome::Reached;
+use crate::{Finder, Walked};
 use dc_names::{Kind, Part, Refusal};
 use dc_plain::{Follow, ROOT, Target, is_directory};
 
@@ -40,7 +41,7 @@ pub(crate) fn step_on<F: Finder>(
     place: Target,
     part: Part<'_>,
     hash: u64,
-) -> Result<Reached, Stop>
+) -> Result<Reached, F::Stop>
     requires hash { hash ≡ hash_of place.0 (bytes_of (part_shown part)) }
     requires may { IsTrue (asks place (part_shown part)) →
         F.may_ask finder.old place.0 (label_of (part_shown part)) }
@@ -64,13 +65,13 @@ pub(crate) fn step_on<F: Finder>(
 }
 
 /// Where a resolution ends that has no part left. The slow machine of `dc_plain` has its own.
-pub(crate) fn ending(follow: Follow, place: Target, slash: bool) -> End
-    ensures { end_shown result ≡ ending follow place slash }
+pub(crate) fn ending(follow: Follow, place: Target, slash: bool) -> Walked
+    ensures { outcome_shown result ≡ ending follow place slash }
 {
     if (slash || follow == Follow::Dir) && !is_directory(place) {
-        End::Refused(Refusal::NotDirectory)
+        Walked::Refused(Refusal::NotDirectory)
     } else {
-        End::Found(place)
+        Walked::Found(place)
     }
 }
 

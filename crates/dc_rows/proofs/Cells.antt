@@ -28,7 +28,7 @@ from_length : (words : List ℕ) (k n : ℕ) → length (words_from words k n) �
 from_length words k zero = refl
 from_length words k (suc n) = ap suc (from_length words (suc k) n)
 
--- whoever has the words of a spelled row after its count spells the same
+-- a row that has the words of a spelled one after its count spells the same
 pub spells_too : (words own : List ℕ) (row : ℕ) (fact : Option Fact) → Spells own fact → ((i : ℕ) → 0 < i → i < ROW_WORDS → cell words row i ≡ get_or own i 0) → Spells (row_words words row) fact
 spells_too words own row fact s same = record {
   size = from_length words (base_of row) ROW_WORDS;

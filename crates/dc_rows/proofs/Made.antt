@@ -17,7 +17,7 @@ use Rattle.dc_rows.proofs.Altering.{after_all-snoc}
 use Rattle.dc_rows.proofs.SameRows.{same_row}
 use Rattle.dc_rows.proofs.Turning.{all_keyed}
 
--- no row changes where no key is touched
+-- no row changes if no key is touched
 pub rows_stay : (R : RowState → RowState → ℕ → Key → Type 0) (K : Key → Type 0) (s t : RowState) → Agree s.slots s.used → t ≡ s → ((key : Key) → K key → ⊥) → Turns R K s t
 rows_stay R K s t agree same none = subst (λ (z : RowState). Turns R K s z) (sym same) record {
   others = λ row out. same_row s row;

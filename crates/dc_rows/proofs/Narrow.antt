@@ -98,7 +98,7 @@ pub has_raised : (words ws : List ℕ) (row x end : ℕ) (own : List ℕ) → ws
 has_raised words ws row x end own is h = subst (λ (z : List ℕ). HasFrom end z row own) (sym is)
     record { few = h.few; same = λ i some past few. get_or-set_other words (base_of row) (base_of row + i) x 0 (λ e. omega arith) ∙ h.same i some past few }
 
--- where the row and the words are zero they are the same
+-- if the row and the words are zero they are the same
 pub has_zeros : (table : List ℕ) (row : ℕ) (own : List ℕ) (end : ℕ) → end ≤ ROW_WORDS → ZeroFrom end (row_words table row) → ZeroFrom end own → HasFrom end table row own
 has_zeros table row own end few z w = record { few = few; same = λ i some past lt. sym (at_cell table row i lt) ∙ (z.zeros i some past lt ∙ sym (w.zeros i some past lt)) }
 

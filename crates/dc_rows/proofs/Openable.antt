@@ -11,7 +11,7 @@ use Rattle.dc_rows.specs.Rows.{Writing}
 use Rattle.dc_rows.proofs.Cells.{spells_too}
 use Rattle.dc_rows.proofs.Stages.{tree_same}
 
--- where the words that were written may stand, the row's words may
+-- if the words that were written may stand, the row's words may
 pub written_stands : (t : Tree) (before after : List ℕ) (row : ℕ) (words : List ℕ) (i : ℕ) → Writing before after row words i → ROW_WORDS ≤ i → MayStand t before row words → MayStand t after row (row_words after row)
 written_stands t before after row words i w whole m = record {
   fact = m.fact;
@@ -20,7 +20,7 @@ written_stands t before after row words i w whole m = record {
   last = λ e. m.last (ap (λ n. n + 1) (sym w.count) ∙ e);
 }
 
--- and then who has only written can open it
+-- and then a holder that has only written can open it
 pub can_open : (p q : Pass) → OnlyWrites p q → (row : ℕ) (words : List ℕ) (i : ℕ) → Writing (words_of p) (words_of q) row words i → ROW_WORDS ≤ i → CanWrite (view p) row → count (words_of p) row < most
     → MayStand (tree_now p) (words_of p) row words → CanOpen (share q).limit (view q) row
 can_open p q only row words i w whole odd low m = let n = w.count in record {

@@ -17,7 +17,7 @@ use Rattle.dc_shrink.specs.Uses.{KeepsUse, SetsUse}
 use Rattle.dc_events.specs.Rows.{row_words}
 use Rattle.dc_table.specs.RowStates.{RowState}
 use Rattle.dc_rows.specs.Filling.{Emptied}
-use Rattle.dc_rows.specs.RowChanges.{SameRow, KeepsWords, OnlyRow, IsEmpty, UnpinsRow, UnpinsAll, IsChosen, HasGot, MayFill, Gets, IsFilled, PinsAnswered}
+use Rattle.dc_rows.specs.RowChanges.{SameRow, KeepsWords, OnlyRow, IsEmpty, UnpinsRow, UnpinsAll, IsChosen, HasGot, MayFill, Gets, IsFilled, PinsAnswered, SamePins}
 use Rattle.dc_rows.proofs.Lists.{filter_past, without_twice, without_first, pins_dropped, pins_dropped_here, pins_with, pins_with_here}
 use Rattle.dc_rows.proofs.SameRows.{same_row, same_then, empty_still, empties_row, row_dropped}
 
@@ -81,7 +81,7 @@ module _ (s t : RowState) (row : ℕ) where
     only = x.only;
   }
 
--- the first so many of the rows have lost a pin each
+-- the first n of the rows have lost a pin each
 pub record UnpinsFirst (n : ℕ) (rows : List ℕ) (s t : RowState) : Type 0 where
   pub pins : (row : ℕ) → pins_of t.used row ≡ pins_of s.used row - count_by (nat_eq row) (take n rows)
   pub own : (row : ℕ) → KeepsWords s t row ⊎ (IsEmpty t row × (0 < pins_of s.used row))
@@ -178,8 +178,17 @@ none_came key s t m r = elim (cases_eq r m.row) [
   | inr ne ↦ (m.only.others r ne).pins
 ]
 
--- which pins have come where a key gets a row
+-- which pins have come when a key gets a row
 pub gets_pins : (key : Key) (s t : RowState) (result : Result (Option ℕ) NoMemory) → Gets key 1 s t result → PinsAnswered s t result
 gets_pins key s t (Ok (Some row)) got = record { one = got.pins; others = λ r ne. (got.only.others r ne).pins }
 gets_pins key s t (Ok None) got = none_came key s t got
 gets_pins key s t (Err fault) got = none_came key s t got
+
+-- no pin has come or gone when a key gets a row and no pin
+pub gets_no_pin : (key : Key) (s t : RowState) (result : Result (Option ℕ) NoMemory) → Gets key 0 s t result → SamePins s t
+gets_no_pin key s t (Ok (Some row)) got = λ r. elim (cases_eq r row) [
+  | inl same ↦ subst (λ (k : ℕ). pins_of t.used k ≡ pins_of s.used k) (sym same) (let p = got.pins in omega arith)
+  | inr ne ↦ (got.only.others r ne).pins
+]
+gets_no_pin key s t (Ok None) got = none_came key s t got
+gets_no_pin key s t (Err fault) got = none_came key s t got

@@ -15,7 +15,7 @@ use Rattle.dc_rows.proofs.Slots.{held_two, unheld}
 use Rattle.dc_rows.proofs.Lists.{all_pass, all_but, filter_then}
 use Rattle.dc_rows.proofs.SameRows.{same_row, same_then}
 
--- what becomes of a row goes on where the row was the same before, and where it is the same afterwards; the row has its key still, or none
+-- what becomes of a row goes on if the row was the same before, and if it is the same afterwards; the row has its key still, or none
 pub record GoesOn (R : RowState → RowState → ℕ → Key → Type 0) : Type 0 where
   pub before : (s t u : RowState) (row : ℕ) (key : Key) → SameRow s t row → R t u row key → R s u row key
   pub after : (s t u : RowState) (row : ℕ) (key : Key) → R s t row key → SameRow t u row → R s u row key
@@ -30,7 +30,7 @@ one_key : (a b : Key) → Some a ≡ Some b → a ≡ b
 one_key a b e = cc
 
 module _ (R : RowState → RowState → ℕ → Key → Type 0) (K : Key → Type 0) (t u : RowState) (b : Turns R K t u) where
-  -- who has a key had one
+  -- a row that has a key had one
   pub had_key : (r : ℕ) → has_key (slot_of u.slots r) ≡ true → has_key (slot_of t.slots r) ≡ true
   had_key r h = elim (keyed_or_not (slot_of t.slots r)) [
     | inl keyed ↦ keyed

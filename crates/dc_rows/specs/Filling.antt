@@ -14,7 +14,7 @@ use Rattle.dc_table.specs.Changes.{tree_now, words_of}
 use Rattle.dc_table.specs.Passes.{Pass, share}
 use Rattle.dc_table.specs.declared.table.Guarded.{Guarded}
 
--- one row was shut, written and opened: with these words, or empty where that was its last opening
+-- one row was shut, written and opened: with these words, or empty if that was its last opening
 pub record Redone (before after : List ℕ) (row : ℕ) (words : List ℕ) (more : Bool) : Type 0 where
   pub size : length after ≡ length before
   pub others : (r : ℕ) → r ≢ row → row_words after r ≡ row_words before r

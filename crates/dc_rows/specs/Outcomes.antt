@@ -22,13 +22,14 @@ use Rattle.dc_rows.specs.declared.fault.ChangeFault.{ChangeFault}
 use Rattle.dc_rows.specs.declared.fault.ChangeFault.TheVariants as faults
 use Rattle.dc_rows.specs.declared.guard.Guard.{Guard}
 
--- the pass of a guard is back without the lock, and has not tried for it again
+-- the pass of a guard is back without the lock, which it had this once, and has not tried for it again
 pub record IsBack (g : Guard) (back : MutBor Pass) : Type 0 where
   pub same_reference : back.ghost_name ≡ g.holder.pass.ghost_name
   pub same : IsSamePass (seat_of g) back.now
   pub idle : IsIdle back.now
   pub tries : (known back.now).tries ≡ (known (seat_of g)).tries
   pub got : (known back.now).got ≡ (known (seat_of g)).got
+  pub once : HadOnce (known (seat_of g)) (known back.now)
 
 -- a guard's pass has committed the call, whose reply this is, and written words of rows besides
 abbrev pub AlteredHeld : Guard → Guard → Request → Reply → Type 0
@@ -56,7 +57,7 @@ MakesHeld g q call result = Makes (view (seat_of g)).hold.history (rows_of g) (s
 abbrev pub MakesAlone : Pass → Pass → Request → Result (Reply × ℕ) ChangeFault → Type 0
 MakesAlone p q call result = (history : List Request) × Makes history (known q).got p q call result
 
--- up to so many rows were emptied, from the rows that the pass got to those that it left
+-- up to this many rows were emptied, from the rows that the pass got to those that it left
 pub record Shrinks (most n : ℕ) (q : Pass) : Type 0 where
   pub few : n ≡ min most (length (known q).got.used.listed)
   pub rows : EmptiesLast n (known q).got (known q).left

@@ -27,17 +27,17 @@ pub record Turns (Become : RowState → RowState → ℕ → Key → Type 0) (Am
   pub own : (row : ℕ) (key : Key) → slot_of s.slots row ≡ Held key → Among key → Become s t row key
   pub order : t.used.listed ≡ filter (λ row. has_key (slot_of t.slots row)) s.used.listed
 
--- the row was shut; it has its key still, or is empty where that was its last opening
+-- the row was shut; it has its key still, or is empty if that was its last opening
 abbrev pub Shut : RowState → RowState → ℕ → Key → Type 0
 Shut s t row key = (KeepsPins s t row × (count t.words row ≡ count s.words row + 1))
     ⊎ (IsEmpty t row × (count t.words row ≡ count s.words row + 2) × (most ≤ count t.words row))
 
--- the odd row was opened; it has its key still and tells the key's fact, or is empty where no row can tell that
+-- the odd row was opened; it has its key still and tells the key's fact, or is empty if no row can tell that
 pub record Refilled (tree : Tree) (s t : RowState) (row : ℕ) (key : Key) : Type 0 where
   pub counted : count t.words row ≡ count s.words row + 1
   pub own : (KeepsPins s t row × IsOf tree (row_words t.words row) key) ⊎ (IsEmpty t row × (CanTell tree key → ⊥))
 
--- the row was shut and opened; it has its key still and tells the key's fact, or is empty where no row can tell that or its count is at its end
+-- the row was shut and opened; it has its key still and tells the key's fact, or is empty if no row can tell that or its count is at its end
 pub record Retold (tree : Tree) (s t : RowState) (row : ℕ) (key : Key) : Type 0 where
   pub counted : count t.words row ≡ count s.words row + 2
   pub own : (KeepsPins s t row × IsOf tree (row_words t.words row) key) ⊎ (IsEmpty t row × (CanTell tree key → most ≤ count t.words row))
@@ -62,7 +62,7 @@ Retells g h call = let p = seat_of g in Turns (Retold (kept_by h).store) (Touche
 abbrev pub Place : List Key → ℕ → Key → Type 0
 Place keys i key = slice_get keys i ≡ Some key
 
--- the same of the program's keys, and of the first so many of them
+-- the key at a place of the program's keys, and the first n of them
 abbrev pub KeyAt : ℕ → List rust_key.Key → Key → Type 0
 KeyAt i keys = Place (map key_shown keys) i
 

@@ -39,7 +39,7 @@ pub record OnlyRow (row : ℕ) (s t : RowState) : Type 0 where
   pub others : (r : ℕ) → r ≢ row → SameRow s t r
   pub order : without row t.used.listed ≡ without row s.used.listed
 
--- the row has no key and tells nothing, and isn't in use; it is retired exactly where its count is at its end
+-- the row has no key and tells nothing, and isn't in use; it is retired exactly if its count is at its end
 pub record IsEmpty (t : RowState) (row : ℕ) : Type 0 where
   pub keyless : has_key (slot_of t.slots row) ≡ false
   pub nothing : Spells (row_words t.words row) None
@@ -53,7 +53,7 @@ pub record EmptiesRow (row : ℕ) (s t : RowState) : Type 0 where
   pub own : IsEmpty t row
   pub only : OnlyRow row s t
 
--- the last so many of the listed rows are empty; all others are as they were, and are listed in the same order
+-- the last n of the listed rows are empty; all others are as they were, and are listed in the same order
 pub record EmptiesLast (n : ℕ) (s t : RowState) : Type 0 where
   pub listed : t.used.listed ≡ take (length s.used.listed - n) s.used.listed
   pub rows : (row : ℕ) → SameRow s t row ⊎ ((is_in s.used.listed row ≡ true) × IsEmpty t row)
@@ -76,7 +76,7 @@ pub record IsChosen (key : Key) (s : RowState) (row : ℕ) : Type 0 where
   pub chosen : choice s.slots s.used key ≡ Some row
   pub may : MayTake s.slots s.used key row
 
--- the row has the key, which it had or is chosen for, and so many pins more; all others are as they were
+-- the row has the key, which it had or is chosen for, and this many pins more; all others are as they were
 pub record HasGot (key : Key) (more : ℕ) (s t : RowState) (row : ℕ) : Type 0 where
   pub has : slot_of t.slots row ≡ Held key
   pub pins : pins_of t.used row ≡ pins_of s.used row + more
@@ -90,7 +90,7 @@ pub record MayFill (key : Key) (s t : RowState) : Type 0 where
   pub own : SameRow s t row ⊎ IsChosen key s row
   pub only : OnlyRow row s t
 
--- a row has got the key, and so many pins more; or none, and then no pin has come or gone
+-- a row has got the key, and this many pins more; or none, and then no pin has come or gone
 abbrev pub Gets : Key → ℕ → RowState → RowState → Result (Option ℕ) NoMemory → Type 0
 Gets key more s t (Ok (Some row)) = HasGot key more s t row
 Gets key more s t (Ok None) = MayFill key s t

@@ -34,7 +34,7 @@ pub record Writing (before after : List ℕ) (row : ℕ) (words : List ℕ) (i :
   pub own : (j : ℕ) → 0 < j → j < i → cell after row j ≡ get_or words j 0
   pub kept : (j : ℕ) → i ≤ j → j < ROW_WORDS → cell after row j ≡ cell before row j
 
--- one row has just these words, and its count is so much more
+-- one row has just these words, and its count is this much higher
 pub record Wrote (before after : List ℕ) (row : ℕ) (words : List ℕ) (more : ℕ) : Type 0 where
   pub size : length after ≡ length before
   pub others : (r : ℕ) → r ≢ row → row_words after r ≡ row_words before r

@@ -24,15 +24,15 @@ use dc_plain::{
     operations_keep_trees_well_formed, untouched_facts_stay,
 };
 use dc_row::words_have_the_fact_they_spell;
-use dc_table::{Guarded, MOST_COUNT, Pass};
+use dc_table::{Guarded, MOST_COUNT, Pass, Wakes};
 use std::alloc::Global;
 
 impl<'t> Guard<'t> {
     /// Makes a change, answers its reply and how many calls had altered the tree before, gives the lock
-    /// back, and hands the pass back. `Spent` where it would alter the tree for more than the 2^62nd time,
-    /// `NoMemory` where memory was refused: then nothing has changed. A change that is refused, an
+    /// back, and hands the pass back. `Spent` if it would alter the tree for more than the 2^62nd time,
+    /// `NoMemory` if memory was refused: then nothing has changed. A change that is refused, an
     /// `Unlink`, a `Rmdir` and an exchange take no memory.
-    pub fn change(
+    pub fn change<W: Wakes>(
         self,
         alloc: Global,
         call: &Call<'_>,
@@ -42,12 +42,12 @@ impl<'t> Guard<'t> {
         ensures back { IsBack self.entry result.0 }
         ensures made { MakesHeld self.entry result.0.now (request_of call.now) result.1 }
     {
-        self.change_knowing(alloc, call, None)
+        self.change_knowing::<W>(alloc, call, None)
     }
 
     /// Makes a change, as `change`, for a caller that knows where a path leads on the tree. The tree isn't
     /// asked for the directory of a name whose path is that one and the name.
-    pub fn change_knowing(
+    pub fn change_knowing<W: Wakes>(
         mut self,
         alloc: Global,
         call: &Call<'_>,
@@ -63,13 +63,13 @@ impl<'t> Guard<'t> {
         let at = self.clock();
         let plan = match plan_knowing(self.store(), call, self.guarded.max_inodes, known) {
             Ok(plan) => plan,
-            Err(reply) => return (self.answer(call), Ok((reply, at))),
+            Err(reply) => return (self.answer::<W>(call), Ok((reply, at))),
         };
         if at >= MOST_COUNT {
-            return (self.give(), Err(ChangeFault::Spent));
+            return (self.give::<W>(), Err(ChangeFault::Spent));
         }
         let altered = self.alter(alloc, call, plan);
-        let pass = self.give();
+        let pass = self.give::<W>();
         match altered {
             Ok(reply) => (pass, Ok((reply, at))),
             Err(NoMemory) => (pass, Err(ChangeFault::NoMemory)),
@@ -77,7 +77,7 @@ impl<'t> Guard<'t> {
     }
 
     /// Carries a plan out, with the rows whose keys it touches shut meanwhile. After `NoMemory` they tell
-    /// what they told.
+    /// what they told before.
     fn alter(&mut self, alloc: Global, call: &Call<'_>, plan: Plan<'_>) -> Result<Reply, NoMemory>
         requires well { IsWellFormed (tree_now (seat_of self.old)) }
         requires plans { let p = seat_of self.old in
@@ -98,7 +98,7 @@ impl<'t> Guard<'t> {
         let keys = keys.as_slice();
         shut_keys(holder, kept, keys);
         // A reader that finds a row even must find it true. So the rows of what changes stay odd from before
-        // the tree changes until they tell of the new one, or of the old one where it stays.
+        // the tree changes until they tell of the new one, or of the old one if that stays.
         match carry(alloc, &mut kept.store, plan) {
             Ok(reply) => {
                 holder.commit(call);

@@ -19,7 +19,7 @@ use dc_row::{EMPTY_ROW, ROW_WORDS, empty_row_spells_nothing};
 use dc_table::{Guarded, Holder, MOST_COUNT};
 
 /// Shuts a row, writes its words up to a place from which on it has them already, and opens it. `false`
-/// where that was its last opening: then it is empty.
+/// if that was its last opening: then it is empty.
 pub(crate) fn rewrite(
     holder: &mut Holder<'_>,
     row: u64,
@@ -84,7 +84,7 @@ impl Guard<'_> {
         empty(holder, kept, row, end);
     }
 
-    /// Empties up to so many of the unpinned rows in use, the least recently used first, and answers how
+    /// Empties up to this many of the unpinned rows in use, the least recently used first, and answers how
     /// many. A row counts as used when it is filled for a key and when it loses its last pin, not when a
     /// walk reads it. It takes no memory.
     #[tactic(auto, using(crate::proofs::Held::keeps_then))]

@@ -12,7 +12,7 @@ use dc_plain::{Key, Label, Target};
 use dc_row::{ROW_WORDS, Row, RowLabel, RowText, encode};
 use dc_store::Store;
 
-/// The words of a row that tells where an entry leads, or `None` where no row can tell it. No entry has
+/// The words of a row that tells where an entry leads, or `None` if no row can tell it. No entry has
 /// the label `Text`.
 pub(crate) fn entry_words(key: &Key<'_>, target: Option<Target>) -> Option<[u64; ROW_WORDS]>
     ensures some { IfSome result (λ words.
@@ -28,7 +28,7 @@ pub(crate) fn entry_words(key: &Key<'_>, target: Option<Target>) -> Option<[u64;
     encode(&Row::Entry(key.number, label, target))
 }
 
-/// The words of a row that tells what a store has under a key, or `None` where no row can tell it.
+/// The words of a row that tells what a store has under a key, or `None` if no row can tell it.
 pub(crate) fn words_for<S: Store>(store: &S, key: &Key<'_>) -> Option<[u64; ROW_WORDS]>
     ensures some { IfSome result (λ words. IsOf (S.tree store.now) words (key_shown key.now)) }
     ensures none { IfNone result (CanTell (S.tree store.now) (key_shown key.now) → ⊥) }

@@ -11,7 +11,7 @@ ghost use Rattle.dc_rows.specs.Filling.{GivenAt, without_use};
 ghost use Rattle.dc_rows.specs.Guards.{kept_by, rows_of, seat_of, Keeps};
 ghost use Rattle.dc_rows.specs.Narrow.{HasFrom};
 ghost use Rattle.dc_rows.specs.Outcomes.{Fills};
-ghost use Rattle.dc_rows.specs.RowChanges.{Gets, IsFilled, LeadsTo, OnlyRow};
+ghost use Rattle.dc_rows.specs.RowChanges.{Gets, IsFilled, LeadsTo, OnlyRow, SamePins};
 ghost use Rattle.dc_shrink.specs.Listings.{dropped, pins_of};
 ghost use Rattle.dc_shrink.specs.Uses.{SetsUse};
 ghost use Rattle.dc_table.specs.Changes.{tree_now, words_of};
@@ -30,7 +30,7 @@ use dc_table::{Guarded, Holder};
 use std::alloc::Global;
 
 /// Fills a row that was given a key, and takes it into use for that one alone. Without memory for that it
-/// is emptied, and so it is where its count ends. From a place on the row and its words are zero.
+/// is emptied, and so it is if its count ends. From a place on the row and its words are zero.
 fn fill_given(
     holder: &mut Holder<'_>,
     kept: &mut Guarded,
@@ -69,13 +69,15 @@ fn fill_given(
 
 impl Guard<'_> {
     /// The row of a key. One that has none gets a row of its bucket, which is filled with what the store
-    /// has under the key. `None` where no row can be had, or no row can tell it.
+    /// has under the key. `None` if no row can be had, or no row can tell it.
+    #[tactic(auto, using(crate::proofs::Pinning::gets_no_pin))]
     pub fn fill(&mut self, alloc: Global, key: &HashedKey<'_>) -> Result<Option<u64>, NoMemory>
         ensures same_reference { self.new.holder.pass.ghost_name ≡ self.old.holder.pass.ghost_name }
         ensures keeps { Keeps self.old self.new }
         ensures row { IfOk result (λ found. IfSome found (λ row.
             slot_of (kept_by self.new).index row ≡ Held (key_in key.now))) }
         ensures rows { Gets (key_in key.now) 0 (rows_of self.old) (rows_of self.new) result }
+        ensures pins { SamePins (rows_of self.old) (rows_of self.new) }
     {
         if let Some(row) = self.guarded.index.row_of_hashed(key) {
             return Ok(Some(row));
@@ -87,8 +89,9 @@ impl Guard<'_> {
     }
 
     /// The row of an entry's key, as `fill` gives it, for a caller that has asked the store where the
-    /// entry leads: the store is not searched again. `None` where no row can be had, or no row can tell
-    /// it, and `NoMemory` where memory for the key was refused.
+    /// entry leads: the store is not searched again. `None` if no row can be had, or no row can tell
+    /// it, and `NoMemory` if memory for the key was refused.
+    #[tactic(auto, using(crate::proofs::Pinning::gets_no_pin))]
     pub fn fill_entry(
         &mut self,
         alloc: Global,
@@ -99,6 +102,7 @@ impl Guard<'_> {
         ensures same_reference { self.new.holder.pass.ghost_name ≡ self.old.holder.pass.ghost_name }
         ensures keeps { Keeps self.old self.new }
         ensures fills { Fills (key_in key.now) self.old self.new result }
+        ensures pins { SamePins (rows_of self.old) (rows_of self.new) }
     {
         if let Some(row) = self.guarded.index.row_of_hashed(key) {
             return Ok(Some(row));

@@ -6,7 +6,7 @@ ghost use Rattle.dc_table.specs.Plays.{Home};
 
 use dc_table::{Guarded, Holder};
 
-/// Who has the lock while all rows rest on the tree: each even row tells what the tree has under its key.
+/// The lock, held while all rows rest on the tree: each even row tells what the tree has under its key.
 pub struct Guard<'t> {
     pub(crate) holder: Holder<'t>,
     pub(crate) guarded: Box<Guarded>,

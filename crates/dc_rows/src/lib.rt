@@ -1,8 +1,8 @@
 //! Which row of the table is filled, shut, refilled, pinned and emptied, and how a change goes from its plan
 //! to its answer.
 //!
-//! `Guard` is who has the lock between two changes: all rows rest on the tree as it is. Within a change some
-//! are odd, and then the holder of the lock, a `dc_table::Holder`, has them.
+//! A `Guard` has the lock between two changes: all rows rest on the tree as it is. Within a change some are
+//! odd, and then the holder of the lock, a `dc_table::Holder`, has them.
 #![tactic(auto)]
 
 mod calls;

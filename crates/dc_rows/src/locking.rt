@@ -4,14 +4,14 @@ ghost use Rattle.std.specs.Prelude.{◌≡◌, ◌<◌, true, IfOk, IfErr};
 ghost use Rattle.dc_events.specs.Effects.{gave};
 ghost use Rattle.dc_plain.specs.Requests.{request_of};
 ghost use Rattle.dc_rows.specs.Guards.{seat_of, kept_by, IsStill};
-ghost use Rattle.dc_table.specs.Holders.{answered_by, Freed, Locked, Missed, TriedOnce};
+ghost use Rattle.dc_table.specs.Holders.{answered_by, Freed, FoundHeld, Locked, TriedOnce};
 ghost use Rattle.dc_table.specs.Passes.{view, share, Fits, IsIdle, CanAnswer};
 ghost use Rattle.dc_table.specs.Walking.{HasNoted, IsTrueNow};
 
 use crate::guard::Guard;
 use dc_plain::Call;
 use dc_store::SlabStore;
-use dc_table::{Pass, Shared};
+use dc_table::{Pass, Shared, Wakes};
 use std::sync::Wait;
 
 impl<'t> Guard<'t> {
@@ -26,7 +26,7 @@ impl<'t> Guard<'t> {
         Guard { holder, guarded }
     }
 
-    /// Tries to get the lock, and never waits. Where another has it the pass comes back.
+    /// Tries to get the lock, and never waits. If another pass has it, this one comes back.
     #[must_use]
     pub fn try_lock(shared: &'t Shared, pass: &'t mut Pass) -> Result<Guard<'t>, &'t mut Pass>
         requires pass { Fits shared.now pass.old × IsIdle pass.old }
@@ -34,7 +34,7 @@ impl<'t> Guard<'t> {
             (guard.holder.pass.ghost_name ≡ pass.entry.ghost_name) × Locked pass.old guard.holder (kept_by guard)) }
         ensures once { IfOk result (λ guard. TriedOnce pass.old (seat_of guard)) }
         ensures held { IfErr result (λ back.
-            (back.ghost_name ≡ pass.entry.ghost_name) × Missed pass.old back.now) }
+            (back.ghost_name ≡ pass.entry.ghost_name) × FoundHeld pass.old back.now) }
     {
         match shared.try_lock(pass) {
             Ok((holder, guarded)) => Ok(Guard { holder, guarded }),
@@ -68,24 +68,25 @@ impl<'t> Guard<'t> {
         self.holder.is_as_noted(i, row, noted)
     }
 
-    /// Gives the lock back, and hands the pass back.
-    pub fn give(self) -> &'t mut Pass
+    /// Gives the lock back, wakes a thread that waits for it, and hands the pass back.
+    pub fn give<W: Wakes>(self) -> &'t mut Pass
         ensures same_reference { result.ghost_name ≡ self.entry.holder.pass.ghost_name }
         ensures freed { Freed self.entry.holder (kept_by self.entry) result.now }
         ensures view { view result.now ≡ gave (view (seat_of self.entry)) }
     {
         let Guard { holder, guarded } = self;
-        holder.give(guarded)
+        holder.give::<W>(guarded)
     }
 
-    /// Gives the lock back, answers a call that alters nothing, and hands the pass back.
-    pub fn answer(self, call: &Call<'_>) -> &'t mut Pass
+    /// Gives the lock back, answers a call that alters nothing, wakes a thread that waits for the lock, and
+    /// hands the pass back.
+    pub fn answer<W: Wakes>(self, call: &Call<'_>) -> &'t mut Pass
         requires unaltered { let p = seat_of self in CanAnswer (share p) (view p) (request_of call.now) }
         ensures same_reference { result.ghost_name ≡ self.entry.holder.pass.ghost_name }
         ensures freed { Freed self.entry.holder (kept_by self.entry) result.now }
         ensures view { view result.now ≡ answered_by (seat_of self.entry) (request_of call.now) }
     {
         let Guard { holder, guarded } = self;
-        holder.answer(guarded, call)
+        holder.answer::<W>(guarded, call)
     }
 }

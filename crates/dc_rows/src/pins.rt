@@ -17,8 +17,8 @@ use dc_table::Guarded;
 use std::alloc::Global;
 
 impl Guard<'_> {
-    /// Fills the row of a key with what the tree has under it, where no row has the key, and pins it.
-    /// `None` where no row can be had or filled, or where the row has as many pins as a row may have.
+    /// Pins the row of a key. If no row has the key, one is filled with what the tree has under it. `None`
+    /// if no row can be had or filled, or if the row has as many pins as a row may have.
     pub fn pin(&mut self, alloc: Global, key: &HashedKey<'_>) -> Result<Option<u64>, NoMemory>
         ensures same_reference { self.new.holder.pass.ghost_name ≡ self.old.holder.pass.ghost_name }
         ensures keeps { Keeps self.old self.new }

@@ -33,7 +33,7 @@ fn shut_key(holder: &mut Holder<'_>, kept: &mut Guarded, keys: &[Key<'_>], i: us
     };
     let odd = holder.shut_row(row);
     // A count at its end would be used again for other words. The row is emptied, and no key gets it any
-    // more, so whoever noted the count finds nothing else under it.
+    // more, so a walk that noted the count finds nothing else under it.
     if odd + 1 >= MOST_COUNT {
         open_with(holder, row, &EMPTY_ROW, ROW_WORDS);
         kept.index.retire(row);
@@ -59,7 +59,7 @@ pub(crate) fn shut_keys(holder: &mut Holder<'_>, kept: &mut Guarded, keys: &[Key
 }
 
 /// Fills the odd row that has a key, if any has it, with what the store has under the key, and opens it.
-/// Where no row can tell that, the row is emptied and loses its key.
+/// If no row can tell that, the row is emptied and loses its key.
 fn refill_key(holder: &mut Holder<'_>, kept: &mut Guarded, keys: &[Key<'_>], i: usize)
     requires store { kept.old.store ≡ tree_now (pass_of holder.old) }
     requires place { i < length keys.now }

@@ -39,8 +39,8 @@ pub(crate) fn open_with(holder: &mut Holder<'_>, row: u64, words: &[u64; ROW_WOR
     ensures wrote { Wrote (words_of (pass_of holder.old)) (words_of (pass_of holder.new)) row words.now 1 }
 {
     // A word that isn't written is as it was: the end of a longer name would stand behind a shorter one.
-    // But from `end` on the row has its words already. It is opened last: whoever finds it even must find
-    // them all.
+    // But from `end` on the row has its words already. It is opened last: a reader that finds it even must
+    // find them all.
     for i in 1..end {
         holder.write_word(row, i as u64, words[i]);
     }

@@ -1,9 +1,13 @@
 -- What is written in several calls.
-use Rattle.std.proofs.Common.{ℕ, ◌+◌, List, [], ◌++◌, take, drop, Option, Some, None, ap, sym, subst, ◌∙◌, append_assoc}
+use Rattle.std.proofs.Common.{◌≡◌, ℕ, ◌+◌, ◌<◌, List, [], ◌∷◌, ◌++◌, length, get_or, take, drop, Option, Some, None, ap, sym, subst, ◌∙◌, append_assoc}
 use Rattle.std.proofs.Math.Seq.{take-add}
-use Rattle.std.proofs.lemmas.List.{append-nil, take-append-drop}
+use Rattle.std.proofs.lemmas.List.{append-nil, take-append-drop, take_more}
+use Rattle.std.proofs.lemmas.List.Concat.{flat_map-append}
+use Rattle.std.specs.Global.{Vec}
 use Rattle.std.specs.Io.KnownBytes.{Appends}
-use Rattle.dc_serve.specs.Bytes.{AppendsFront}
+use Rattle.dc_serve.specs.Bytes.{AppendsFront, WritesFront, bytes_of}
+use Rattle.dc_serve.specs.declared.fault.ServeFault.{ServeFault}
+use Rattle.dc_serve.specs.declared.fault.ServeFault.TheVariants.{BadSize, Read, BadLine, NoMemory, Spent, Write}
 
 -- one text after another
 pub appends_both : (a b c : Option (List ℕ)) (xs ys : List ℕ) → Appends a b xs → Appends b c ys → Appends a c (xs ++ ys)
@@ -31,3 +35,26 @@ front_of a b text n some = record { front = take n text; rest = drop n text; cut
 
 pub front_whole : (a b : Option (List ℕ)) (text : List ℕ) → Appends a b text → AppendsFront a b text
 front_whole a b text all = record { front = text; rest = []; cut = sym (append-nil text); appends = all }
+
+-- some texts and one more
+pub bytes_of-push : (texts : List (Vec ℕ)) (text : Vec ℕ) → bytes_of (texts ++ text ∷ []) ≡ bytes_of texts ++ text.items
+bytes_of-push texts text = flat_map-append (λ (t : Vec ℕ). t.items) texts (text ∷ []) ∙ ap (λ l. bytes_of texts ++ l) (append-nil text.items)
+
+-- the texts so far, and the next
+pub bytes_of-next : (texts : List (Vec ℕ)) (i : ℕ) (text : Vec ℕ) → i < length texts → text ≡ get_or texts i text → bytes_of (take (i + 1) texts) ≡ bytes_of (take i texts) ++ text.items
+bytes_of-next texts i text within is =
+    ap bytes_of (take_more texts i text within ∙ ap (λ t. take i texts ++ t ∷ []) (sym is)) ∙ bytes_of-push (take i texts) text
+
+-- the texts so far were written, and a front of the next
+pub texts_fail : (a b c : Option (List ℕ)) (texts : List (Vec ℕ)) (i : ℕ) (text : Vec ℕ) (fault : ServeFault) → i < length texts → text ≡ get_or texts i text → Appends a b (bytes_of (take i texts)) → WritesFront b c text.items fault
+    → WritesFront a c (bytes_of texts) fault
+texts_fail a b c texts i text BadSize within is so_far fails = absurd fails
+texts_fail a b c texts i text Read within is so_far fails = absurd fails
+texts_fail a b c texts i text (BadLine n) within is so_far fails = absurd fails
+texts_fail a b c texts i text NoMemory within is so_far fails = absurd fails
+texts_fail a b c texts i text Spent within is so_far fails = absurd fails
+texts_fail a b c texts i text Write within is so_far fails =
+    let rest = bytes_of (drop (i + 1) texts) in
+    let whole : bytes_of texts ≡ bytes_of (take i texts) ++ (text.items ++ rest) = ap bytes_of (sym (take-append-drop (i + 1) texts)) ∙ flat_map-append (λ (t : Vec ℕ). t.items) (take (i + 1) texts) (drop (i + 1) texts)
+    ∙ ap (λ l. l ++ rest) (bytes_of-next texts i text within is) ∙ append_assoc (bytes_of (take i texts)) text.items rest in
+    subst (AppendsFront a c) (sym whole) (front_after a b c (bytes_of (take i texts)) text.items rest so_far fails)

@@ -5,6 +5,7 @@ use Rattle.dc_events.specs.Views.{Book}
 use Rattle.dc_lang.specs.Commands.{Order}
 use Rattle.dc_table.specs.Shares.{Known}
 use Rattle.dc_lang.specs.Phases.{of_session}
+use Rattle.dc_serve.specs.Bytes.{bytes_of}
 use Rattle.dc_serve.specs.Sessions.{Obeyed, ObeyedBelow, outcome, progress}
 use Rattle.dc_serve.specs.Threads.{Adds}
 use Rattle.dc_serve.specs.declared.fault.ServeFault.{ServeFault}
@@ -15,21 +16,21 @@ use Rattle.dc_serve.proofs.Shared.{Fork}
 
 pub obeyed_with : (v a u b c w : Known) (bases : List ℕ) (session count : ℕ) (orders : List Order) (others : Result PhaseReplies ServeFault) (told : Result SessionReplies ServeFault) (all : Result PhaseReplies ServeFault) → Fork v a u b c w
     → session < length bases → 0 < length (of_session session orders) → session + 1 ≡ count
-    → IfOk others (λ r. ObeyedBelow a.view.book bases session orders (outcome r.text.items r.bases) b.view.book)
+    → IfOk others (λ r. ObeyedBelow a.view.book bases session orders (outcome (bytes_of r.texts.items) r.bases) b.view.book)
     → IfOk told (λ t. Obeyed u.view.book (progress [] (slice_index bases session)) (of_session session orders) (progress t.text.items t.base) c.view.book)
     → IfOk all (λ r. IsOkAnd others (λ front. IsOkAnd told (λ last. Adds front session last r)))
-    → IfOk all (λ r. ObeyedBelow v.view.book bases count orders (outcome r.text.items r.bases) w.view.book)
+    → IfOk all (λ r. ObeyedBelow v.view.book bases count orders (outcome (bytes_of r.texts.items) r.bases) w.view.book)
 obeyed_with v a u b c w bases session count orders others told (Err fault) fork within some' up f s adds = tt
 obeyed_with v a u b c w bases session count orders (Err fault) told (Ok r) fork within some' up f s adds = absurd adds
 obeyed_with v a u b c w bases session count orders (Ok front) (Err fault) (Ok r) fork within some' up f s adds = absurd adds
 obeyed_with v a u b c w bases session count orders (Ok front) (Ok last) (Ok r) fork within some' up f s adds =
-    let more = obeyed_more v a u b c w bases session orders front.text.items last.text.items front.bases last.base fork within some' f s in
+    let more = obeyed_more v a u b c w bases session orders (bytes_of front.texts.items) last.text.items front.bases last.base fork within some' f s in
     let here = ap₂ outcome (sym adds.text) (sym adds.bases) in
-    subst (λ (n : ℕ). ObeyedBelow v.view.book bases n orders (outcome r.text.items r.bases) w.view.book) up
+    subst (λ (n : ℕ). ObeyedBelow v.view.book bases n orders (outcome (bytes_of r.texts.items) r.bases) w.view.book) up
     (subst (λ z. ObeyedBelow v.view.book bases (session + 1) orders z w.view.book) here more)
 
 pub obeyed_past : (a b : Book) (bases : List ℕ) (session count : ℕ) (orders : List Order) (others : Result PhaseReplies ServeFault) → of_session session orders ≡ [] → session + 1 ≡ count
-    → IfOk others (λ r. ObeyedBelow a bases session orders (outcome r.text.items r.bases) b) → IfOk others (λ r. ObeyedBelow a bases count orders (outcome r.text.items r.bases) b)
+    → IfOk others (λ r. ObeyedBelow a bases session orders (outcome (bytes_of r.texts.items) r.bases) b) → IfOk others (λ r. ObeyedBelow a bases count orders (outcome (bytes_of r.texts.items) r.bases) b)
 obeyed_past a b bases session count orders (Err fault) none up f = tt
 obeyed_past a b bases session count orders (Ok r) none up f =
-    subst (λ (n : ℕ). ObeyedBelow a bases n orders (outcome r.text.items r.bases) b) up (obeyed_skip a bases session orders (outcome r.text.items r.bases) b none f)
+    subst (λ (n : ℕ). ObeyedBelow a bases n orders (outcome (bytes_of r.texts.items) r.bases) b) up (obeyed_skip a bases session orders (outcome (bytes_of r.texts.items) r.bases) b none f)

@@ -1,5 +1,5 @@
 -- One more phase.
-use Rattle.std.proofs.Common.{drop, ◌≡◌, ℕ, ◌+◌, ◌<◌, ◌≤◌, List, [], ◌∷◌, ◌++◌, get_or, length, take, Option, Some, None, ap, ap₂, sym, ◌∙◌, subst, arith, le_refl}
+use Rattle.std.proofs.Common.{drop, ◌≡◌, ℕ, zero, suc, refl, ◌+◌, ◌<◌, ◌≤◌, List, [], ◌∷◌, ◌++◌, get_or, length, take, Option, Some, None, ap, ap₂, sym, ◌∙◌, subst, arith, le_refl}
 use Rattle.std.proofs.lemmas.List.{append-nil, get_or-map, length-append, length-map, map-append, take-append-drop, take_more}
 use Rattle.std.proofs.lemmas.List.Concat.{flat_map-append}
 use Rattle.std.specs.Borrow.{Bor}
@@ -11,7 +11,7 @@ use Rattle.dc_lang.specs.declared.line.Line.{Line}
 use Rattle.dc_lang.specs.Commands.{Order}
 use Rattle.dc_table.specs.Shares.{Known}
 use Rattle.dc_serve.specs.Bytes.{AppendsFront, IsServiceFault, WritesFront}
-use Rattle.dc_lang.specs.Phases.{all_ordered, by_session, in_order, ordered}
+use Rattle.dc_lang.specs.Phases.{all_ordered, by_session, in_order, of_sessions, ordered}
 use Rattle.dc_serve.specs.Rounds.{Goes, Holds, Rounds, StopsBy}
 use Rattle.dc_lang.specs.Bases.{first_bases}
 use Rattle.dc_serve.specs.Sessions.{Between, ObeyedBelow, SameShare, TookInSome, outcome, present, size}
@@ -190,3 +190,36 @@ pub part_fails : (limit : ℕ) (bases bases' : List ℕ) (parts : List (Bor (Lis
     → Phase k l (ordered part.now) → ObeyedBelow k.view.book bases SESSIONS (ordered part.now) (outcome text bases') l.view.book → WritesFront mid new text fault → StopsBy limit (all_ordered parts) old new l fault
 part_fails limit bases bases' parts i part old mid new k l text fault next so_far phase f fails =
     goes_fails limit bases bases' (all_ordered parts) i (ordered part.now) old mid new k l text fault so_far phase f (next_phase parts i part next.within next.is) fails
+
+none_of : (count : ℕ) → of_sessions count [] ≡ []
+unfolding of_sessions
+none_of zero = refl
+none_of (suc count) = ap (λ l. l ++ []) (none_of count)
+
+none_present : (count : ℕ) → present count [] ≡ []
+unfolding present
+none_present zero = refl
+none_present (suc count) = ap (λ l. l ++ []) (none_present count)
+
+-- nobody had an order
+obeyed_none : (a : Book) (bases : List ℕ) → ObeyedBelow a bases SESSIONS [] (outcome [] bases) a
+obeyed_none a bases = record {
+  turns = [];
+  orders_are = sym (none_of SESSIONS);
+  asked = tt;
+  last = refl;
+  told = refl;
+  joined = sym (append-nil a.joined) ∙ ap (λ l. a.joined ++ l) (sym (none_present SESSIONS));
+  between = λ s. (tt, le_refl a.seen);
+}
+
+-- and the next one, which has no lines
+pub part_none : (limit : ℕ) (bases : List ℕ) (parts : List (Bor (List Line))) (i : ℕ) (part : Bor (List Line)) (old new : Option (List ℕ)) (k : Known) → IsNext parts i part → part.now ≡ [] → Goes limit bases (take i (all_ordered parts)) old new k
+    → Goes limit bases (take (i + 1) (all_ordered parts)) old new k
+part_none limit bases parts i part old new k next none so_far =
+    let phase : Phase k k (ordered part.now) = record {
+      same = record { limit = refl; more = 0; parts = omega arith; halvings = omega arith };
+      took = ([], record { own = refl; joined = sym (append-nil k.view.book.joined); rise = tt; seen = le_refl k.view.book.seen }, omega arith);
+    } in
+    let obeyed = subst (λ (lines : List Line). ObeyedBelow k.view.book bases SESSIONS (ordered lines) (outcome [] bases) k.view.book) (sym none) (obeyed_none k.view.book bases) in
+    part_more limit bases bases parts i part old new new k k [] next so_far phase obeyed (none_written new)

@@ -1,6 +1,8 @@
 -- What reading and writing leave, where a reader and a writer tell their bytes.
 use Rattle.std.specs.Prelude.{◌≡◌, ℕ, ◌≤◌, List, ◌++◌, length, Option}
+use Rattle.std.specs.Global.{Vec}
 use Rattle.std.specs.Io.KnownBytes.{Consumes, IsAtEnd, Appends}
+use Rattle.std.specs.List.{flat_map}
 use Rattle.dc_serve.specs.declared.fault.ServeFault.{ServeFault}
 use Rattle.dc_serve.specs.declared.fault.ServeFault.TheVariants.{Read, NoMemory, Spent, Write}
 use Rattle.dc_names.specs.declared.limits.TheConstants.{MOST_COUNT, MOST_INPUT}
@@ -29,6 +31,10 @@ pub record AppendsFront (old new : Option (List ℕ)) (text : List ℕ) : Type 0
   pub rest : List ℕ
   pub cut : text ≡ front ++ rest
   pub appends : Appends old new front
+
+-- the bytes of some texts, one after another
+abbrev pub bytes_of : List (Vec ℕ) → List ℕ
+bytes_of texts = flat_map (λ text. text.items) texts
 
 -- writing fails as `Write` alone, after a front of the text
 abbrev pub WritesFront : Option (List ℕ) → Option (List ℕ) → List ℕ → ServeFault → Type 0

@@ -4,7 +4,6 @@ use Rattle.std.specs.Borrow.{Bor}
 use Rattle.std.specs.Io.KnownBytes.{Appends}
 use Rattle.std.specs.declared.thread.PromisedHandle.{PromisedHandle}
 use Rattle.dc_cache.specs.Passes.{known, share, Fits}
-use Rattle.dc_cache.specs.declared.cache.Dcache.{Dcache}
 use Rattle.dc_cache.specs.declared.cache.Pass.{Pass}
 use Rattle.dc_lang.specs.Commands.{Order, said_by}
 use Rattle.dc_lang.specs.Phases.{all_ordered, ordered, phases}
@@ -12,7 +11,7 @@ use Rattle.dc_lang.specs.declared.line.Line.{Line}
 use Rattle.dc_serve.specs.Endings.{Serves, ServesFront}
 use Rattle.dc_serve.specs.Rounds.{StopsBy, Wrote}
 use Rattle.dc_serve.specs.Sessions.{Obeyed, ObeyedBelow, progress}
-use Rattle.dc_serve.specs.Threads.{Adds, Returns, book, outcome_of, progress_of}
+use Rattle.dc_serve.specs.Threads.{Adds, Dcache, Returns, book, outcome_of, progress_of}
 use Rattle.dc_table.specs.Shares.{both}
 use Rattle.dc_serve.specs.declared.fault.ServeFault.{ServeFault}
 use Rattle.dc_serve.specs.declared.fault.ServeFault.TheVariants.{NoMemory}

@@ -1,18 +1,23 @@
 -- What a session's thread gives back.
 use Rattle.std.specs.Prelude.{◌≡◌, ℕ, Bool, false, List, [], ◌++◌, ◌==◌, length, slice_set, IfOk, IfErr, Result}
 use Rattle.dc_cache.specs.Passes.{Fits, share, view}
-use Rattle.dc_cache.specs.declared.cache.Dcache.{Dcache}
+use Rattle.dc_cache.specs.declared.cache.Cache.{Cache}
 use Rattle.dc_cache.specs.declared.cache.Pass.{Pass}
 use Rattle.dc_events.specs.Views.{Book}
 use Rattle.dc_lang.specs.Commands.{Order, Meaning}
 use Rattle.dc_lang.specs.Commands.Meaning.{Sync, Orders}
-use Rattle.dc_serve.specs.Bytes.{IsServiceFault}
+use Rattle.dc_serve.specs.Bytes.{IsServiceFault, bytes_of}
 use Rattle.dc_serve.specs.Sessions.{Obeyed, Outcome, Progress, RecordedSome, outcome, progress}
 use Rattle.dc_serve.specs.declared.fault.ServeFault.{ServeFault}
 use Rattle.dc_lang.specs.Phases.{ordered_by}
+use Rattle.dc_table.specs.declared.wakes.Sleepers.{Sleepers}
 use Rattle.dc_serve.specs.declared.phase.Handed.{Handed}
 use Rattle.dc_serve.specs.declared.phase.PhaseReplies.{PhaseReplies}
 use Rattle.dc_serve.specs.declared.session.SessionReplies.{SessionReplies}
+
+-- a cache whose calls may wait for the lock
+abbrev pub Dcache : Type 0
+Dcache = Cache Sleepers
 
 -- what a pass has recorded, taken in and seen
 abbrev pub book : Pass → Book
@@ -23,7 +28,7 @@ abbrev pub progress_of : SessionReplies → Progress
 progress_of replies = progress replies.text.items replies.base
 
 abbrev pub outcome_of : PhaseReplies → Outcome
-outcome_of replies = outcome replies.text.items replies.bases
+outcome_of replies = outcome (bytes_of replies.texts.items) replies.bases
 
 -- the pass that was handed over, with the answers to the session's orders, or to some and then a fault
 pub record GaveBack (cache : Dcache) (p : Pass) (base : ℕ) (orders : List Order) (q : Pass) (replies : Result SessionReplies ServeFault) : Type 0 where
@@ -39,7 +44,7 @@ Returns handed back = GaveBack handed.cache.now handed.pass.value handed.base (o
 
 -- the replies of some sessions with those of one more
 pub record Adds (front : PhaseReplies) (session : ℕ) (last : SessionReplies) (all : PhaseReplies) : Type 0 where
-  pub text : all.text.items ≡ front.text.items ++ last.text.items
+  pub text : bytes_of all.texts.items ≡ bytes_of front.texts.items ++ last.text.items
   pub bases : all.bases ≡ slice_set front.bases session last.base
 
 -- what is said is an order of the session

@@ -2,7 +2,7 @@
 
 ghost use Rattle.std.specs.Prelude.{OnOk, IfOk, IfErr};
 ghost use Rattle.std.specs.Io.KnownBytes.{Appends};
-ghost use Rattle.dc_serve.specs.Bytes.{ReadWhole, IsReadFault, WritesFront};
+ghost use Rattle.dc_serve.specs.Bytes.{ReadWhole, IsReadFault, WritesFront, bytes_of};
 
 use crate::{MOST_INPUT, ServeFault};
 use dc_names::MOST_READS;
@@ -49,6 +49,19 @@ pub fn write_whole<W: Write>(writer: &mut W, bytes: &[u8]) -> Result<(), ServeFa
             return Err(ServeFault::Write);
         }
         done += count;
+    }
+    Ok(())
+}
+
+/// Writes some texts one after another, or a front of them.
+pub fn write_texts<W: Write>(writer: &mut W, texts: &[Vec<u8>]) -> Result<(), ServeFault>
+    ensures ok { OnOk result (Appends (W.contents writer.old) (W.contents writer.new)
+        (bytes_of texts.now)) }
+    ensures err { IfErr result (λ fault.
+        WritesFront (W.contents writer.old) (W.contents writer.new) (bytes_of texts.now) fault) }
+{
+    for text in texts {
+        write_whole(writer, text)?;
     }
     Ok(())
 }

@@ -15,7 +15,9 @@ use dc_plain::{Call, Follow, Stamped};
 use std::alloc::Global;
 use std::sync::Wait;
 
-/// Answers a look-up by the steps that the cache's `look` takes, and says which of them it took.
+/// Answers a look-up by the rows as they stand, else by the tree, and says which of them answered it.
+/// No path is walked by rows twice: what they don't answer is asked under one hold of the lock, which
+/// fills the rows of the path.
 fn look<R: Wait>(
     rt: &R,
     alloc: Global,
@@ -35,21 +37,16 @@ fn look<R: Wait>(
             Looked::NoPath,
         );
     };
-    let why = match cache.look_fast(pass, base, text, follow) {
-        Fast::Done(stamped) => return (stamped, Looked::ByRows),
-        Fast::Again(why) => why,
-    };
-    let filled = cache.look_counted(rt, alloc, pass, base, text, follow);
-    if let Fast::Done(stamped) = filled {
-        return (stamped, Looked::ByFilled(why));
+    match cache.look_fast(pass, base, text, follow) {
+        Fast::Done(stamped) => (stamped, Looked::ByRows),
+        Fast::Again(why) => {
+            let stamped = cache.look_missed(rt, alloc, pass, base, text, follow);
+            (stamped, Looked::UnderLock(why))
+        }
     }
-    // The cache has no call that asks the tree alone.
-    let stamped = cache.look(rt, alloc, pass, base, path, follow);
-    (stamped, Looked::UnderLock(why))
 }
 
-/// Answers a call, and tells the gate how where it looks up. Where it answers a fault, nothing is
-/// recorded.
+/// Answers a call. If it looks up, the gate learns how. If it answers a fault, nothing is recorded.
 pub fn answer<R: Wait, G: Gate>(
     rt: &R,
     alloc: Global,

@@ -55,7 +55,7 @@ fn matches_in<'a>(alloc: Global, words: &'a [String]) -> Result<ArgMatches<'a>, 
     command.try_get_matches_from(words)
 }
 
-/// The text of an option, empty where clap found none.
+/// The text of an option, empty if clap found none.
 fn text_of<'a>(matches: &ArgMatches<'a>, id: &str) -> &'a str
     ensures { result.now ≡ unwrap_or (first_of id.now (rows_of (found_of matches.now))) [] }
 {
@@ -73,8 +73,8 @@ fn size(text: &str) -> Result<u64, OptionsFault>
     text.parse::<u64>().map_err(|_| OptionsFault::BadSize)
 }
 
-/// What the words after the program's name choose, where clap takes them. Whether the sizes are
-/// within their limits isn't tested here. `BadSize` where the text of a size isn't what the
+/// What the words after the program's name choose, if clap takes them. Whether the sizes are
+/// within their limits isn't tested here. `BadSize` if the text of a size isn't what the
 /// number's `parse` reads.
 pub fn options(alloc: Global, words: &[String]) -> Result<Options, OptionsFault>
     ensures ok { IfOk result (Chooses (map string_bytes words.now)) }

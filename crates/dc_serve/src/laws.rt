@@ -10,7 +10,7 @@ pub fn replies_are_those_of_a_run()
     ensures tree { TreeIsOfARun }
 {}
 
-/// Where one session alone has commands, each run of them tells what the plain server answers.
+/// If one session alone has commands, each run of them tells what the plain server answers.
 pub fn one_session_is_answered_plainly()
     ensures { OneSessionIsPlain (λ phases limit. replies_in (opening limit) (in_order phases)) }
 {}

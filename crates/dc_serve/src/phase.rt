@@ -25,10 +25,11 @@ use std::sync::atomic::{AtomicU64, Ordering};
 use std::thread;
 use std::thread::{Promise, PromisedHandle, Scope, Threads};
 
-/// What a phase is answered, and where each session starts from then on.
+/// What a phase is answered, a text for each session that has lines, and where each session starts from
+/// then on.
 #[derive(Drop)]
 pub struct PhaseReplies {
-    pub text: Vec<u8>,
+    pub texts: Vec<Vec<u8>>,
     pub bases: [u64; SESSION_COUNT],
 }
 
@@ -84,7 +85,7 @@ fn with_session(
 {
     let mut replies = others?;
     let told = told?;
-    replies.text.extend_from_slice(&told.text)?;
+    replies.texts.push(told.text)?;
     replies.bases[session as usize] = told.base;
     Ok(replies)
 }
@@ -107,7 +108,7 @@ fn take_in(
 }
 
 /// Ends a session, behind the sessions below it: takes in what its thread gives back, or what came back
-/// at once where none could be started.
+/// at once if none could be started.
 // Not inlined: a pass is large, and would lie on the stack once more for each session.
 #[inline(never)]
 fn end<R: Threads>(
@@ -132,7 +133,7 @@ fn end<R: Threads>(
 }
 
 /// Starts a session's thread, which serves what it is handed with the pass and gives the pass back.
-/// Where none can be started, the session is refused, and its pass comes back at once.
+/// If none can be started, the session is refused, and its pass comes back at once.
 fn start<'s, E, R: Wait + Sync, G: Gate>(
     rt: &'s R,
     scope: &'s Scope<'s, E>,
@@ -195,8 +196,8 @@ fn serve_sessions<'s, E, R: Threads + Wait + Sync, G: Gate>(
     ensures err { IfErr result (IsServiceFault (book pass.new).seen) }
 {
     if count == 0 {
-        let text = Vec::new(phase.alloc);
-        return Ok(PhaseReplies { text, bases });
+        let texts = Vec::new(phase.alloc);
+        return Ok(PhaseReplies { texts, bases });
     }
     let session = count - 1;
     if !has_lines(session, phase.lines) {

@@ -16,7 +16,7 @@ use std::thread::Threads;
 
 /// What the lines of the input say. The sizes are tested first; then the input is read whole, by at most
 /// 1,048,578 reads, and each of its lines. It has no handle, so it waits for nobody and is proved to
-/// return, whatever the reader does. `BadSize` comes exactly where a size is wrong, and `BadLine` of the
+/// return, whatever the reader does. `BadSize` comes exactly if a size is wrong, and `BadLine` of the
 /// first line that is none of the grammar. `Read` is for a read that fails and an input of more than
 /// `MOST_INPUT` bytes, `NoMemory` for memory that was refused: no clause says when these two come.
 pub fn understand<R: Read>(
@@ -43,7 +43,7 @@ pub fn understand<R: Read>(
 /// line, before the next phase begins, and the writer is flushed once, after the last.
 ///
 /// The clauses say what is written then, whichever the answer is, and of the faults: `BadSize` comes
-/// exactly where a size is wrong, before anything is read; `BadLine` of the first bad line of an input
+/// exactly if a size is wrong, before anything is read; `BadLine` of the first bad line of an input
 /// that was read whole; `Spent` never. When `Read`, `Write` and `NoMemory` come isn't said: `Read` is
 /// for a read that fails and an input of more than `MOST_INPUT` bytes, `Write` for a write that fails or
 /// takes nothing and a flush that fails, `NoMemory` for memory or a thread that was refused.
@@ -60,7 +60,7 @@ pub fn run<T: Threads + Wait + Sync, R: Read, W: Write, G: Gate>(
         (R.remaining reader.old) (R.remaining reader.new)
         (W.contents writer.old) (W.contents writer.new))) }
 
-    // Where in each phase one session alone has commands, that is what the plain server answers.
+    // If in each phase one session alone has commands, that is what the plain server answers.
     ensures plain { OnOk result (AnswersPlainly options.inodes (streams
         (R.remaining reader.old) (R.remaining reader.new)
         (W.contents writer.old) (W.contents writer.new))) }

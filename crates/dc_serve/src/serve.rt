@@ -7,7 +7,7 @@ ghost use Rattle.dc_serve.specs.Served.{ServesLines, ServesUntil, WroteAll, Wrot
 ghost use Rattle.dc_table.specs.Changes.{NothingNew};
 ghost use Rattle.dc_table.specs.Shares.{first_known};
 
-use crate::bytes::write_whole;
+use crate::bytes::write_texts;
 use crate::phase::serve_phase;
 use crate::session::Phase;
 use crate::{Gate, Options, ServeFault};
@@ -39,9 +39,17 @@ fn serve_phases<R: Threads + Wait + Sync, G: Gate, W: Write>(
     ensures err { IfErr result.1 (WroteUntil pass phases.now
         (W.contents writer.old) (W.contents writer.new) result.0) }
 {
-    let mut first = 1u64;
+    let mut next_first = 1u64;
     let mut bases = [1; SESSION_COUNT];
     for lines in phases {
+        let first = next_first;
+        // A line's number would be wrong past 2^64. An input has at most 1,048,576 bytes, and so
+        // fewer lines than that.
+        next_first = first.saturating_add(lines.len() as u64 + 1);
+        // An input may be of `sync` alone, and a pass is large: it isn't moved for a phase without lines.
+        if lines.is_empty() {
+            continue;
+        }
         let phase = Phase {
             cache,
             alloc,
@@ -57,17 +65,14 @@ fn serve_phases<R: Threads + Wait + Sync, G: Gate, W: Write>(
             Err(fault) => return (pass, Err(fault)),
         };
         bases = replies.bases;
-        if let Err(fault) = write_whole(writer, &replies.text) {
+        if let Err(fault) = write_texts(writer, &replies.texts) {
             return (pass, Err(fault));
         }
-        // A line's number would be wrong past 2^64. An input has at most 1,048,576 bytes, and so
-        // fewer lines than that.
-        first = first.saturating_add(lines.len() as u64 + 1);
     }
     (pass, Ok(()))
 }
 
-/// Tells the gate how many rows are filled and what the cache has counted, where that is wanted.
+/// Tells the gate how many rows are filled and what the cache has counted, if the options ask for it.
 fn tell_rows<R: Wait, G: Gate>(rt: &R, cache: &Dcache, pass: &mut Pass, options: Options, gate: &G)
     requires { Fits cache.now pass.old }
     ensures same { Fits cache.now pass.new × (share pass.new ≡ share pass.old) }

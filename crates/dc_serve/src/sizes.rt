@@ -12,7 +12,7 @@ pub struct Options {
     pub buckets: u64,
     /// How many inodes may live: from 1 to 1,048,576.
     pub inodes: u64,
-    /// Whether the gate is told at the end how many rows are filled.
+    /// Whether the gate learns at the end how many rows are filled.
     pub stats: bool,
 }
 

@@ -26,7 +26,6 @@ impl fmt::Display for Count {
 pub struct Stats {
     no_path: Count,
     by_rows: Count,
-    by_filled: Count,
     under_lock: Count,
     miss: Count,
     link: Count,
@@ -59,10 +58,6 @@ impl Gate for Stats {
         match looked {
             Looked::NoPath => self.no_path.more(),
             Looked::ByRows => self.by_rows.more(),
-            Looked::ByFilled(why) => {
-                self.by_filled.more();
-                self.gave_up(why);
-            }
             Looked::UnderLock(why) => {
                 self.under_lock.more();
                 self.gave_up(why);
@@ -83,8 +78,8 @@ impl fmt::Display for Stats {
     fn fmt<W: fmt::Write>(&self, f: &mut fmt::Formatter<W>) -> fmt::Result {
         write!(
             f,
-            "look-ups: {} without the lock, {} by filled rows, {} under the lock, {} of no path",
-            self.by_rows, self.by_filled, self.under_lock, self.no_path
+            "look-ups: {} without the lock, {} under the lock, {} of no path",
+            self.by_rows, self.under_lock, self.no_path
         )?;
         write!(
             f,

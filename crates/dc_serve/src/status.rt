@@ -21,7 +21,7 @@ impl ServeFault {
 }
 
 impl OptionsFault {
-    /// The status that a program ends with: 0 where help was asked for.
+    /// The status that a program ends with: 0 if help was asked for.
     pub fn status(&self) -> u8
         ensures { result ≡ words_status self.now }
     {

@@ -14,7 +14,7 @@ const INNER: [&[u8]; 8] = [b"a", b"a", b"a", b"b", b"b", b"c", b"l", b".."];
 const LAST: [&[u8]; 8] = [b"a", b"b", b"c", b"x", b"y", b"l", b"m", b".."];
 
 /// A path with a name too long to be compared as its row is read.
-const WIDE: &[u8] = b"/a/a-name-of-more-bytes-than-a-row-has-room-for";
+const WIDE: &[u8] = b"/a/a-name-of-more-bytes-than-are-compared-as-its-row-is-read";
 
 /// The calls of a thread.
 #[derive(Drop)]

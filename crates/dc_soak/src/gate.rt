@@ -2,11 +2,11 @@
 
 use std::sync::atomic::{AtomicU64, Ordering};
 
-/// How often a thread looks whether the others have come. Then it begins alone, as where a thread couldn't be
+/// How often a thread looks whether the others have come. Then it begins alone, as if a thread couldn't be
 /// started.
 const MOST_LOOKS: u64 = 4_000_000;
 
-/// A gate for so many threads.
+/// A gate for this many threads.
 #[derive(Drop)]
 pub struct Gate {
     arrived: AtomicU64,

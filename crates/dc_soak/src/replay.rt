@@ -10,7 +10,7 @@ use dc_ops::{carry, plan};
 use dc_plain::{Call, Reply, Sort};
 use std::alloc::Global;
 
-/// A tree, after so many changes, and of the changes with this point the one that alters it, once met.
+/// A tree, after this many changes, and of the changes with this point the one that alters it, once met.
 #[derive(Drop)]
 pub struct Replay<'a> {
     pub store: SlabStore,

@@ -53,7 +53,7 @@ pub enum Wrong {
     Record(u64, Option<Stamp>),
     /// The tree isn't the one that the changes make.
     Tree,
-    /// The cache counted so many changes, and there were so many.
+    /// How many changes the cache counted, and how many there were.
     Clock(u64, u64),
     /// The tree was lost.
     Lost,
@@ -99,7 +99,7 @@ pub struct Played {
 }
 
 impl Round {
-    /// The round of a number, with about so many calls.
+    /// The round of a number, with about this many calls.
     pub fn of(seed: u64, calls: u64) -> Round {
         let threads = LEAST.saturating_add(seed / SORTS as u64 % THREADS);
         Round {
@@ -197,7 +197,7 @@ pub fn judge(
     stamps: Vec<Stamp>,
     ended: Option<Ended>,
 ) -> Result<Option<Wrong>, NoMemory>
-    // Where nothing is wrong, the records are legal.
+    // If nothing is wrong, the records are legal.
     ensures { IfOk result (λ wrong. wrong ≡ None → IsLegal INODES (stamps_of stamps.items)) }
 {
     match check(alloc, INODES, &stamps)? {

@@ -115,7 +115,7 @@ impl Thread {
         }
     }
 
-    /// Takes so many steps.
+    /// Takes this many steps.
     pub fn run<R: Wait>(
         &mut self,
         rt: &R,

@@ -55,12 +55,12 @@ fn work<R: Wait>(rt: &R, cache: &Dcache, job: Job<'_>, mut pass: Pass, number: u
     done.map(|()| Answers { stamps, tally })
 }
 
-/// Both answers, where there was memory for them.
+/// Both answers, if there was memory for them.
 fn both(mine: Worked, others: Worked) -> Worked {
     mine?.with(others?)
 }
 
-/// A thread at work, and so many others at the same time. Their passes end with them.
+/// A thread at work, and this many others at the same time. Their passes end with them.
 pub fn spread<R: Threads + Wait + Sync>(
     rt: &R,
     cache: &Dcache,

@@ -9,7 +9,7 @@ use dc_plain::{Call, Follow, Stamped};
 use std::alloc::Global;
 use std::sync::Wait;
 
-/// How the lock is asked for where the rows don't answer.
+/// How the lock is asked for if the rows don't answer.
 #[derive(Clone, Copy)]
 pub enum Way {
     /// The call waits for it.
@@ -78,7 +78,7 @@ fn look<R: Wait>(
     }
     let Asked { base, path, follow } = asked;
     if let Way::FillsPath = way {
-        return cache.look_filled(rt, alloc, pass, base, path, follow);
+        return cache.resolve(rt, alloc, pass, base, path, follow);
     }
     if let Way::Tries = way {
         match cache.try_look(alloc, pass, base, path, follow) {

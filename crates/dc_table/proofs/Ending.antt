@@ -66,7 +66,7 @@ module _ (k : Limits) (law : PassesKeepTheRule) where
         },
       )
 
--- who has the whole share has all records of the history, and nobody else has the lock
+-- a pass that has the whole share has all records of the history, and no other has the lock
 module _ {limit rows : ℕ} {words : List ℕ} {passes : List Known} {hist : List Request} (R : Rule limit rows words (views_of passes) hist) (S : Shares limit rows passes) (id : ℕ) (k : Known) (at : get_elem? passes id ≡ some k) (whole : IsWhole k.share) where
   whole_once : (p : ℕ) → view_hits p k.view ≡ once_below p (length hist)
   whole_once p = sym (total_map (view_hits p) (λ (x : Known). x.view) passes ∙ total_only (λ (x : Known). view_hits p x.view) passes id k at

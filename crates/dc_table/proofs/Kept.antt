@@ -78,7 +78,7 @@ module _ (k : Limits) where
       after_step s h i (get_or s.words i 0) id cs l keeps (subst (λ (ws : List ℕ). Rule k.max_inodes k.rows ws (set (views_of (knowns s.views)) id l.view) h) same rule) shares
       (subst (λ (ws : List ℕ). Home k.max_inodes k.rows ws s.homes h) same K.home)
 
-  -- one of the holder of the lock, who goes on having it
+  -- one of the holder of the lock, which goes on having it
   pub after_held : (s : Seen) (h h' : List Request) → KeptAt k s h → (i x id : ℕ) (cs : List (ℕ × Maybe Boxed)) (l : Known) → get_or s.words 1 0 ≡ 1 → ¬ (1 ≡ i)
       → Rule k.max_inodes k.rows (set s.words i x) (set (views_of (knowns s.views)) id l.view) h' → Shares k.max_inodes k.rows (set (knowns s.views) id l) → Kept k (stepped s i x id cs (sheet_of l) keeps)
   after_held s h h' K i x id cs l locked apart rule shares = let same = get_or-set_other s.words i 1 x 0 apart in

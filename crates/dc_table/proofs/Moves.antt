@@ -33,7 +33,7 @@ record There (k : Limits) (s : Seen) (h : List Request) (id : ℕ) (me : Place) 
   seat : get_elem? (views_of (knowns s.views)) id ≡ some (known_at me).view
   part : 0 < (known_at me).share.parts
 
--- what lies in the hands of a pass, where it has one thing
+-- what lies in the hands of a pass, if it has one thing
 abbrev box_in : Boxed → List (ℕ × Maybe Boxed) → Boxed
 box_in x [] = x
 box_in x ((i, None) ∷ cs) = x
@@ -42,7 +42,7 @@ box_in x ((i, Some y) ∷ cs) = y
 pub same_box : (cs : List (ℕ × Maybe Boxed)) (x y : Boxed) → cs ≡ (0, Some x) ∷ [] → cs ≡ (0, Some y) ∷ [] → x ≡ y
 same_box cs x y e f = sym (ap (box_in x) e) ∙ ap (box_in x) f
 
--- who got the lock after it had tried some times, got it since before
+-- a pass that got the lock after it had tried some times, got it since before
 pub took_since : (k m l : Known) (x : Guarded) → m ≡ record k { tries = m.tries } → k.tries ≤ m.tries → Took m l x → Took k l x
 took_since k m l x same more t = let first = t.tried in let later = t.later in let seen = ap (λ (z : Known). z.view.book.seen) same in record {
   words = t.words;

@@ -71,7 +71,7 @@ module _ {limit rows : ℕ} {passes : List Known} (S : Shares limit rows passes)
     whole = let f : Known → ℕ = weight S.top in let a = total_set f passes id k w at in let b = total_set f vs other l spent there' in let c = joined_weight S.top k.share l.share (S.few id k at) (S.few other l there) in let d = spent_weight S.top in let e = S.whole in omega arith;
   }
 
-  -- who has the whole knows that the others have no part of it
+  -- a pass that has the whole knows that the others have no part of it
   module _ (whole : IsWhole k.share) where
     all_mine : weight S.top k ≡ 2 ^ S.top
     all_mine = let le = S.few id k at in let e : k.share.halvings + (S.top - k.share.halvings) ≡ S.top = omega arith in

@@ -32,7 +32,7 @@ module _ {A : Type 0} (f : A → ℕ) where
   total_none [] zeros = refl
   total_none (x ∷ xs) zeros = let a = zeros 0 x refl in let b = total_none xs (λ j. zeros (suc j)) in omega arith
 
-  -- where only one counts
+  -- if only one counts
   pub total_only : (l : List A) (i : ℕ) (v : A) → get_elem? l i ≡ some v → ((j : ℕ) (w : A) → j ≢ i → get_elem? l j ≡ some w → f w ≡ 0) → total f l ≡ f v
   total_only [] i v e zeros = absurd (some-ne-none v (sym e))
   total_only (x ∷ xs) zero v e zeros = let is : f x ≡ f v = ap f (some-injective x v e) in let b = total_none xs (λ j w. zeros (suc j) w (λ h. omega arith)) in omega arith

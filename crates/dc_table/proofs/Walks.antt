@@ -118,7 +118,7 @@ module _ (k : Limits) (law : WalkersKeepTheRule) where
         ((λ same. absurd (other same)), λ ne. (omega arith, refl)),
       ))
 
--- so many words from a place on, of which one is the first
+-- this many words from a place on, of which one is the first
 from_so : (words : List ℕ) (k n m : ℕ) → n + 1 ≡ m → words_from words k m ≡ get_or words k 0 ∷ words_from words (suc k) n
 from_so words k n m is = let next : suc n ≡ m = omega arith in ap (words_from words k) (sym next)
 

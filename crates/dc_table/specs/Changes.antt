@@ -18,7 +18,7 @@ words_of p = (view p).hold.words
 abbrev pub tree_now : Pass → Tree
 tree_now p = tree_of (share p).limit (view p).hold.history
 
--- the view has recorded this call alone, at a point that is not before what it had seen; what it has seen then is not before that, and past it where the call altered the tree
+-- the view has recorded this call alone, at a point that is not before what it had seen; what it has seen then is not before that, and past it if the call altered the tree
 pub record Recorded (v w : View) (call : Request) (reply : Answer) (at : ℕ) : Type 0 where
   pub altered : Bool
   pub own : w.book.own ≡ v.book.own ++ record { call = call; reply = reply; at = at; altered = altered } ∷ []
@@ -33,7 +33,7 @@ pub record NothingNew (v w : View) : Type 0 where
   pub joined : w.book.joined ≡ v.book.joined
   pub later : v.book.seen ≤ w.book.seen
 
--- what the one who has just got the lock has seen
+-- what a pass that has just got the lock has seen
 pub record IsTaken (v : View) : Type 0 where
   pub early : length v.hold.history ≤ most
   pub seen : v.book.seen ≡ length v.hold.history

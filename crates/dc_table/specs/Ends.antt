@@ -7,7 +7,7 @@ use Rattle.dc_events.specs.Standing.{tree_of}
 use Rattle.dc_events.specs.Rule.{BookFits, view_hits, once_below}
 use Rattle.dc_table.specs.Shares.{Known, IsWhole}
 
--- it is the tree after a history of so many calls, in which all records of the pass stand; a pass with the whole share has
+-- it is the tree after a history of this many calls, in which all records of the pass stand; a pass with the whole share has
 -- one record for each call of the history, and its records are those of a run of one plain tree
 pub record Ends (limit : ℕ) (k : Known) (tree : Tree) (clock : ℕ) : Type 0 where
   pub history : List Request

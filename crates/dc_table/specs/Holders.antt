@@ -49,8 +49,8 @@ pub record Locked (p : Pass) (h : Holder) (x : Guarded) : Type 0 where
 abbrev pub TriedOnce : Pass → Pass → Type 0
 TriedOnce p q = (known q).tries ≡ (known p).tries + 1
 
--- another has the lock: the pass has tried, and has done and seen nothing
-pub record Missed (p q : Pass) : Type 0 where
+-- the pass found the lock held: it has tried once, and did and saw nothing
+pub record FoundHeld (p q : Pass) : Type 0 where
   pub same : IsSamePass p q
   pub idle : IsIdle q
   pub now : known q ≡ tried (known p)
@@ -66,7 +66,7 @@ pub record StaysAsIs (h g : Holder) : Type 0 where
   pub same : IsSamePass (pass_of h) (pass_of g)
   pub same_known : known (pass_of g) ≡ known (pass_of h)
 
--- a call that alters nothing can be answered by who gives back what fits
+-- a call that alters nothing can be answered by a holder that gives back what fits
 pub record MayAnswer (h : Holder) (x : Guarded) (call : Request) : Type 0 where
   pub home : Home (known (pass_of h)) x
   pub unaltered : CanAnswer (share (pass_of h)) (view (pass_of h)) call

@@ -26,7 +26,7 @@ Home k x = HomeFits k.share.limit k.share.rows k.view.hold.words k.view.hold.his
 abbrev pub rows_as : List ℕ → Guarded → RowState
 rows_as words x = record { words = words; slots = x.index; used = x.shrinker }
 
--- what the one who gets the lock learns, and how often it has tried by then
+-- what a pass that gets the lock learns, and how often it has tried by then
 pub record Took (k l : Known) (x : Guarded) : Type 0 where
   pub words : List ℕ
   pub history : List Request

@@ -33,7 +33,7 @@ is_retired Free = false
 is_retired Retired = true
 is_retired (Held key) = false
 
--- a row is odd where its key is one of these, else even, and then it fits its slot; it is retired exactly where its count is at its end
+-- a row is odd if its key is one of these, else even, and then it fits its slot; it is retired exactly if its count is at its end
 pub record At (t : Tree) (shut : Key → Type 0) (row : List ℕ) (slot : Slot) : Type 0 where
   pub odd : (key : Key) → slot ≡ Held key → shut key → IsOdd row
   pub even : ((key : Key) → slot ≡ Held key → shut key → ⊥) → IsEven row
@@ -47,7 +47,7 @@ OnlyOdd t rows words slots shut = (row : ℕ) → row < rows → At t shut (row_
 abbrev pub OfNone : Key → Type 0
 OfNone key = ⊥
 
--- a row has a key exactly where it is in use
+-- a row has a key exactly if it is in use
 abbrev pub Agree : List Slot → Listing → Type 0
 Agree slots used = (row : ℕ) → has_key (slot_of slots row) ≡ is_used used row
 
@@ -63,7 +63,7 @@ pub record Rest (t : Tree) (rows : ℕ) (words : List ℕ) (slots : List Slot) (
   pub fit : Fit rows words slots used
   pub rest : OnlyOdd t rows words slots OfNone
 
--- and none where the row's count would be its last
+-- and none if the row's count would be its last
 pub record MayStand (t : Tree) (table : List ℕ) (row : ℕ) (words : List ℕ) : Type 0 where
   pub fact : Option Fact
   pub spelled : Spells words fact

@@ -13,7 +13,7 @@ use Rattle.dc_table.specs.ViewCodes.{coded_view}
 use Rattle.dc_table.specs.RowStates.{RowState}
 use Rattle.dc_table.specs.RowCodes.{coded_rows}
 
--- so many parts of a whole that was halved so often, of a table with this limit of inodes and so many rows
+-- this many parts of a whole that was halved this often, of a table with this limit of inodes and this many rows
 pub record Share : Type 0 where
   pub limit : ℕ
   pub rows : ℕ
@@ -48,18 +48,18 @@ known_coded = code_by (View × (Share × (ℕ × (RowState × (RowState × List 
 abbrev pub with_view : Known → View → Known
 with_view k v = record k { view = v }
 
--- who knows l, and knew k, has not tried for the lock since, nor given it back
+-- a pass that knows l, and knew k, has not tried for the lock since, nor given it back
 pub record HasNotTried (k l : Known) : Type 0 where
   pub tries : l.tries ≡ k.tries
   pub got : l.got ≡ k.got
   pub left : l.left ≡ k.left
   pub past : l.past ≡ k.past
 
--- the holds of who has just given the lock back, with these before
+-- the holds of a pass that has just given the lock back, with these before
 abbrev pub one_more : Known → List LockHold → List LockHold
 one_more k past = record { got = k.got; left = k.left } ∷ past
 
--- who knows l, and knew k, has had the lock once since, and given it back
+-- a pass that knows l, and knew k, has had the lock once since, and given it back
 abbrev pub HadOnce : Known → Known → Type 0
 HadOnce k l = l.past ≡ one_more l k.past
 
@@ -82,11 +82,11 @@ no_share = record { limit = 0; rows = 0; parts = 0; halvings = 0 }
 abbrev pub IsWhole : Share → Type 0
 IsWhole s = s.parts ≡ 2 ^ s.halvings
 
--- what is known of the rows by who never had the lock
+-- what a pass knows of the rows that never had the lock
 abbrev pub no_rows : RowState
 no_rows = record { words = []; slots = []; used = listing 0 [] map.empty }
 
--- nobody who did, saw or tried anything, with this share
+-- a pass that did, saw and tried nothing, with this share
 abbrev pub unused : Share → Known
 unused s = record { view = nobody; share = s; tries = 0; got = no_rows; left = no_rows; past = [] }
 

@@ -1,4 +1,4 @@
-//! Who has the lock, and who walks without it.
+//! The pass that has the lock, and the table for walks without it.
 
 ghost use Rattle.dc_table.specs.Passes.{Fits, IsHolder};
 
@@ -14,8 +14,8 @@ pub struct Holder<'t> {
     ghost has_lock: { IsHolder pass.now },
 }
 
-/// The table for walks without the lock. It has the steps of a walk alone: who has a reader and a pass
-/// can't get the lock.
+/// The table for walks without the lock. It has the steps of a walk alone: a reader and a pass
+/// don't get the lock.
 #[derive(Clone, Copy)]
 pub struct Reader<'t> {
     pub(crate) shared: &'t Shared,

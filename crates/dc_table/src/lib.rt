@@ -3,7 +3,7 @@
 //! # What the words hold, and who writes them when
 //!
 //! Word 0 is the clock: how many calls have altered the tree. The holder of the lock alone raises it, by
-//! one, at the commit of a change. Anybody may load it; a look-up without the lock takes effect at such a
+//! one, at the commit of a change. Any pass may load it; a look-up without the lock takes effect at such a
 //! load, its pivot.
 //!
 //! Word 1 is the lock: 1 while a pass has it, else 0. A pass gets it by one compare-exchange from 0 to 1,
@@ -24,9 +24,9 @@
 //!
 //! # Who may read
 //!
-//! Whoever has a pass may load any word at any time. What was read of a row counts only where its count
-//! is even before the first of its words is read and the same after the pivot; all rows of a walk for
-//! which this is so were true together at the pivot.
+//! Any pass may load any word at any time. What was read of a row counts only if its count is even before
+//! the first of its words is read and the same after the pivot; all rows of a walk for which this is so
+//! were true together at the pivot.
 //!
 //! # Memory order
 //!
@@ -37,8 +37,11 @@
 //!
 //! `Holder` has the steps of the one that has the lock, `Reader` those of a walk without it, and both take
 //! them for a `Pass`. `Shared` makes them: `lock` and `try_lock` the one, `reader` the other. Else it has
-//! its beginning and its end, its sizes and counts, how passes are cut and put together, `learn`, which
-//! loads the clock, and `wake`, which ends the sleep of one who waits for the lock.
+//! its beginning and its end, its sizes and counts, how passes are cut and put together, and `learn`, which
+//! loads the clock.
+//!
+//! Each step that frees the lock takes a `Wakes`, which says whether threads sleep until it is free: it is
+//! `Sleepers` for a table on which any thread calls `lock`, else `Nobody`.
 #![tactic(auto)]
 
 mod holder;
@@ -48,6 +51,7 @@ mod shared;
 mod sheet;
 mod steps;
 mod table;
+mod wakes;
 mod walking;
 
 pub use dc_names::{MOST_COUNT, MakeFault};
@@ -55,6 +59,7 @@ pub use holder::{Holder, Reader};
 pub use shared::{Counts, Shared};
 pub use sheet::Sheet;
 pub use table::{Guarded, Limits, Pass, Protocol};
+pub use wakes::{Nobody, Sleepers, Wakes};
 
 /// The word that counts the changes.
 pub(crate) const CLOCK: usize = 0;

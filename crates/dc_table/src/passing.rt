@@ -43,7 +43,7 @@ impl Guarded {
 
 impl Shared {
     /// A table with four empty rows in each bucket, over the root directory alone, and its first pass,
-    /// which has done and seen nothing. `BadSize` where buckets are no power of two from 1 to 1,024, or
+    /// which has done and seen nothing. `BadSize` if buckets are no power of two from 1 to 1,024, or
     /// the limit of live inodes, the root among them, isn't from 1 to 1,048,576.
     pub fn new(alloc: Global, buckets: u64, max_inodes: u64) -> Result<(Shared, Pass), MakeFault>
         ensures made { IfOk result (λ r. Fits r.0 r.1 × IsIdle r.1) }
@@ -152,7 +152,7 @@ impl Shared {
     }
 
     /// Ends the table: the tree, and how many calls altered it, are those of a history in which the
-    /// records of the pass stand. `None` where another pass has the lock and so the tree; never where
+    /// records of the pass stand. `None` if another pass has the lock and so the tree; never if
     /// this one has the whole share.
     #[must_use]
     pub fn close(self, pass: Pass) -> Option<Guarded>

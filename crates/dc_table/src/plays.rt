@@ -79,7 +79,7 @@ impl<C: Asked> Play<Option<Box<Guarded>>, Sheet> for Answer<C> {
     ghost then = { answered_as C.call };
 }
 
-/// The count of a row is noted, where it is even.
+/// The count of a row is noted, if it is even.
 pub struct Note<C> {
     of: PhantomData<C>,
 }

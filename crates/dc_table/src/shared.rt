@@ -10,7 +10,7 @@ use std::alloc::Global;
 use std::sync::atomic::AtomicU64;
 
 /// What a table has counted so far. The counts are kept beside the words: nothing rests on them, and no
-/// clause tells of them.
+/// clause speaks of them.
 #[derive(Clone, Copy, Debug, PartialEq, Eq)]
 pub struct Counts {
     /// How many rows have lost their key to another. Rows that `shrink` emptied aren't among them.

@@ -6,7 +6,7 @@ ghost use Rattle.dc_events.specs.Rows.{base_of};
 ghost use Rattle.dc_plain.specs.Requests.{request_of};
 ghost use Rattle.dc_plain.specs.Runs.{alters};
 ghost use Rattle.dc_names.specs.declared.limits.TheConstants.{ROW_WORDS as row_words};
-ghost use Rattle.dc_table.specs.Holders.{pass_of, answered_by, committed_by, next_count, Freed, Locked, MayAnswer, Missed, Raises, StaysAsIs, StaysHeld, TriedOnce};
+ghost use Rattle.dc_table.specs.Holders.{pass_of, answered_by, committed_by, next_count, Freed, Locked, MayAnswer, FoundHeld, Raises, StaysAsIs, StaysHeld, TriedOnce};
 ghost use Rattle.dc_table.specs.Passes.{known, view, share, Fits, IsSamePass, IsIdle, IsHolder, CanShut, CanPut, CanOpen, CanCommit};
 ghost use Rattle.dc_table.specs.Plays.{Took, Home};
 ghost use Rattle.dc_table.specs.Walking.{HasNoted, IsTrueNow};
@@ -15,6 +15,7 @@ use crate::holder::Holder;
 use crate::plays::{Answer, Asked, Commit, Compare, Give, Put, Raise, Take};
 use crate::shared::Shared;
 use crate::table::{Guarded, Pass};
+use crate::wakes::Wakes;
 use crate::{CLOCK, FEWEST_PAUSES, FIRST_ROW, FREE, LOCK, MOST_DOUBLINGS, MOST_LOOKS, TAKEN};
 use dc_events::events_keep_the_rule;
 use dc_plain::Call;
@@ -24,7 +25,7 @@ use std::marker::Brand;
 use std::sync::Wait;
 use std::sync::atomic::Ordering::{Relaxed, SeqCst};
 
-/// Lets the time of so many pauses of the processor go by.
+/// Lets the time of this many pauses of the processor go by.
 fn pause(times: u64) {
     for _ in 0..times {
         hint::spin_loop();
@@ -39,7 +40,7 @@ impl Shared {
         ensures taken { IfSome result (λ guarded.
             IsHolder pass.new × Took (known pass.old) (known pass.new) guarded.value) }
         ensures once { TriedOnce pass.old pass.new }
-        ensures held { IfNone result (Missed pass.old pass.new) }
+        ensures held { IfNone result (FoundHeld pass.old pass.new) }
     {
         events_keep_the_rule();
         if self
@@ -71,7 +72,8 @@ impl Shared {
         unreachable!()
     }
 
-    /// Tries to get the lock with what it guards, and never waits. Where another has it the pass comes back.
+    /// Tries to get the lock with what it guards, and never waits. If another pass has it, this one comes
+    /// back.
     #[must_use]
     pub fn try_lock<'t>(
         &'t self,
@@ -82,7 +84,7 @@ impl Shared {
             (r.0.pass.ghost_name ≡ pass.entry.ghost_name) × Locked pass.old r.0 r.1.value) }
         ensures once { IfOk result (λ r. TriedOnce pass.old (pass_of r.0)) }
         ensures held { IfErr result (λ back.
-            (back.ghost_name ≡ pass.entry.ghost_name) × Missed pass.old back.now) }
+            (back.ghost_name ≡ pass.entry.ghost_name) × FoundHeld pass.old back.now) }
     {
         match self.try_take(pass) {
             Some(guarded) => Ok((Holder { shared: self, pass }, guarded)),
@@ -117,22 +119,12 @@ impl Shared {
 
     /// Sleeps while the lock is held.
     fn wait<R: Wait>(&self, rt: &R) {
-        // Who gave the lock back and then saw no sleeper wakes nobody. It sees each that came before, and
-        // one that comes later finds the lock free and doesn't sleep.
+        // A giver that sees no sleeper, once the lock is free, wakes nobody. It sees each that counted itself
+        // before; one that does so later finds the lock free, and doesn't sleep.
         self.waiting.fetch_add(1, SeqCst);
         self.sleeps.fetch_add(1, Relaxed);
         self.table.shared.park(rt, LOCK, TAKEN as u32);
         self.waiting.fetch_sub(1, SeqCst);
-    }
-
-    /// Wakes one of those who wait for the lock, if there are any. Who gives the lock back of a table on
-    /// which passes wait calls this afterwards.
-    pub fn wake(&self) {
-        // A giver that looked for sleepers before it freed the lock would miss one that came between, who
-        // then sleeps for ever. So the lock is free first, and the count is read after.
-        if self.waiting.load(SeqCst) > 0 {
-            self.table.shared.wake_one(LOCK);
-        }
     }
 
     /// Where a word of a row stands in the table.
@@ -148,9 +140,8 @@ impl Shared {
 }
 
 impl<'t> Holder<'t> {
-    /// Gives the lock back with what it guards, and hands the pass back. It wakes nobody: `Shared::wake`
-    /// does, afterwards.
-    pub fn give(self, guarded: Box<Guarded>) -> &'t mut Pass
+    /// Gives the lock back with what it guards, wakes a thread that waits for it, and hands the pass back.
+    pub fn give<W: Wakes>(self, guarded: Box<Guarded>) -> &'t mut Pass
         requires home { Home (known (pass_of self)) guarded.value }
         ensures same_reference { result.ghost_name ≡ self.entry.pass.ghost_name }
         ensures freed { Freed self.entry guarded.value result.now }
@@ -161,21 +152,24 @@ impl<'t> Holder<'t> {
         // The slot is filled before the lock is free: turned round, the next holder would find it empty.
         shared.table.shared.exchange(pass, 0, Some(guarded));
         shared.table.shared.store::<Give>(pass, LOCK, FREE);
+        // After the store: a sleeper that was woken before it would find the lock held, and sleep on with
+        // nobody left to wake it.
+        W::wake(shared);
         pass
     }
 
-    /// Gives the lock back with what it guards, answers a call that alters nothing, and hands the pass back.
-    /// It wakes nobody, as `give`.
-    pub fn answer(self, guarded: Box<Guarded>, call: &Call<'_>) -> &'t mut Pass
+    /// Gives the lock back with what it guards, answers a call that alters nothing, wakes a thread that
+    /// waits for the lock, and hands the pass back.
+    pub fn answer<W: Wakes>(self, guarded: Box<Guarded>, call: &Call<'_>) -> &'t mut Pass
         requires may { MayAnswer self guarded.value (request_of call.now) }
         ensures same_reference { result.ghost_name ≡ self.entry.pass.ghost_name }
         ensures freed { Freed self.entry guarded.value result.now }
         ensures view { view result.now ≡ answered_by (pass_of self.entry) (request_of call.now) }
     {
-        self.answer_as::<Brand>(guarded, call)
+        self.answer_as::<Brand, W>(guarded, call)
     }
 
-    fn answer_as<C: Asked>(self, guarded: Box<Guarded>, call: &Call<'_>) -> &'t mut Pass
+    fn answer_as<C: Asked, W: Wakes>(self, guarded: Box<Guarded>, call: &Call<'_>) -> &'t mut Pass
         requires call { C.call ≡ request_of call.now }
         requires may { MayAnswer self guarded.value (request_of call.now) }
         ensures same_reference { result.ghost_name ≡ self.entry.pass.ghost_name }
@@ -187,6 +181,8 @@ impl<'t> Holder<'t> {
         // The slot is filled before the lock is free: turned round, the next holder would find it empty.
         shared.table.shared.exchange(pass, 0, Some(guarded));
         shared.table.shared.store::<Answer<C>>(pass, LOCK, FREE);
+        // After the store, as in `give`.
+        W::wake(shared);
         pass
     }
 

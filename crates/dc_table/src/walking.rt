@@ -22,7 +22,7 @@ impl Reader<'_> {
     // A count is loaded before any other word of its row, and again after the pivot; the order of the
     // steps is the walk's own.
 
-    /// Notes the count of a row, where it is even: `first` begins the walk of the call. An odd count is
+    /// Notes the count of a row, if it is even: `first` begins the walk of the call. An odd count is
     /// an `Err`, and isn't noted.
     pub fn note(&self, pass: &mut Pass, call: &Call<'_>, row: u64, first: bool) -> Result<u64, u64>
         requires can { IsWalkerAt (table_of self.now) pass.old row
@@ -93,7 +93,7 @@ impl Reader<'_> {
     }
 
     /// Whether the row of note `i`, the first being 0, still has the count that was noted. An `Err` has
-    /// the counts noted and found. Where the notes that were checked answer the call, it is recorded.
+    /// the counts noted and found. If the notes that were checked answer the call, it is recorded.
     pub fn check(&self, pass: &mut Pass, i: u64, row: u64, noted: u64) -> Result<(), (u64, u64)>
         requires can { IsWalkerAt (table_of self.now) pass.old row
             × CanCheck (view pass.old) i row noted }

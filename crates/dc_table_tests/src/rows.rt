@@ -9,7 +9,7 @@ use dc_index::HashedKey;
 use dc_plain::{Call, Key, Label, Reply};
 use dc_rows::{Guard, change, pin, shrink, unpin_all};
 use dc_store::Store;
-use dc_table::{Pass, Shared};
+use dc_table::{Pass, Shared, Sleepers};
 use std::alloc::Global;
 use std::sync::Wait;
 use std::test::Fail;
@@ -173,13 +173,13 @@ fn a_guard_shows_the_tree(rt: HostRuntime) -> Result<(), Fail> {
     assert!(rt; row == Some(0));
     assert!(rt; guard.store().live() == 1 && guard.clock() == 0);
     guard.unpin(0);
-    guard.give();
+    guard.give::<Sleepers>();
     let mut guard = Guard::lock(&shared, &rt, &mut p);
     let row = guard.pin(rt.alloc(), &root).expect(&rt, "memory");
     assert!(rt; row == Some(0));
     guard.unpin_all(&[0]);
     assert!(rt; guard.shrink(1) == 1);
-    let (_back, made) = guard.change(rt.alloc(), &mkdir(b"/a"));
+    let (_back, made) = guard.change::<Sleepers>(rt.alloc(), &mkdir(b"/a"));
     assert!(rt; matches!(made, Ok((Reply::Done(2), 0))));
     Ok(())
 }

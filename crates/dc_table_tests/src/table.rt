@@ -6,7 +6,7 @@ ghost use Rattle.dc_table.specs.Passes.{Fits, IsIdle};
 
 use crate::calls::look;
 use dc_store::Store;
-use dc_table::{MakeFault, Pass, Shared};
+use dc_table::{MakeFault, Nobody, Pass, Shared, Sleepers};
 use std::alloc::Global;
 
 /// Buckets and inodes of which no table is made.
@@ -67,7 +67,7 @@ fn is_held(shared: &Shared, pass: &mut Pass) -> bool
 {
     match shared.try_lock(pass) {
         Ok((holder, guarded)) => {
-            holder.give(guarded);
+            holder.give::<Nobody>(guarded);
             false
         }
         Err(_back) => true,
@@ -83,7 +83,7 @@ fn the_lock_is_got_once(rt: HostRuntime) {
         Err(_back) => panic!(rt; "the lock is free"),
     };
     assert!(rt; is_held(&shared, &mut q) && guarded.store.live() == 1);
-    holder.give(guarded);
+    holder.give::<Nobody>(guarded);
 }
 
 /// Whether a walk by hand is before the first change, over two buckets of four rows.
@@ -110,6 +110,6 @@ fn a_walk_by_hand_is_recorded(rt: HostRuntime) {
     let (shared, mut p) = Shared::new(rt.alloc(), 2, 16).expect(&rt, "memory");
     assert!(rt; is_before_changes(&shared, &mut p));
     let (holder, guarded) = shared.lock(&rt, &mut p);
-    holder.give(guarded);
+    holder.give::<Sleepers>(guarded);
     assert!(rt; clock_of(shared, p) == Some(0));
 }

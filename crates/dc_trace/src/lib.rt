@@ -4,11 +4,12 @@
 mod form;
 mod read;
 mod search;
+mod sets;
 mod state;
 mod timed;
 mod write;
 
 pub use read::read_trace;
-pub use search::{Outcome, find_order};
+pub use search::{Limits, Outcome, find_order};
 pub use timed::{Timed, TraceFault};
 pub use write::write_record;

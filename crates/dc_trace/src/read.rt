@@ -10,6 +10,9 @@ use std::str;
 /// What stands between a command and its reply.
 const SIGN: &[u8] = b" = ";
 
+/// The most words of a command: its session, `rename2`, its flags and two paths.
+const MOST_WORDS: usize = 5;
+
 /// A number without a sign or a needless zero in front.
 fn number_in(text: &[u8]) -> Option<u64> {
     let [first, rest @ ..] = text else {
@@ -37,7 +40,7 @@ fn reply_in(alloc: Global, text: &[u8]) -> Result<Reply, LineFault> {
     Ok(stamped.reply)
 }
 
-/// The command before a sign at this place, and what stands behind the sign. `None` where there is no
+/// The command before a sign at this place, and what stands behind the sign. `None` if there is no
 /// sign, or no command before it.
 fn command_before<'a>(
     alloc: Global,
@@ -58,8 +61,11 @@ fn command_before<'a>(
 }
 
 /// A command and its reply. A word may be `=` too, but a command has only one number of words.
+// A line may have a sign at every fourth byte, and each is tried by reading all that stands before it. So
+// only signs that stand behind as many words as a command may have are tried.
 fn answered_in(alloc: Global, text: &[u8]) -> Result<(Command, Reply), LineFault> {
-    for place in 0..text.len() {
+    let spaces = text.iter().enumerate().filter(|(_, byte)| **byte == b' ');
+    for (place, _) in spaces.take(MOST_WORDS) {
         if let Some((command, behind)) = command_before(alloc, text, place)? {
             let reply = reply_in(alloc, behind)?;
             return Ok((command, reply));

@@ -111,7 +111,7 @@ impl Want<'_> {
     }
 }
 
-/// Whether these are the names that were told.
+/// Whether these are the names that were listed.
 fn are_names(names: &[&[u8]], told: &[Vec<u8>]) -> bool {
     let told = told.iter().map(|name| name.as_slice());
     told.eq(names.iter().copied())

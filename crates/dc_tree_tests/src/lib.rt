@@ -1,5 +1,5 @@
-//! Tests of the plain tree, walks, stores and plans, of what no clause there says. They stand in a crate
-//! of their own, so that those below are proved once.
+//! Tests of the plain tree, walks, stores and plans, for what no clause there says. They have a crate of
+//! their own, so that the crates below are proved only once.
 #![tactic(auto)]
 
 #[cfg(test)]

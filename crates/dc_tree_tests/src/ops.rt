@@ -40,7 +40,7 @@ fn answered<S: Store>(alloc: Global, store: &mut S, call: &Call) -> Result<Reply
 /// A call, and the reply to it.
 type Row = (Ask<'static>, Want<'static>);
 
-/// Makes each call, and fails where one has another reply.
+/// Makes each call, and fails if one has another reply.
 fn answer_all<S: Store>(alloc: Global, store: &mut S, rows: &[Row]) -> Result<(), Fail> {
     for (i, (ask, want)) in rows.iter().enumerate() {
         if !want.is(&answered(alloc, store, &ask.call())?) {
@@ -60,7 +60,7 @@ fn answer_by_map(alloc: Global, rows: &[Row]) -> Result<(), Fail> {
     answer_all(alloc, &mut MapStore::new(alloc)?, rows)
 }
 
-/// Makes each call on either store, and fails where one has another reply.
+/// Makes each call on either store, and fails if one has another reply.
 fn answer_by_both(alloc: Global, rows: &[Row]) -> Result<(), Fail> {
     answer_by_slab(alloc, rows)?;
     answer_by_map(alloc, rows)
@@ -145,7 +145,7 @@ fn touches<S: Store>(
     Ok(same)
 }
 
-/// Makes the changes, and fails where one touches other keys.
+/// Makes the changes, and fails if one touches other keys.
 fn touch_all(alloc: Global) -> Result<(), Fail> {
     let mut store = SlabStore::new(alloc)?;
     for (ask, keys) in KEYS.iter() {

@@ -13,7 +13,8 @@ mod facts;
 /// A call, the reply to it, and whether it alters the tree.
 type Row = (Ask<'static>, Want<'static>, bool);
 
-/// Makes each call on a new tree, and fails where one has another reply or alters the tree otherwise.
+/// Makes each call on a new tree, and fails if one has another reply, or alters the tree when it should
+/// not, or the other way round.
 fn answer_all(alloc: Global, max_inodes: u64, rows: &[Row]) -> Result<(), Fail>
     requires least { 1 ≤ max_inodes }
     requires most { max_inodes ≤ 1048576 }
@@ -70,7 +71,7 @@ fn answers_each_call(rt: HostRuntime) -> Result<(), Fail> {
     answer_all(rt.alloc(), 1, &NO_SPACE)
 }
 
-/// Whether the place of a name in a directory, and its key, are told by both.
+/// Whether directory and name give the place of the name, and its key.
 fn is_told(dir: u64, name: Name<'_>) -> bool {
     let last = Last::Normal(name);
     let at = Where {

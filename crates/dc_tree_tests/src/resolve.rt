@@ -10,7 +10,7 @@ mod walks;
 
 use arrayvec::ArrayVec;
 use dc_names::{Kind, Part, parse};
-use dc_resolve::{Finder, Stop};
+use dc_resolve::Finder;
 
 /// A name in a directory, and where it leads.
 type Row<'a> = (u64, &'a [u8], (u64, Kind));
@@ -52,18 +52,20 @@ struct Table<'a> {
 /// A question: a number with the first byte of a name, `.` for dot-dot, or `@` for a text.
 type Asked = (u64, u8);
 
+/// The text of a link is none, or no path.
+#[derive(Drop)]
+struct NoPath;
+
 /// Answers from a table, and notes what is asked: a name by its first byte, a text as `@`.
 #[derive(Drop)]
 struct Fixed<'a> {
     table: Table<'a>,
     asked: ArrayVec<Asked, 32>,
-    stopped: bool,
 }
 
 impl Fixed<'_> {
     fn note(&mut self, number: u64, what: u8)
         ensures table { self.new.table ≡ self.old.table }
-        ensures stopped { self.new.stopped ≡ self.old.stopped }
     {
         let _ = self.asked.try_push((number, what));
     }
@@ -79,11 +81,13 @@ fn first_byte(part: Part<'_>) -> u8 {
 impl<'a> Finder for Fixed<'a> {
     type Text = &'a [u8];
 
+    type Stop = NoPath;
+
     ghost said = { λ fixed. said_by fixed.table.rows.now fixed.table.parents.now fixed.table.texts.now };
 
-    ghost has_stopped = { λ fixed. fixed.stopped };
-
     ghost becomes = { λ f g. g.table ≡ f.table };
+
+    ghost stops = { λ f g why. g.table ≡ f.table };
 
     ghost may_ask = { λ f number label. Unit {0} };
 
@@ -91,7 +95,7 @@ impl<'a> Finder for Fixed<'a> {
 
     ghost link_bytes = { 0 };
 
-    fn find(&mut self, dir: u64, part: Part<'_>) -> Result<Option<(u64, Kind)>, Stop> {
+    fn find(&mut self, dir: u64, part: Part<'_>) -> Result<Option<(u64, Kind)>, NoPath> {
         self.note(dir, first_byte(part));
         match part {
             Part::Normal(name) => Ok(target_in(self.table.rows, dir, name.bytes())),
@@ -100,20 +104,19 @@ impl<'a> Finder for Fixed<'a> {
         }
     }
 
-    fn link_text(&mut self, number: u64) -> Result<&'a [u8], Stop> {
+    fn link_text(&mut self, number: u64) -> Result<&'a [u8], NoPath> {
         self.note(number, b'@');
         match text_in(self.table.texts, number) {
             Some(text) if parse(text).is_ok() => Ok(text),
-            _ => {
-                self.stopped = true;
-                Err(Stop)
-            }
+            _ => Err(NoPath),
         }
     }
 
     ghost stays = { λ f. refl };
 
     ghost goes_on = { λ f g h p q. q ∙ p };
+
+    ghost stops_later = { λ f g h why p q. q ∙ p };
 
     ghost keeps = { λ f g p. subst (λ t. Extends (said_by f.table.rows.now f.table.parents.now f.table.texts.now) (said_by t.rows.now t.parents.now t.texts.now)) (sym p) (record { entry = λ d label found told. told; text = λ n bytes told. told }) };
 
@@ -179,6 +182,5 @@ fn new_fixed<'a>(
             texts,
         },
         asked: ArrayVec::new(),
-        stopped: false,
     }
 }

@@ -67,7 +67,7 @@ fn gives_way<S: Store>(store: &S, to: u64, new: Name<'_>, number: u64) -> bool
     }
 }
 
-/// Adds an entry, or answers `None` where that may not be.
+/// Adds an entry, or answers `None` if it may not be added.
 fn add_to<S: Store>(
     store: &mut S,
     alloc: Global,
@@ -82,7 +82,7 @@ fn add_to<S: Store>(
     Ok(Some(number))
 }
 
-/// Drops an entry. It answers whether that may be.
+/// Drops an entry. Answers whether it may be dropped.
 fn drop_from<S: Store>(store: &mut S, dir: u64, name: Name<'_>) -> bool {
     match store.seek(dir, name) {
         Some((number, place)) if !is_full(store, number) => {
@@ -93,7 +93,7 @@ fn drop_from<S: Store>(store: &mut S, dir: u64, name: Name<'_>) -> bool {
     }
 }
 
-/// Drops an entry by the place of another. It answers whether that may be.
+/// Drops an entry by the place of another. Answers whether it may be dropped.
 fn drop_by<S: Store>(store: &mut S, dir: u64, name: Name<'_>, other: Name<'_>) -> bool {
     let Some((_, place)) = store.seek(dir, other) else {
         return false;
@@ -107,7 +107,7 @@ fn drop_by<S: Store>(store: &mut S, dir: u64, name: Name<'_>, other: Name<'_>) -
     }
 }
 
-/// Moves an entry, a directory into the root alone. It answers whether that may be.
+/// Moves an entry, a directory only into the root. Answers whether it may be moved.
 fn move_to<S: Store>(
     store: &mut S,
     alloc: Global,
@@ -138,7 +138,7 @@ enum To<'a> {
 }
 
 impl<'a> To<'a> {
-    /// The new entry, as the stores take it. A text that is no path counts as want of memory.
+    /// The new entry, as the stores take it. A text that is no path counts as out of memory.
     fn new_entry(self) -> Result<New<'a>, NoMemory> {
         match self {
             To::Dir => Ok(New::Dir),
@@ -274,8 +274,8 @@ fn fails_at(alloc: Global, steps: &[Step<'_>]) -> Result<Option<usize>, NoMemory
     fails_in(&mut new_slab(alloc)?, alloc, steps)
 }
 
-/// Whether a step answers so. One that is refused memory is taken once more, and answers then as if it
-/// hadn't been.
+/// Whether a step answers so. One that is refused memory is taken once more, and then answers as if it
+/// had never been refused.
 fn answers_again<S: Store>(
     store: &mut S,
     alloc: Global,
@@ -416,7 +416,7 @@ static MOVED_DIRECTORY: [Step<'static>; 16] = [
     Step::Add(2, b"b", To::Dir, Some(3)),
     Step::Add(3, b"f", To::File, Some(4)),
     Step::Add(1, b"f", To::Dir, Some(5)),
-    // A directory in which an entry stands gives no way, an empty one does.
+    // A directory with an entry doesn't give way, an empty one does.
     Step::Move((1, b"f"), (1, b"a"), false),
     Step::Move((2, b"b"), (1, b"f"), true),
     Step::Find(2, b"b", None),

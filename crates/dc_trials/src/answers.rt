@@ -91,7 +91,7 @@ impl Want<'_> {
     }
 }
 
-/// Whether these are the names that were told.
+/// Whether these are the names that were listed.
 fn are_names(names: &[&[u8]], told: &[Vec<u8>]) -> bool {
     for (at, name) in told.iter().enumerate() {
         match names.get(at) {

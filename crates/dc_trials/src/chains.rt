@@ -140,7 +140,7 @@ fn is_followed<R: Threads + Wait + Sync>(
     Ok(made && look_in_a_thread(rt, alloc, cache, pass) == Some(None))
 }
 
-/// As many texts are gone over one within another as links are followed, and each is a local of its call.
+/// As many texts are walked one within another as links are followed, and each is a local of its call.
 /// They lead on in the directory of the links, or through one beside them.
 // `rt try` doesn't optimise, so under it the walks by rows run out of this stack of 128 KiB (256 are enough).
 // As `rt test` and `rt ci` build this test, they need 48 (measured).

@@ -88,7 +88,7 @@ fn pairs_an_input_with_its_output(rt: HostRuntime) -> Result<(), Fail> {
     Ok(())
 }
 
-/// A stale absence behind a barrier is legal for who knows no phases.
+/// A stale absence behind a barrier is legal for a checker that knows no phases.
 #[test]
 fn phases_are_judged_beside(rt: HostRuntime) -> Result<(), Fail> {
     let alloc = rt.alloc();

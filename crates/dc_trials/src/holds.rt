@@ -4,8 +4,8 @@ use crate::answers::mkdir;
 use crate::steps::{Act, call_of};
 use dc_cache::{Follow, ROOT, Reply};
 use dc_hold::{
-    Found, Hold, Lost, Status, flags_of, follow_of, lost_of, put_names, put_text, told_change,
-    told_fast, told_read, told_tried,
+    Found, Gone, Hold, Status, flags_of, follow_of, put_names, put_text, told_change, told_fast,
+    told_gone, told_read, told_tried,
 };
 use std::alloc::Global;
 
@@ -83,15 +83,15 @@ fn is_made(alloc: Global, hold: &mut Hold, act: Act<'_>) -> bool {
     told_change(&hold.try_change(alloc, &call_of(act))).status == Status::Done
 }
 
-/// What a change tells of what its name lost, or `None` where the lock is held.
-fn lost(alloc: Global, hold: &mut Hold, act: Act<'_>) -> Option<Lost> {
+/// What a change tells of what its name lost, or `None` if the lock is held.
+fn lost(alloc: Global, hold: &mut Hold, act: Act<'_>) -> Option<Gone> {
     let (_made, gone) = hold.try_change_telling(alloc, &call_of(act))?;
-    Some(lost_of(gone))
+    Some(told_gone(gone))
 }
 
 /// Whether a change tells the number, the kind and the last of what its name lost.
 fn loses(alloc: Global, hold: &mut Hold, act: Act<'_>, number: u64, kind: u32, last: u32) -> bool {
-    let want = Lost { number, kind, last };
+    let want = Gone { number, kind, last };
     lost(alloc, hold, act) == Some(want)
 }
 
@@ -106,7 +106,7 @@ fn what_a_name_lost_is_told(rt: HostRuntime) {
     }
 }
 
-/// Puts the names in the root into a room, and says how much room they want. `None` where they aren't told.
+/// Puts the names in the root into a room, and says how much room they need. `None` if they aren't listed.
 fn put_root(alloc: Global, hold: &mut Hold, room: &mut [u8]) -> Option<u64> {
     let tried = hold.try_list(alloc, ROOT, b"/");
     if told_read(&tried).status != Status::Done {

@@ -1,7 +1,7 @@
-//! Trials of names and lines, the cache, the server and the checker: tests alone. One pass takes steps whose
-//! answers come from the rules of POSIX, threads change one table and are judged by the checker or by what can't
-//! be, and holds are told in numbers. Tests of lines alone are files of examples/, as are sessions at once, whose
-//! replies the checker judges.
+//! Tests of names and lines, the cache, the server and the checker, and nothing else. One pass takes steps whose
+//! answers come from the rules of POSIX. Threads change one cache, and the checker judges their answers, or only
+//! one answer can come. Holds answer in numbers. Tests of lines alone are files of examples/, and so are
+//! those of several sessions at once, whose replies the checker judges.
 #![tactic(auto)]
 
 #[cfg(test)]

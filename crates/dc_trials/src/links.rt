@@ -1,4 +1,4 @@
-//! What the rows tell of a `readlink`, beside the reply that it has.
+//! What the rows say of a `readlink`, beside its reply.
 
 ghost use Rattle.dc_cache.specs.Passes.{Fits};
 
@@ -90,7 +90,7 @@ static LOOKED_UP: [Step<'static>; 1] = [Step::Look(b"/s", Follow::No, THE_LINK, 
 
 const THE_LINK: Want<'static> = Want::Found(2, Kind::Link);
 
-/// Whether the rows tell that a link is one after one change, or `None` where they tell nothing of it.
+/// Whether the rows say that a link is one after one change, or `None` if they say nothing of it.
 fn is_link(cache: &Dcache, pass: &mut Pass, text: &[u8]) -> Option<bool>
     requires { Fits cache.now pass.old }
     ensures { Fits cache.now pass.new }

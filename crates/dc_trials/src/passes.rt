@@ -17,7 +17,7 @@ static BAD_SIZES: [(u64, u64); 5] = [(0, 16), (3, 16), (2048, 16), (1, 0), (1, 1
 
 static GOOD_SIZES: [(u64, u64); 2] = [(1, 1), (1024, 1_048_576)];
 
-/// Whether a cache is made of so many buckets and inodes. `None` where memory is refused.
+/// Whether a cache of this many buckets and inodes is made. `None` if memory is refused.
 fn is_made(alloc: Global, buckets: u64, max_inodes: u64) -> Option<bool> {
     match Dcache::new(alloc, buckets, max_inodes) {
         Ok(_) => Some(true),
@@ -54,13 +54,13 @@ static MADE_AND_FOUND: [Step<'static>; 3] = [
     Step::Fast(b"/a", Want::Found(2, Kind::Dir), 1),
 ];
 
-/// Plays the steps over a new cache with so many buckets.
+/// Plays the steps over a new cache with this many buckets.
 fn play_with_buckets<R: Wait>(rt: &R, alloc: Global, buckets: u64) -> Result<(), Fail> {
     let (cache, mut pass) = Dcache::with_buckets(alloc, buckets, 16)?;
     play(rt, alloc, &cache, &mut pass, &MADE_AND_FOUND)
 }
 
-/// Whether so many buckets or inodes are refused.
+/// Whether this many buckets or inodes are refused.
 fn are_refused(alloc: Global, buckets: u64, max_inodes: u64) -> bool {
     let made = Dcache::with_buckets(alloc, buckets, max_inodes);
     matches!(made, Err(MakeFault::BadSize))
@@ -102,7 +102,7 @@ fn learns_of_one(cache: &Dcache, pass: &mut Pass) -> bool
     cache.learn(pass, 2) == Err(NotYet(1)) && cache.learn(pass, 1) == Ok(())
 }
 
-/// A pass makes a change, of which another learns. It says whether that went as it should.
+/// One pass makes a change, and another learns of it. Says whether that went as it should.
 fn is_learnt<R: Wait>(
     rt: &R,
     alloc: Global,
@@ -149,7 +149,7 @@ static EMPTIED: [Step<'static>; 9] = [
     Step::Shrink(2, 1),
 ];
 
-/// A walk by rows that are there is no use of them, so the row of `/a` goes first.
+/// A walk through rows that are filled doesn't count as a use of them, so the row of `/a` goes first.
 #[test]
 fn the_least_recently_used_rows_are_emptied(rt: HostRuntime) -> Result<(), Fail> {
     play_anew(&rt, rt.alloc(), 1, 16, &EMPTIED)
@@ -225,7 +225,7 @@ static LINKS: [Step<'static>; 12] = [
 ];
 
 /// The text of a link stands in a row as long as the link has a name. A new link of that name is
-/// another, whose text is asked anew.
+/// another, whose text the tree is asked for.
 #[test]
 fn links_are_followed_by_their_rows(rt: HostRuntime) -> Result<(), Fail> {
     play_anew(&rt, rt.alloc(), 1, 16, &LINKS)
@@ -254,7 +254,7 @@ fn play_with_link<R: Wait>(rt: &R, alloc: Global, text: &[u8]) -> Result<(), Fai
     play(rt, alloc, &cache, &mut pass, &BY_A_LONG_TEXT)
 }
 
-/// A text that is longer than a name has no room in a row: each look-up asks for it under the lock.
+/// A row has no room for a text that is longer than a name: each look-up asks for it under the lock.
 #[test]
 fn a_text_without_room_is_asked_under_the_lock(rt: HostRuntime) -> Result<(), Fail> {
     let mut text = [b'/'; NAME_MAX + 1];
@@ -364,7 +364,8 @@ static FILLED_FURTHER: [Step<'static>; 11] = [
     Step::Fast(b"/a/b/g", Want::Refused(2), 4),
 ];
 
-/// A look-up that goes on where the rows end, also behind a dot-dot, a link and a key that comes up twice.
+/// A look-up that goes on from where the rows end, also behind a dot-dot, a link and a key that comes up
+/// twice.
 #[test]
 fn a_path_is_filled_from_where_its_rows_end(rt: HostRuntime) -> Result<(), Fail> {
     play_anew(&rt, rt.alloc(), 16, 16, &FILLED_FURTHER)

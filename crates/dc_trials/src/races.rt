@@ -1,4 +1,4 @@
-//! A directory is renamed above the paths of others who look up.
+//! A directory is renamed above a path that other threads look up.
 //!
 //! The file is made and unlinked while its directory has its other name, so its path under the first
 //! name never leads to it: whatever the threads do, each answer is ENOENT.
@@ -152,7 +152,7 @@ fn run<R: Threads + Wait + Sync>(
     (pass, made && absent)
 }
 
-/// The path of a file in the last of so many directories, each in the one before, below a directory of
+/// The path of a file in the last of this many directories, each in the one before, below a directory of
 /// the root.
 fn file_below(alloc: Global, name: u8, depth: u32) -> Result<Vec<u8>, AllocError> {
     let mut path = Vec::from_slice(alloc, &[b'/', name])?;
@@ -178,7 +178,7 @@ fn make_above<R: Wait>(rt: &R, alloc: Global, cache: &Dcache, pass: &mut Pass, f
 }
 
 /// Runs a race in a new cache. It tells how many changes were made and how many inodes live in the end, or
-/// `None` where an answer was wrong or a change wasn't made.
+/// `None` if an answer was wrong or a change wasn't made.
 fn run_anew<R: Threads + Wait + Sync>(rt: &R, alloc: Global, race: Race<'_>) -> Option<(u64, u64)>
     requires sync { IsSync R.row }
 {
@@ -189,7 +189,7 @@ fn run_anew<R: Threads + Wait + Sync>(rt: &R, alloc: Global, race: Race<'_>) -> 
     if made && right { ended } else { None }
 }
 
-/// Races over a file so many directories below the one that is renamed.
+/// Races over a file this many directories below the one that is renamed.
 fn race_below<R: Threads + Wait + Sync>(rt: &R, alloc: Global, depth: u32) -> Option<(u64, u64)>
     requires sync { IsSync R.row }
 {
@@ -204,7 +204,7 @@ fn race_below<R: Threads + Wait + Sync>(rt: &R, alloc: Global, depth: u32) -> Op
     run_anew(rt, alloc, race)
 }
 
-/// The file is so many directories below the one that is renamed.
+/// The file is this many directories below the one that is renamed.
 #[test]
 fn a_name_that_never_stands_is_never_found(rt: HostRuntime) -> Result<(), Fail> {
     for depth in [1, 4, 16, 64] {

@@ -1,5 +1,5 @@
-//! Runs of little memory, gates, readers and writers, and the words of the command line. What a run writes for its
-//! lines is in examples/rows and examples/runs.
+//! Runs with little memory, gates, readers and writers, and the words of the command line. What a run writes for
+//! its lines is in examples/rows and examples/runs.
 
 mod gates;
 mod streams;
@@ -19,8 +19,8 @@ fn are_whole(output: &[u8]) -> bool {
     ends.iter().any(|end| WHOLE.get(..*end) == Some(output))
 }
 
-/// Whichever allocation is refused, the replies of whole phases alone are written, and all of them
-/// where none is.
+/// Whichever allocation is refused, only the replies of whole phases are written, and all of them if none
+/// is.
 #[test]
 fn runs_of_little_memory(rt: HostRuntime) {
     let (result, output) = served(&rt, rt.alloc(), USUAL, PHASES);
@@ -42,7 +42,7 @@ static WORDS: [(&str, Option<(u64, u64, bool)>); 7] = [
     ("--inodes x", None),
 ];
 
-/// Whether options are these, or a bad size where none are wanted.
+/// Whether options are these, or a bad size if none are wanted.
 fn are_options(found: Result<Options, OptionsFault>, want: Option<(u64, u64, bool)>) -> bool {
     match (found, want) {
         (Ok(found), Some((buckets, inodes, stats))) => {
@@ -102,7 +102,7 @@ fn texts_and_statuses_of_faults(rt: HostRuntime) -> Result<(), Fail> {
     Ok(())
 }
 
-/// What is read is told by line, before anything runs.
+/// A bad line is reported by its number, before anything runs.
 #[test]
 fn lines_that_are_understood(rt: HostRuntime) {
     let mut rest = b"3 look /\nsync\n3 look /".as_slice();

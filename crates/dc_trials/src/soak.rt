@@ -27,7 +27,7 @@ fn told(alloc: Global, seed: u64, wrong: &Wrong) -> Result<String, AllocError> {
     format!(in alloc; "seed {seed}: {wrong}")
 }
 
-/// Fails where a round went wrong.
+/// Fails if a round went wrong.
 fn fail_if_wrong(alloc: Global, seed: u64, wrong: &Option<Wrong>) -> Result<(), Fail> {
     match wrong {
         Some(wrong) => Err(Fail::from(told(alloc, seed, wrong)?)),
@@ -35,7 +35,7 @@ fn fail_if_wrong(alloc: Global, seed: u64, wrong: &Option<Wrong>) -> Result<(), 
     }
 }
 
-/// Plays a round, and counts it. It fails where it goes wrong.
+/// Plays a round, and counts it. Fails if it goes wrong.
 fn play<R: Threads + Wait + Sync>(
     rt: &R,
     alloc: Global,
@@ -84,7 +84,7 @@ fn rounds_are_legal(rt: HostRuntime) -> Result<(), Fail> {
     Ok(())
 }
 
-/// How many changes a thread was answered.
+/// How many changes of a thread were answered.
 fn changes_of(stamps: &[Stamp], session: u64) -> u64 {
     let mut count = 0u64;
     for stamp in stamps {
@@ -103,7 +103,7 @@ const FOUR: Round = Round {
     steps: 6_000,
 };
 
-/// Whether each of the four threads was answered enough changes.
+/// Whether enough changes of each of the four threads were answered.
 fn change_enough(stamps: &[Stamp]) -> bool {
     for session in 0..FOUR.threads {
         if changes_of(stamps, session) < 2_000 {
@@ -127,7 +127,7 @@ fn four_threads_change_what_one_plain_tree_explains(rt: HostRuntime) -> Result<(
     Ok(())
 }
 
-/// Whether a round of so many threads comes on so many buckets.
+/// Whether a round of this many threads comes over this many buckets.
 fn comes(buckets: u64, threads: u64) -> bool {
     for seed in 0..60 {
         let round = Round::of(seed, 8_000);

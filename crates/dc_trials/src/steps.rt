@@ -40,7 +40,7 @@ pub enum Step<'a> {
     Fast(&'a [u8], Want<'a>, u64),
     /// A walk by the rows alone that has no answer, and why.
     Again(&'a [u8], Why),
-    /// So many rows are to be emptied at most, and so many are.
+    /// At most how many rows are to be emptied, and how many are.
     Shrink(u64, u64),
     /// Without waiting, while the lock is free.
     Try(Tried<'a>),
@@ -54,7 +54,7 @@ pub enum Tried<'a> {
     Stat(&'a [u8], Want<'a>, u64),
     Readlink(&'a [u8], Want<'a>, u64),
     List(&'a [u8], Want<'a>, u64),
-    /// So many rows are to be emptied at most, and so many are.
+    /// At most how many rows are to be emptied, and how many are.
     Shrink(u64, u64),
 }
 
@@ -72,7 +72,7 @@ pub fn call_of<'a>(act: Act<'a>) -> Call<'a>
     }
 }
 
-/// What the fast walk of a path from the root comes to, or `None` where the text is no path.
+/// What the fast walk of a path from the root comes to, or `None` if the text is no path.
 fn look_fast(cache: &Dcache, pass: &mut Pass, text: &[u8]) -> Option<Fast>
     requires { Fits cache.now pass.old }
     ensures { Fits cache.now pass.new }
@@ -80,7 +80,7 @@ fn look_fast(cache: &Dcache, pass: &mut Pass, text: &[u8]) -> Option<Fast>
     Some(cache.look_fast(pass, ROOT, parse(text).ok()?, Follow::Yes))
 }
 
-/// What the counted walk of a path from the root comes to, or `None` where the text is no path.
+/// What the counted walk of a path from the root comes to, or `None` if the text is no path.
 fn look_counted<R: Wait>(
     rt: &R,
     alloc: Global,
@@ -110,17 +110,11 @@ fn look<R: Wait>(
 }
 
 /// Looks a path from the root up so that its rows are filled.
-fn look_filled<R: Wait>(
-    rt: &R,
-    alloc: Global,
-    cache: &Dcache,
-    pass: &mut Pass,
-    path: &[u8],
-) -> Stamped
+fn resolve<R: Wait>(rt: &R, alloc: Global, cache: &Dcache, pass: &mut Pass, path: &[u8]) -> Stamped
     requires { Fits cache.now pass.old }
     ensures { Fits cache.now pass.new }
 {
-    cache.look_filled(rt, alloc, pass, ROOT, path, Follow::Yes)
+    cache.resolve(rt, alloc, pass, ROOT, path, Follow::Yes)
 }
 
 /// Whether a walk was answered so.
@@ -264,9 +258,7 @@ pub fn is_so<R: Wait>(
         Step::Look(path, follow, want, at) => {
             is(&look(rt, alloc, cache, pass, path, *follow), *want, *at)
         }
-        Step::Filled(path, want, at) => {
-            is(&look_filled(rt, alloc, cache, pass, path), *want, *at)
-        }
+        Step::Filled(path, want, at) => { is(&resolve(rt, alloc, cache, pass, path), *want, *at) }
         Step::Counted(path, want, at) => {
             is_done(&look_counted(rt, alloc, cache, pass, path), *want, *at)
         }
@@ -274,8 +266,8 @@ pub fn is_so<R: Wait>(
     }
 }
 
-/// Takes the steps one after the other. It tells which one, counted from 0, came to something else, or
-/// `None` where each came to what it should.
+/// Takes the steps one after the other. Answers which one, counted from 0, came to something else, or
+/// `None` if each came to what it should.
 pub fn first_other<R: Wait>(
     rt: &R,
     alloc: Global,
@@ -294,7 +286,7 @@ pub fn first_other<R: Wait>(
     None
 }
 
-/// Takes the steps one after the other, and fails where one comes to something else.
+/// Takes the steps one after the other, and fails if one comes to something else.
 pub fn play<R: Wait>(
     rt: &R,
     alloc: Global,
@@ -311,8 +303,8 @@ pub fn play<R: Wait>(
     }
 }
 
-/// Takes the steps with the first pass of a new cache of so many buckets and inodes, and fails if one comes
-/// to something else.
+/// Takes the steps with the first pass of a new cache of this many buckets and inodes, and fails if one
+/// comes to something else.
 pub fn play_anew<R: Wait>(
     rt: &R,
     alloc: Global,

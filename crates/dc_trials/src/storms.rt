@@ -22,7 +22,7 @@ const STORM: Round = Round {
     steps: 400,
 };
 
-/// Looks a name up that is absent, and tells at which point it is so.
+/// Looks up a name that is absent, and answers at which point it is so.
 fn absent_at<R: Wait>(
     rt: &R,
     alloc: Global,
@@ -59,7 +59,7 @@ fn are_absent<R: Wait>(rt: &R, alloc: Global, cache: &Dcache, pass: &mut Pass, a
     all
 }
 
-/// Whether the rows alone tell that all four names are absent at a point.
+/// Whether the rows alone say that all four names are absent at a point.
 fn are_told<R: Wait>(rt: &R, alloc: Global, cache: &Dcache, pass: &mut Pass, at: u64) -> bool
     requires { Fits cache.now pass.old }
     ensures { Fits cache.now pass.new }
@@ -85,7 +85,7 @@ fn serve_others<R: Wait>(rt: &R, alloc: Global, cache: &Dcache, pass: &mut Pass)
     }
 }
 
-/// Has the threads shake the cache, and tells how many answers they were given.
+/// Runs the threads over the cache, and counts the answers that they got.
 fn storm<R: Threads + Wait + Sync>(
     rt: &R,
     alloc: Global,

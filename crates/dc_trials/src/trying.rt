@@ -1,7 +1,7 @@
-//! Calls that never wait, while another thread has the lock again and again, and while it is free.
+//! Calls that never wait, while another thread takes the lock again and again, and while it is free.
 
 ghost use Rattle.std.specs.Thread.{IsSync};
-ghost use Rattle.dc_cache.specs.Passes.{Fits, FitsSleepless};
+ghost use Rattle.dc_cache.specs.Passes.{Fits};
 
 use crate::answers::{Want, mkdir};
 use crate::passes::fill;
@@ -22,7 +22,7 @@ const MOST_LISTS: u32 = 200_000;
 /// How often a call is tried at most.
 const MOST_TRIES: u32 = 10_000_000;
 
-/// Lists the root, again and again until the other thread is through with its calls.
+/// Lists the root again and again, until the other thread has made its calls.
 fn list_meanwhile<R: Wait>(
     rt: &R,
     alloc: Global,
@@ -53,7 +53,7 @@ enum Asked {
     Shrink,
 }
 
-/// Whether a call answers `None`. The answers that it may have else alter nothing.
+/// Whether a call answers `None`. Its other answers alter nothing.
 fn is_none(alloc: Global, cache: &Dcache, pass: &mut Pass, asked: Asked) -> bool
     requires { Fits cache.now pass.old }
     ensures { Fits cache.now pass.new }
@@ -191,8 +191,8 @@ fn a_free_lock_is_an_answer(rt: HostRuntime) -> Result<(), Fail> {
 
 /// Whether a pass that is split off makes a change.
 fn is_made_apart(alloc: Global, cache: &Sleepless, pass: &mut Pass) -> bool
-    requires { FitsSleepless cache.now pass.old }
-    ensures { FitsSleepless cache.now pass.new }
+    requires { Fits cache.now pass.old }
+    ensures { Fits cache.now pass.new }
 {
     let mut other = cache.split(pass);
     let made = cache.try_change(alloc, &mut other, &mkdir(b"/a"));
@@ -202,8 +202,8 @@ fn is_made_apart(alloc: Global, cache: &Sleepless, pass: &mut Pass) -> bool
 
 /// Whether a pass learns of one change, and of no second one, and nobody has slept.
 fn learns_of_one(cache: &Sleepless, pass: &mut Pass) -> bool
-    requires { FitsSleepless cache.now pass.old }
-    ensures { FitsSleepless cache.now pass.new }
+    requires { Fits cache.now pass.old }
+    ensures { Fits cache.now pass.new }
 {
     let learns = cache.learn(pass, 1).is_ok() && cache.learn(pass, 2).is_err();
     learns && cache.counts().sleeps == 0
@@ -211,7 +211,7 @@ fn learns_of_one(cache: &Sleepless, pass: &mut Pass) -> bool
 
 /// The clock of a cache that is closed.
 fn clock_of(cache: Sleepless, pass: Pass) -> Option<u64>
-    requires { FitsSleepless cache pass }
+    requires { Fits cache pass }
 {
     let ended = cache.close(pass)?;
     Some(ended.clock)

@@ -75,7 +75,7 @@ fn a_look_up_waits_for_a_point(rt: HostRuntime) -> Result<(), Fail> {
     Ok(())
 }
 
-/// Whether the rows, which are asked twice, tell that a name is absent. `None` where they tell nothing.
+/// Whether the rows, which are asked twice, say that a name is absent. `None` if they say nothing.
 fn is_absent(cache: &Dcache, pass: &mut Pass, text: &[u8]) -> Option<bool>
     requires { Fits cache.now pass.old }
     ensures { Fits cache.now pass.new }
@@ -84,7 +84,7 @@ fn is_absent(cache: &Dcache, pass: &mut Pass, text: &[u8]) -> Option<bool>
     Some(is(&found, Want::Refused(2), 0))
 }
 
-/// Whether a name is absent for a look-up that goes on where the rows told nothing.
+/// Whether a name is absent for a look-up that goes on if the rows said nothing.
 fn is_missed<R: Wait>(
     rt: &R,
     alloc: Global,
@@ -109,7 +109,7 @@ fn rows_answer_once_they_are_filled(rt: HostRuntime) -> Result<(), Fail> {
     Ok(())
 }
 
-/// Whether a directory is made as the first change, in so many tries. `None` where the lock isn't got.
+/// Whether a directory is made as the first change, in this many tries. `None` if no try gets the lock.
 fn is_made_in_tries(
     alloc: Global,
     cache: &Dcache,

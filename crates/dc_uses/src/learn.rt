@@ -26,5 +26,5 @@ pub fn look_after<R: Wait>(
     ensures after { IfOk result (λ found. at ≤ found.at) }
 {
     cache.learn(pass, at)?;
-    Ok(cache.look(rt, alloc, pass, ROOT, path, Follow::Yes))
+    Ok(cache.resolve(rt, alloc, pass, ROOT, path, Follow::Yes))
 }

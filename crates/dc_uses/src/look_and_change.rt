@@ -24,6 +24,6 @@ pub fn make_and_look<R: Wait>(
         (mkdir ROOT path.now) r.0 (look ROOT path.now Follow.Yes) r.1) }
 {
     let made = cache.change(rt, alloc, pass, &Call::Mkdir { base: ROOT, path })?;
-    let found = cache.look(rt, alloc, pass, ROOT, path, Follow::Yes);
+    let found = cache.resolve(rt, alloc, pass, ROOT, path, Follow::Yes);
     Ok((made, found))
 }

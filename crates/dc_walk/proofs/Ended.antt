@@ -1,5 +1,5 @@
 -- How a walk by rows begins and ends.
-use Rattle.std.proofs.Common.{◌≡◌, ℕ, ◌+◌, ◌*◌, ◌/◌, ◌<◌, ◌≤◌, List, [], Bool, true, false, not, Option, Some, None, IfSome, if◌then◌else◌, length, map, refl, ap, sym, ◌∙◌, subst, arith}
+use Rattle.std.proofs.Common.{◌≡◌, ℕ, ◌+◌, ◌*◌, ◌/◌, ◌<◌, ◌≤◌, List, [], Bool, true, false, not, Option, Some, None, if◌then◌else◌, length, map, refl, ap, sym, ◌∙◌, subst, arith}
 use Rattle.std.specs.List.{Contains}
 use Rattle.std.proofs.lemmas.List.{length-map}
 use Rattle.dc_table.specs.Changes.{NothingNew}
@@ -18,12 +18,13 @@ use Rattle.dc_table.specs.Shares.{Share}
 use Rattle.dc_walk.specs.Uses.{Use, Marked, facts_of}
 use Rattle.dc_walk.specs.Asking.{IsWalk}
 use Rattle.dc_walk.specs.Causes.{HasCause}
-use Rattle.dc_walk.specs.Becomings.{Becomes, Between, IsGood, MayAskRows}
+use Rattle.dc_walk.specs.Becomings.{Becomes, Between, IsGood, MayAskRows, Stops}
 use Rattle.dc_walk.specs.Fasts.{GaveUp}
 use Rattle.dc_walk.specs.Walks.{Went, Stopped}
 use Rattle.dc_walk.specs.Finds.{use_shown, AllSpelled, AllInside, AllHeld}
-use Rattle.dc_walk.specs.Findings.{CanWalk, view_in, now_in, uses_in, outcome_in, request_in, said_in, buckets_of, spent}
+use Rattle.dc_walk.specs.Findings.{CanWalk, SameRows, IsFinding, view_in, now_in, uses_in, outcome_in, request_in, said_in, buckets_of, spent}
 use Rattle.dc_walk.specs.declared.rows.Rows.{Rows}
+use Rattle.dc_walk.specs.declared.rows.Stop.{Stop}
 use Rattle.dc_walk.specs.declared.why.Why as rust_why
 use Rattle.dc_walk.specs.declared.why.Why.TheVariants as whys
 use Rattle.dc_walk.specs.Rooms.{Used}
@@ -32,7 +33,7 @@ use Rattle.dc_walk.proofs.Checks.{begins_book}
 use Rattle.dc_walk.proofs.Sighted.{outcome_same}
 use Rattle.dc_walk.proofs.Told.{told_itself}
 use Rattle.dc_walk.proofs.Walked.{rested}
-use Rattle.dc_walk.proofs.Questions.{within_full}
+use Rattle.dc_walk.proofs.Questions.{IsWithin}
 
 none_there : {X : Type 0} (x : X) → Contains [] x → ⊥
 none_there x c = let never = c.1 in absurd (omega arith)
@@ -57,97 +58,94 @@ loads_within : (slow : Bool) (n : ℕ) → n ≤ MOST_USED → (slow ≡ true �
 loads_within false n few room = omega arith
 loads_within true n few room = let less = room refl in omega arith
 
-module _ (locks : Bool) (f : Rows) where
-  pub started : (v : View) → CanWalk (table_of f.reader) f.pass.now → now_in f ≡ begun v (request_in f) → f.made ≡ 0 → f.why ≡ None → f.used.now.items ≡ [] → IsGood locks f
-  started v can now made fresh none = record {
-    looks = 0;
-    finding = record {
-      can = can;
-      walk = subst (λ (z : View × List Use). IsWalk (outcome_in f) z.0 z.1 (spent f + 0)) (λ i. (sym now i, map use_shown (sym none i))) (record {
-        busy = refl;
-        early = refl;
-        marked = refl;
-        few = omega arith;
-        loads = omega arith;
-        needed = λ i l. absurd (omega arith);
-        distinct = λ i l. absurd (omega arith);
-      });
-      made = made ∙ ap (λ (z : View). length z.walk.notes) (sym now);
-      call = ap (λ (z : View). z.walk.call) now;
-      spelled = subst AllSpelled (sym none) tt;
-      inside = subst (AllInside (share f.pass.now).rows) (sym none) tt;
-      held = subst (AllHeld f.filter) (sym none) tt;
-      few = subst (λ (us : List Used). length us ≤ MOST_USED) (sym none) (omega arith);
+pub started : (f : Rows) (v : View) → CanWalk (table_of f.reader) f.pass.now → now_in f ≡ begun v (request_in f) → f.made ≡ 0 → f.used.now.items ≡ [] → IsGood f
+started f v can now made none = record {
+  finding = record {
+    can = can;
+    walk = subst (λ (z : View × List Use). IsWalk (outcome_in f) z.0 z.1 (spent f + 0)) (λ i. (sym now i, map use_shown (sym none i))) (record {
+      busy = refl;
+      early = refl;
+      marked = refl;
+      few = omega arith;
+      loads = omega arith;
+      needed = λ i l. absurd (omega arith);
+      distinct = λ i l. absurd (omega arith);
+    });
+    made = made ∙ ap (λ (z : View). length z.walk.notes) (sym now);
+    call = ap (λ (z : View). z.walk.call) now;
+    spelled = subst AllSpelled (sym none) tt;
+    inside = subst (AllInside (share f.pass.now).rows) (sym none) tt;
+    held = subst (AllHeld f.filter) (sym none) tt;
+    few = subst (λ (us : List Used). length us ≤ MOST_USED) (sym none) (omega arith);
+  };
+  room = λ slow. subst (λ (us : List Used). length us < MOST_USED) (sym none) (omega arith);
+}
+
+-- it is the walk of the same pass, and used rows of its table
+pub same_so : {f g : Rows} (s : SameRows f g) (k : ℕ) (is : IsFinding g k) (p : Pass) → p ≡ g.pass.now → IsSamePass f.pass.now p × IsIdle p
+same_so {f = f} s k is p same = subst (λ q. IsSamePass f.pass.now q × IsIdle q) (sym same) (s.same_pass, is.can.idle)
+
+pub inside_so : {f g : Rows} (s : SameRows f g) (k : ℕ) (is : IsFinding g k) (us : List Used) → us ≡ g.used.now.items → AllInside (share f.pass.now).rows us
+inside_so s k is us same_used = subst (λ (z : Share × List Used). AllInside z.0.rows z.1) (λ i. (s.same_pass.same_share i, sym same_used i)) is.inside
+
+module _ (locks : Bool) (f g : Rows) (v : View) (begins_so : now_in f ≡ begun v (request_in f)) (s : SameRows f g) (between : Between locks (now_in f) (now_in g)) (k : ℕ) (is : IsFinding g k) (p : Pass) (same : p ≡ g.pass.now) (us : List Used) (same_used : us ≡ g.used.now.items) where
+  now_is : now_in g ≡ view_in g.begun p f.look
+  now_is = λ i. view_in g.begun (sym same i) (s.look i)
+
+  between_so : Between locks (begun v (request_in f)) (view_in g.begun p f.look)
+  between_so = subst (λ (z : View × View). Between locks z.0 z.1) (λ i. (begins_so i, now_is i)) between
+
+  pub went_so : k ≡ 0 → (g.slow ≡ true → length g.used.now.items < MOST_USED) → (end : Outcome) (answer : Answer) → ((teller : Teller) → Extends (said_in g) teller → outcome_in f teller ≡ Some end) → answer ≡ outcome_answer end
+      → Went locks f.look v (view_in g.begun p f.look) (map use_shown us) answer
+  went_so none room end answer found answers = record {
+    came = record {
+      spent = spent g;
+      walk = subst (λ (z : (Teller → Option Outcome) × View × List Use). IsWalk z.0 z.1 z.2 (spent g)) (λ i. (outcome_same s i, now_is i, map use_shown (sym same_used i)))
+          (rested (spent g) (omega arith) is.walk);
+      about = between_so.call;
+      end = end;
+      found = ap (λ (items : List Used). outcome_in f (told_by (facts_of (map use_shown items)))) same_used ∙ found (said_in g) (told_itself (said_in g));
+      answers = answers;
     };
-    few = within_full f (subst (λ (us : List Used). length us ≤ MOST_USED) (sym none) (omega arith));
-    goes = λ fresh. record { none = refl; room = λ slow. subst (λ (us : List Used). length us < MOST_USED) (sym none) (omega arith) };
-    cause = λ free tells. subst (λ o. IfSome o (HasCause (outcome_in f) (buckets_of f.pass.now) (now_in f))) (sym fresh) tt;
-    asks = subst (λ o. IfSome o (λ why. outcome_in f (told_by []) ≡ None)) (sym fresh) tt;
+    walk = between_so;
+    few = subst (λ (n : ℕ). ROW_WORDS * (BUCKET_ROWS * n + spent g) + n < MOST_LOADS) (ap (λ (us : List Used). length us) (sym same_used) ∙ sym (length-map us use_shown)) (loads_within g.slow (length g.used.now.items) is.few room);
   }
 
-  module _ {g : Rows} (v : View) (begins_so : now_in f ≡ begun v (request_in f)) (b : Becomes locks f g) (good : IsGood locks f) (p : Pass) (same : p ≡ g.pass.now) (us : List Used) (same_used : us ≡ g.used.now.items) where
-    now_is : now_in g ≡ view_in g.begun p f.look
-    now_is = λ i. view_in g.begun (sym same i) (b.same.look i)
+  gave_so : IsWithin (length g.used.now.items) (spent g + k) → (why : rust_why.Why) → HasCause (outcome_in g) (buckets_of g.pass.now) (now_in g) why → outcome_in f (told_by []) ≡ None → NothingNew v (view p) → GaveUp (outcome_in f) (buckets_of f.pass.now) v (view p) why
+  gave_so few why cause asks nothing =
+      let buckets : buckets_of g.pass.now ≡ buckets_of f.pass.now = ap (λ (x : Share). x.rows / BUCKET_ROWS) s.same_pass.same_share in
+      let cause_now = subst (λ (z : (Teller → Option Outcome) × ℕ × View). HasCause z.0 z.1 z.2 why) (λ i. (outcome_same s i, buckets i, now_is i)) cause in
+      let begun_is = by_begun (outcome_in f) (buckets_of f.pass.now) g.begun (view p) (request_in f) why cause_now in
+      let now : view_in g.begun p f.look ≡ view p = ap (λ b. begins (not b) (view p) (request_in f)) begun_is in
+      let walk = subst (λ (v : View). IsWalk (outcome_in g) v (uses_in g) (spent g + k)) (now_is ∙ now) is.walk in
+      let kept = subst (Between locks (begun v (request_in f))) now between_so in
+      let loads = walk.loads in let first = kept.first_load in record {
+        cause = subst (λ z. HasCause (outcome_in f) (buckets_of f.pass.now) z why) now cause_now;
+        asks = asks;
+        nothing = nothing;
+        first_load = first;
+        loads = omega (arith, length-map g.used.now.items use_shown);
+      }
 
-    between_so : Between locks (begun v (request_in f)) (view_in g.begun p f.look)
-    between_so = subst (λ (z : View × View). Between locks z.0 z.1) (λ i. (begins_so i, now_is i)) b.walk
-
-    pub same_so : IsSamePass f.pass.now p × IsIdle p
-    same_so = subst (λ q. IsSamePass f.pass.now q × IsIdle q) (sym same) (b.same.same_pass, (b.good good).finding.can.idle)
-
-    pub inside_so : AllInside (share f.pass.now).rows us
-    inside_so = subst (λ (z : Share × List Used). AllInside z.0.rows z.1) (λ i. (b.same.same_pass.same_share i, sym same_used i)) (b.good good).finding.inside
-
-    pub went_so : (end : Outcome) (answer : Answer) → g.why ≡ None → ((teller : Teller) → Extends (said_in g) teller → outcome_in f teller ≡ Some end) → answer ≡ outcome_answer end
-        → Went locks f.look v (view_in g.begun p f.look) (map use_shown us) answer
-    went_so end answer fresh found is = record {
-      came = record {
-        spent = spent g;
-        walk = subst (λ (z : (Teller → Option Outcome) × View × List Use). IsWalk z.0 z.1 z.2 (spent g)) (λ i. (outcome_same b.same i, now_is i, map use_shown (sym same_used i)))
-            (rested (spent g) (let none = ((b.good good).goes fresh).none in omega arith) (b.good good).finding.walk);
-        about = between_so.call;
-        end = end;
-        found = ap (λ (items : List Used). outcome_in f (told_by (facts_of (map use_shown items)))) same_used ∙ found (said_in g) (told_itself (said_in g));
-        answers = is;
-      };
-      walk = between_so;
-      few = subst (λ (n : ℕ). ROW_WORDS * (BUCKET_ROWS * n + spent g) + n < MOST_LOADS) (ap (λ (us : List Used). length us) (sym same_used) ∙ sym (length-map us use_shown)) (loads_within g.slow (length g.used.now.items) (b.good good).finding.few ((b.good good).goes fresh).room);
+-- it gave up
+pub stopped_so : (locks : Bool) (f g : Rows) (v : View) → now_in f ≡ begun v (request_in f) → (stop : Stop) (b : Stops locks f g stop) (p : Pass) → p ≡ g.pass.now → (us : List Used) → us ≡ g.used.now.items
+    → Stopped locks f.brief f.look (buckets_of f.pass.now) v (view p) (map use_shown us) stop.why
+stopped_so locks f g v begins_so stop b p same us same_used =
+    let now = now_is locks f g v begins_so b.same b.walk b.looks b.finding p same us same_used in
+    let between = between_so locks f g v begins_so b.same b.walk b.looks b.finding p same us same_used in
+    let book : (view_in g.begun p f.look).book ≡ (view p).book = begins_book (not g.begun) (view p) (request_in f) in
+    let seen = ap (λ (b : Book). b.seen) book in let new = between.nothing in let later = new.later in
+    let nothing : NothingNew v (view p) = record { own = sym (ap (λ (b : Book). b.own) book) ∙ new.own; joined = sym (ap (λ (b : Book). b.joined) book) ∙ new.joined; later = omega arith } in
+    let asks : outcome_in f (told_by []) ≡ None = sym (λ i. outcome_same b.same i (told_by [])) ∙ b.asks in record {
+      nothing = nothing;
+      asks = asks;
+      noted = λ some. noted_by g.begun (view p) (request_in f) (map use_shown us) some
+          (subst (λ (z : View × List Used). Marked 0 0 z.0.walk.notes (map use_shown z.1)) (λ i. (now i, sym same_used i)) b.finding.walk.marked);
+      gave_up = λ free tells. gave_so locks f g v begins_so b.same b.walk b.looks b.finding p same us same_used b.few stop.why (b.cause free (b.same.brief ∙ tells)) asks nothing;
     }
 
-    gave_so : locks ≡ false → f.brief ≡ false → (why : rust_why.Why) → g.why ≡ Some why → outcome_in f (told_by []) ≡ None → NothingNew v (view p) → GaveUp (outcome_in f) (buckets_of f.pass.now) v (view p) why
-    gave_so free tells why is asks nothing =
-        let good_now = b.good good in
-        let cause : HasCause (outcome_in g) (buckets_of g.pass.now) (now_in g) why = subst (λ o. IfSome o (HasCause (outcome_in g) (buckets_of g.pass.now) (now_in g))) is (good_now.cause free (b.same.brief ∙ tells)) in
-        let buckets : buckets_of g.pass.now ≡ buckets_of f.pass.now = ap (λ (x : Share). x.rows / BUCKET_ROWS) b.same.same_pass.same_share in
-        let cause_now = subst (λ (z : (Teller → Option Outcome) × ℕ × View). HasCause z.0 z.1 z.2 why) (λ i. (outcome_same b.same i, buckets i, now_is i)) cause in
-        let begun_is = by_begun (outcome_in f) (buckets_of f.pass.now) g.begun (view p) (request_in f) why cause_now in
-        let now : view_in g.begun p f.look ≡ view p = ap (λ b. begins (not b) (view p) (request_in f)) begun_is in
-        let walk = subst (λ (v : View). IsWalk (outcome_in g) v (uses_in g) (spent g + good_now.looks)) (now_is ∙ now) good_now.finding.walk in
-        let kept = subst (Between locks (begun v (request_in f))) now between_so in
-        let loads = walk.loads in let first = kept.first_load in let few = good_now.few in record {
-          cause = subst (λ z. HasCause (outcome_in f) (buckets_of f.pass.now) z why) now cause_now;
-          asks = asks;
-          nothing = nothing;
-          first_load = first;
-          loads = omega (arith, length-map g.used.now.items use_shown);
-        }
-
-    pub stopped_so : (why : rust_why.Why) → g.why ≡ Some why → Stopped locks f.brief f.look (buckets_of f.pass.now) v (view p) (map use_shown us) why
-    stopped_so why is =
-        let book : (view_in g.begun p f.look).book ≡ (view p).book = begins_book (not g.begun) (view p) (request_in f) in
-        let seen = ap (λ (b : Book). b.seen) book in let new = between_so.nothing in let later = new.later in
-        let nothing : NothingNew v (view p) = record { own = sym (ap (λ (b : Book). b.own) book) ∙ new.own; joined = sym (ap (λ (b : Book). b.joined) book) ∙ new.joined; later = omega arith } in
-        let good_now = b.good good in
-        let asks : outcome_in f (told_by []) ≡ None = sym (λ i. outcome_same b.same i (told_by [])) ∙ subst (λ o. IfSome o (λ why. outcome_in g (told_by []) ≡ None)) is good_now.asks in record {
-          nothing = nothing;
-          asks = asks;
-          noted = λ some. noted_by g.begun (view p) (request_in f) (map use_shown us) some
-              (subst (λ (z : View × List Used). Marked 0 0 z.0.walk.notes (map use_shown z.1)) (λ i. (now_is i, sym same_used i)) good_now.finding.walk.marked);
-          gave_up = λ free tells. gave_so free tells why is asks nothing;
-        }
-
 -- what a walk needs may be asked
-pub may_so : (locks : Bool) (f g : Rows) → IsGood locks f → Becomes locks f g → (n : ℕ) (label : Label) → IsNeeded (outcome_in f) (said_in g) n label → MayAskRows locks g n label
+pub may_so : (locks : Bool) (f g : Rows) → IsGood f → Becomes locks f g → (n : ℕ) (label : Label) → IsNeeded (outcome_in f) (said_in g) n label → MayAskRows g n label
 may_so locks f g good b n label need = record { good = b.good good; needed = λ teller more untold. (λ i. outcome_same b.same i teller) ∙ need teller more untold }
 
 -- what holds of a source and its table holds of them still

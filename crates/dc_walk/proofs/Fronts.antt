@@ -86,7 +86,7 @@ may_check {k = k} {room = room} are same c there at of counted =
       subst (λ (z : Knowing × (ℕ × ℕ × ℕ)). HasNoted z.0.view z.1.0 z.1.1 z.1.2) (λ i. (sym same i, (sym at i, sym of i, sym counted i))) noted,
     )
 
--- its fact is true of the tree, where the check finds the row as it was
+-- its fact is true of the tree, if the check finds the row as it was
 pub true_so : {k l : Knowing} {room : Kept} {t : Tree} → AreNoted k.view k.share.rows room → SpelledIsRead → tree_of k.share.limit k.view.hold.history ≡ t → l ≡ k → (c : ℕ) → c < length room.items → {place : ℕ} → place ≡ (used_at room.items c).place → IsTrueNow l.share.limit l.view place → IsTrueAt t room c
 true_so {k = k} {room = room} are read tree same c there at now =
     let items = room.items in let us = map use_shown items in let less : c < length us = omega (arith, length-map items use_shown) in

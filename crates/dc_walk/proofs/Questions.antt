@@ -14,15 +14,15 @@ use Rattle.dc_events.specs.Views.{View, Note, Book}
 use Rattle.dc_events.specs.Rows.{note_words}
 use Rattle.dc_walk.specs.Uses.{Use, Marked, NeedsEach, facts_of}
 use Rattle.dc_walk.specs.Asking.{GoesOn, SameWalk, Asks, first_row}
-use Rattle.dc_walk.specs.Causes.{HasCause, Looked, TellsWhy}
-use Rattle.dc_walk.specs.Becomings.{Becomes, Between, IsGood}
+use Rattle.dc_walk.specs.Causes.{HasCause, IsFull, Looked, TellsWhy}
+use Rattle.dc_walk.specs.Becomings.{Becomes, Between, Stops}
 use Rattle.dc_walk.specs.Sources.{IsUntried}
 use Rattle.dc_walk.specs.Findings.{SameRows, IsFinding, now_in, uses_in, outcome_in, said_in, buckets_of, spent}
 use Rattle.dc_walk.specs.Sights.{Answers}
 use Rattle.dc_walk.specs.declared.rows.Rows.{Rows}
+use Rattle.dc_walk.specs.declared.rows.Stop.{Stop}
 use Rattle.dc_names.specs.declared.limits.TheConstants.{BUCKET_ROWS, MOST_USED}
 use Rattle.dc_walk.specs.declared.why.Why as rust_why
-use Rattle.dc_walk.specs.declared.why.Why.TheVariants as whys
 use Rattle.dc_walk.specs.Finds.{use_shown, told_in}
 use Rattle.dc_walk.proofs.Sighted.{outcome_same}
 use Rattle.dc_walk.specs.declared.source.Lane.{Lane}
@@ -32,7 +32,7 @@ use Rattle.dc_walk.proofs.Told.{told_more, told_itself}
 pub needed_now : (outcome : Teller → Option Outcome) (said : Teller) (key : Key) → IsNeeded outcome said key.number key.label → IsUntold said key.number key.label → outcome said ≡ None
 needed_now outcome said key need none = need said (told_itself said) none
 
--- where what was said tells no outcome, nothing tells none
+-- if what was said tells no outcome, nothing tells none
 first_none : (outcome : Teller → Option Outcome) (us : List Use) → NeedsEach outcome (facts_of us) → outcome (told_by (facts_of us)) ≡ None → outcome (told_by []) ≡ None
 first_none outcome [] needs now = now
 first_none outcome (u ∷ us) needs now = needs 0 (omega arith)
@@ -93,7 +93,7 @@ is_below m n other few = elim (cases_eq m n) [
   | inr ne ↦ omega arith
 ]
 
--- so many rows are used, and so many looked at besides, that the walk is within its loads
+-- this many rows are used, and this many looked at besides, so that the walk is within its loads
 abbrev pub IsWithin : ℕ → ℕ → Type 0
 IsWithin used besides = BUCKET_ROWS * used + besides ≤ BUCKET_ROWS * (MOST_USED + 1)
 
@@ -108,22 +108,22 @@ pub within_two : (f : Rows) (looks : ℕ) → length f.used.now.items < MOST_USE
 within_two f looks room few = omega arith
 
 -- a question without an answer is the last
-module _ (locks : Bool) {f g : Rows} (s : SameRows f g) (used : g.used.now.items ≡ f.used.now.items) (b : Between locks (now_in f) (now_in g)) (k : ℕ) (is : IsFinding g k) (few : IsWithin (length g.used.now.items) (spent g + k)) (now : outcome_in f (said_in f) ≡ None) where
-  pub stops : IsUntried locks f.pass.now g.pass.now → (why : rust_why.Why) (spare : Option ℕ) → (locks ≡ false → g.brief ≡ false → HasCause (outcome_in g) (buckets_of g.pass.now) (now_in g) why) → Becomes locks f (record g { spare = spare; why = Some why })
-  stops untried why spare cause = record {
-    same = record { reader = s.reader; pass = s.pass; used = s.used; look = s.look; brief = s.brief; same_pass = s.same_pass };
-    told = same_told f g used;
-    walk = b;
-    untried = untried;
-    good = λ good. record {
-      looks = k;
-      finding = record { can = is.can; walk = is.walk; made = is.made; call = is.call; spelled = is.spelled; inside = is.inside; held = is.held; few = is.few };
-      few = few;
-      goes = λ fresh. absurd cc;
-      cause = cause;
-      asks = asks_first s good.finding.walk.needed now;
-    };
-  }
+pub stops : (locks : Bool) {f g : Rows} (s : SameRows f g) → Between locks (now_in f) (now_in g) → IsFinding f 0 → (k : ℕ) → IsFinding g k → IsWithin (length g.used.now.items) (spent g + k) → outcome_in f (said_in f) ≡ None
+    → IsUntried locks f.pass.now g.pass.now → (stop : Stop) → (locks ≡ false → g.brief ≡ false → HasCause (outcome_in g) (buckets_of g.pass.now) (now_in g) stop.why) → Stops locks f g stop
+stops locks s walk was k is few now untried stop cause = record {
+  same = s;
+  walk = walk;
+  untried = untried;
+  looks = k;
+  finding = is;
+  few = few;
+  cause = cause;
+  asks = asks_first s was.walk.needed now;
+}
+
+-- as many rows are used as can be noted
+pub full_cause : (g : Rows) (k : ℕ) → IsFinding g k → length g.used.now.items ≡ MOST_USED → IsFull (now_in g)
+full_cause g k is full = record { uses = uses_in g; marked = is.walk.marked; many = length-map g.used.now.items use_shown ∙ full; distinct = is.walk.distinct }
 
 -- why no row of the key's bucket answered
 pub looked_cause : {f g : Rows} (s : SameRows f g) (lane : Lane) (key : Key) (odd : Option ℕ) (why : rust_why.Why) (looks : ℕ) → (f.used.now.items ≡ g.used.now.items) → (lane.first ≡ first_row (buckets_of f.pass.now) key) × (lane.many ≡ BUCKET_ROWS)
@@ -144,51 +144,12 @@ module _ {f g : Rows} (s : SameRows f g) (used : g.used.now.items ≡ f.used.now
   pub untold_still : IsUntold (said_in f) key.number key.label → IsUntold (said_in g) key.number key.label
   untold_still = subst (λ us. IsUntold (told_in us) key.number key.label) (sym used)
 
--- before a question no row is looked at for it
-pub unlooked : {locks : Bool} (f : Rows) → f.why ≡ None → IsGood locks f → IsFinding f 0
-unlooked f fresh good = subst (IsFinding f) (good.goes fresh).none good.finding
-
 -- a row that was used as the last answers
-pub answered_becomes : (locks : Bool) {f g : Rows} (s : SameRows f g) (row at : ℕ) (key : Key) → HasNotTried (known f.pass.now) (known g.pass.now) → GoesOn (now_in f) (now_in g) → Answers f key g row 0 at → g.why ≡ None → (g.slow ≡ true → length g.used.now.items < MOST_USED) → Becomes locks f g
-answered_becomes locks {f = f} {g = g} s row at key untried on a why room = record {
+pub answered_becomes : (locks : Bool) {f g : Rows} (s : SameRows f g) (row at : ℕ) (key : Key) → HasNotTried (known f.pass.now) (known g.pass.now) → GoesOn (now_in f) (now_in g) → Answers f key g row 0 at → (g.slow ≡ true → length g.used.now.items < MOST_USED) → Becomes locks f g
+answered_becomes locks {f = f} {g = g} s row at key untried on a room = record {
   same = s;
   told = subst (λ facts. Extends (said_in f) (told_by facts)) (sym (ap facts_of a.uses ∙ map-append (λ u. u.fact) (uses_in f) (a.use_of ∷ []))) (told_more (facts_of (uses_in f)) a.use_of.fact);
   walk = same_between on.same;
   untried = λ free. untried;
-  good = λ is. record {
-    looks = 0;
-    finding = a.finding;
-    few = within_full g a.finding.few;
-    goes = λ fresh. record { none = refl; room = room };
-    cause = λ free tells. subst (λ o. IfSome o (HasCause (outcome_in g) (buckets_of g.pass.now) (now_in g))) (sym why) tt;
-    asks = subst (λ o. IfSome o (λ why. outcome_in g (told_by []) ≡ None)) (sym why) tt;
-  };
+  good = λ is. record { finding = a.finding; room = room };
 }
-
--- a row more than could be checked answers, after two looks for one: the walk ends with it
-pub filled_becomes : (locks : Bool) {f g : Rows} (s : SameRows f g) (row at : ℕ) (key : Key) → HasNotTried (known f.pass.now) (known g.pass.now) → GoesOn (now_in f) (now_in g) → Answers f key g row 0 at → outcome_in f (said_in f) ≡ None → length g.used.now.items ≡ MOST_USED → Becomes locks f (record g { why = Some whys.Long })
-filled_becomes locks {f = f} {g = g} s row at key untried on a now full = record {
-  same = record { reader = s.reader; pass = s.pass; used = s.used; look = s.look; brief = s.brief; same_pass = s.same_pass };
-  told = subst (λ facts. Extends (said_in f) (told_by facts)) (sym (ap facts_of a.uses ∙ map-append (λ u. u.fact) (uses_in f) (a.use_of ∷ []))) (told_more (facts_of (uses_in f)) a.use_of.fact);
-  walk = same_between on.same;
-  untried = λ free. untried;
-  good = λ good. let is = a.finding in record {
-    looks = 0;
-    finding = record { can = is.can; walk = is.walk; made = is.made; call = is.call; spelled = is.spelled; inside = is.inside; held = is.held; few = is.few };
-    few = within_full g is.few;
-    goes = λ fresh. absurd cc;
-    cause = λ free tells. record { uses = uses_in g; marked = is.walk.marked; many = length-map g.used.now.items use_shown ∙ full; distinct = is.walk.distinct };
-    asks = asks_first s good.finding.walk.needed now;
-  };
-}
-
-both : (a b : Bool) → (a && b) ≡ true → (a ≡ true) × (b ≡ true)
-both true b e = (refl, e)
-both false b e = absurd cc
-
-never : {P : Type 0} → false ≡ true → P
-never e = absurd cc
-
-pub none_is : {X : Type 0} (o : Option X) → is_some o ≡ false → o ≡ None
-none_is None e = refl
-none_is (Some x) e = absurd cc

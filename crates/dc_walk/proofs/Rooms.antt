@@ -152,7 +152,7 @@ next_begins words row end k fits few =
     short_take (length row) (end + ROW_WORDS - end) (drop end (put_mid end k words row)) (omega arith)
     ∙ (ap (λ (n : ℕ). take (length row) (drop n (put_mid end k words row))) (sym front) ∙ (ap (take (length row)) (drop-append_seam (take end words) (row ++ post_of end k words)) ∙ take-append_seam row (post_of end k words)))
 
--- a word of a row is that of its first words, where these have it
+-- a word of a row is that of its first words, if these have it
 pub first_word : (words : List ℕ) (i : ℕ) → i < length words → get_or (widened words) i 0 ≡ get_or words i 0
 first_word words i l = get_or_append_left words (replicate (ROW_WORDS - length words) 0) 0 i l
 
@@ -169,7 +169,7 @@ number_of words key long tells =
 pub number_so : (words : List ℕ) {whole : List ℕ} {number : ℕ} (key : Key) → 4 ≤ length words → widened words ≡ whole → number ≡ get_or words 2 0 → TellsOf whole key → number ≡ key.number
 number_so words key long same is tells = is ∙ number_of words key long (subst (λ (ws : List ℕ). TellsOf ws key) (sym same) tells)
 
--- a row was read where the room has its words
+-- a row was read if the room has its words
 module _ {rows : List Stored} {len : ℕ} {words : List ℕ} {end : ℕ} (is : IsRoom rows len words end) where
   end_within : end ≤ length words
   end_within = let size = is.size in let fits = is.fits in omega arith

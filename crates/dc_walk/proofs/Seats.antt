@@ -14,7 +14,7 @@ same_passes a b = record { table = b.table ∙ a.table; id = b.id ∙ a.id; same
 pub untried_still : {k : Known} → HasNotTried k k
 untried_still = record { tries = refl; got = refl; left = refl; past = refl }
 
--- one who stays out of the lock, and goes on so
+-- a pass that stays out of the lock, and goes on so
 pub stays_again : {p q r : Pass} → StaysOut p q → StaysOut q r → StaysOut p r
 stays_again a b = record { same = same_passes a.same b.same; idle = b.idle; untried = untried_again a.untried b.untried }
 
@@ -24,6 +24,6 @@ fits_still f s = record { table = s.table ∙ f.table; rows = ap (λ x. x.rows) 
 pub row_still : {p q : Pass} {row : ℕ} → row < (share p).rows → IsSamePass p q → row < (share q).rows
 row_still {row = row} l s = subst (λ x. row < x.rows) (sym s.same_share) l
 
--- who stayed out of the lock may look at the row again
+-- a pass that stayed out of the lock may look at the row again
 pub walker_still : {t : Shared} {p q : Pass} {row : ℕ} → Fits t p → row < (share p).rows → StaysOut p q → IsWalkerAt t q row
 walker_still f l s = record { fits = fits_still f s.same; idle = s.idle; inside = row_still l s.same }

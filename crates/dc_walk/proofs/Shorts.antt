@@ -16,7 +16,7 @@ use Rattle.dc_events.specs.Views.{View}
 use Rattle.dc_walk.specs.Probes.{probed, row_of, AreZero, IsShort, IsText}
 use Rattle.dc_walk.specs.declared.probe.Top.{Top}
 
--- so many words behind the value were read, and what is known of them says whether they are the text's
+-- this many words behind the value were read, and what is known of them says whether they are the text's
 pub record ReadsSome (v w : View) (row : ℕ) (top : Top) (text : List ℕ) (value n : ℕ) (Its : Type 0) : Type 0 where
   pub rest : List ℕ
   pub size : length rest ≡ n

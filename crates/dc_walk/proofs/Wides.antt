@@ -8,7 +8,7 @@ use Rattle.dc_events.specs.Views.{View}
 use Rattle.dc_walk.specs.Probes.{probed, read_of, seen_whole, AreZero}
 use Rattle.dc_walk.proofs.Probed.{rest_size}
 
--- words up to one were read, and from it on so many, of which it is known whether they are zero
+-- words up to one were read, and from it on this many, of which it is known whether they are zero
 pub record ReadsOn (v w : View) (row : ℕ) (words : List ℕ) (from i : ℕ) (Zeros : Type 0) : Type 0 where
   pub rest : List ℕ
   pub size : from + length rest ≡ i

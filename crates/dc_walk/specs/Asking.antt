@@ -43,7 +43,7 @@ pub record IsOther (v : View) (row : ℕ) (key : Key) : Type 0 where
   pub whole : IsWhole note
   pub other : TellsOf (note_words note) key → ⊥
 
--- the first row of a key's bucket, of so many
+-- the first row of a key's bucket, of this many
 abbrev pub first_row : ℕ → Key → ℕ
 first_row buckets key = BUCKET_ROWS * bucket_of key buckets
 

@@ -1,5 +1,5 @@
 -- What questions make of a walk over rows, whose source may take the lock or not.
-use Rattle.std.specs.Prelude.{◌≡◌, ℕ, ◌+◌, ◌*◌, ◌<◌, ◌≤◌, [], List, Bool, true, false, None, IfSome, length}
+use Rattle.std.specs.Prelude.{◌≡◌, ℕ, ◌+◌, ◌*◌, ◌<◌, ◌≤◌, [], List, Bool, true, false, Option, None, length}
 use Rattle.std.proofs.Common.{arith, refl, ◌∙◌}
 use Rattle.dc_plain.specs.Facts.{Key, Label, told_by}
 use Rattle.dc_plain.specs.Tellers.{Extends}
@@ -14,43 +14,46 @@ use Rattle.dc_walk.specs.Unpins.{PinsInTurn, rows_used, with_spare}
 use Rattle.dc_walk.specs.Findings.{SameRows, IsFinding, now_in, outcome_in, said_in, buckets_of, spent}
 use Rattle.dc_names.specs.declared.limits.TheConstants.{BUCKET_ROWS, MOST_USED}
 use Rattle.dc_walk.specs.declared.rows.Rows.{Rows}
+use Rattle.dc_walk.specs.declared.rows.Stop.{Stop}
 
--- it is the same walk still, and nothing is recorded; nor is anything seen where no lock is taken
+-- it is the same walk still, and nothing is recorded; nor is anything seen if no lock is taken
 pub record Between (locks : Bool) (v w : View) : Type 0 where
   pub call : w.walk.call ≡ v.walk.call
   pub first_load : w.first_load ≡ v.first_load
   pub nothing : NothingNew v w
   pub book : locks ≡ false → w.book ≡ v.book
 
--- it looked at no row yet for its next question, and where two looks were spent on an earlier one it has room for a row
-pub record MayGoOn (f : Rows) (looks : ℕ) : Type 0 where
-  pub none : looks ≡ 0
+-- it looked at no row yet for its next question, and if two looks were spent on an earlier one it has room for a row
+pub record IsGood (f : Rows) : Type 0 where
+  pub finding : IsFinding f 0
   pub room : f.slow ≡ true → length f.used.now.items < MOST_USED
 
--- a walk without the lock gave up for a cause that its pass has seen, if it needs one
-pub record IsGood (locks : Bool) (f : Rows) : Type 0 where
-  pub looks : ℕ
-  pub finding : IsFinding f looks
-  pub few : BUCKET_ROWS * length f.used.now.items + (spent f + looks) ≤ BUCKET_ROWS * (MOST_USED + 1)
-  pub goes : f.why ≡ None → MayGoOn f looks
-  pub cause : locks ≡ false → f.brief ≡ false → IfSome f.why (HasCause (outcome_in f) (buckets_of f.pass.now) (now_in f))
-  pub asks : IfSome f.why (λ why. outcome_in f (told_by []) ≡ None)
-
+-- it answered
 pub record Becomes (locks : Bool) (f g : Rows) : Type 0 where
   pub same : SameRows f g
   pub told : Extends (said_in f) (said_in g)
   pub walk : Between locks (now_in f) (now_in g)
   pub untried : IsUntried locks f.pass.now g.pass.now
-  pub good : IsGood locks f → IsGood locks g
+  pub good : IsGood f → IsGood g
 
--- the holds since these pinned the rows that it used, and the one that it had and doesn't use, which is none while it goes on
-pub record HasPinned (before : List LockHold) (f : Rows) : Type 0 where
-  pub pinned : PinsInTurn before (known f.pass.now).past (with_spare (rows_used f.used.now.items) f.spare)
-  pub spare : f.why ≡ None → f.spare ≡ None
+-- it gave up: without the lock for a cause that its pass has seen, if it needs one
+pub record Stops (locks : Bool) (f g : Rows) (stop : Stop) : Type 0 where
+  pub same : SameRows f g
+  pub walk : Between locks (now_in f) (now_in g)
+  pub untried : IsUntried locks f.pass.now g.pass.now
+  pub looks : ℕ
+  pub finding : IsFinding g looks
+  pub few : BUCKET_ROWS * length g.used.now.items + (spent g + looks) ≤ BUCKET_ROWS * (MOST_USED + 1)
+  pub cause : locks ≡ false → g.brief ≡ false → HasCause (outcome_in g) (buckets_of g.pass.now) (now_in g) stop.why
+  pub asks : outcome_in g (told_by []) ≡ None
 
--- with the lock, it is so still
-abbrev pub KeepsPinned : Bool → Rows → Rows → Type 0
-KeepsPinned locks f g = locks ≡ true → (before : List LockHold) → HasPinned before f → HasPinned before g
+-- the holds since these pinned the rows that it used, and one that it had and doesn't use, if any
+abbrev pub HasPinned : List LockHold → Rows → Option ℕ → Type 0
+HasPinned before f spare = PinsInTurn before (known f.pass.now).past (with_spare (rows_used f.used.now.items) spare)
+
+-- with the lock, if it used all that it had before
+abbrev pub KeepsPinned : Bool → Rows → Rows → Option ℕ → Type 0
+KeepsPinned locks f g spare = locks ≡ true → (before : List LockHold) → HasPinned before f None → HasPinned before g spare
 
 -- rows were had, and none of them is looked at yet
 pub record Had (locks : Bool) (f g : Rows) : Type 0 where
@@ -58,16 +61,14 @@ pub record Had (locks : Bool) (f g : Rows) : Type 0 where
   pub used : g.used.now.items ≡ f.used.now.items
   pub spent : g.used.now.spent ≡ f.used.now.spent
   pub slow : g.slow ≡ f.slow
-  pub why : g.why ≡ f.why
-  pub spare : g.spare ≡ f.spare
 
-pub record MayAskRows (locks : Bool) (f : Rows) (n : ℕ) (label : Label) : Type 0 where
-  pub good : IsGood locks f
+pub record MayAskRows (f : Rows) (n : ℕ) (label : Label) : Type 0 where
+  pub good : IsGood f
   pub needed : IsNeeded (outcome_in f) (said_in f) n label
 
 -- and nothing is told of the key
-pub record MayAskNew (locks : Bool) (f : Rows) (key : Key) : Type 0 where
-  pub good : IsGood locks f
+pub record MayAskNew (f : Rows) (key : Key) : Type 0 where
+  pub good : IsGood f
   pub needed : IsNeeded (outcome_in f) (said_in f) key.number key.label
   pub untold : IsUntold (said_in f) key.number key.label
 
@@ -114,6 +115,18 @@ goes_so locks f g h a b = record {
   walk = between_again a.walk b.walk;
   untried = λ free. untried_again (a.untried free) (b.untried free);
   good = λ is. b.good (a.good is);
+}
+
+pub stops_so : (locks : Bool) (f g h : Rows) (stop : Stop) → Becomes locks f g → Stops locks g h stop → Stops locks f h stop
+stops_so locks f g h stop a b = record {
+  same = same_again a.same b.same;
+  walk = between_again a.walk b.walk;
+  untried = λ free. untried_again (a.untried free) (b.untried free);
+  looks = b.looks;
+  finding = b.finding;
+  few = b.few;
+  cause = b.cause;
+  asks = b.asks;
 }
 
 pub keeps_so : (locks : Bool) (f g : Rows) → Becomes locks f g → Extends (said_in f) (said_in g)

@@ -32,6 +32,6 @@ HasCause outcome buckets v whys.Long = IsFull v
 HasCause outcome buckets v whys.Link = (key : Key) × (key.label ≡ Text) × IsMissing outcome buckets v key
 HasCause outcome buckets v whys.Memory = ⊥
 
--- where the rows of the bucket of a key that is asked for were looked at, this is the cause
+-- if the rows of the bucket of a key that is asked for were looked at, this is the cause
 abbrev pub TellsWhy : Option ℕ → Key → rust_why.Why → Type 0
 TellsWhy odd key why = (outcome : Teller → Option Outcome) (buckets : ℕ) (v : View) → Looked v (first_row buckets key) key odd BUCKET_ROWS → Asks outcome v key → HasCause outcome buckets v why

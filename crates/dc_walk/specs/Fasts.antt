@@ -51,7 +51,7 @@ abbrev pub Tried : Request → (before now : View) → rust_fast.Fast → Type 0
 Tried call before now (fasts.Done stamped) = RecordedWithin call before now stamped
 Tried call before now (fasts.Again why) = NothingNew before now
 
--- so too for who needs no cause
+-- so too for a caller that needs no cause
 abbrev pub TriedBriefly : Request → (before now : View) → Option Stamped → Type 0
 TriedBriefly call before now (Some stamped) = RecordedWithin call before now stamped
 TriedBriefly call before now None = NothingNew before now

@@ -30,7 +30,7 @@ IsSpelled u = Spells u.words (Some (fact_shown u))
 abbrev pub AllSpelled : List Used → Type 0
 AllSpelled used = AllByRecursion IsSpelled used
 
--- the rows are some of so many
+-- the rows are some of this many
 abbrev pub AllInside : ℕ → List Used → Type 0
 AllInside rows used = AllByRecursion (λ u. u.row < rows) used
 

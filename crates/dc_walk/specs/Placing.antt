@@ -12,7 +12,7 @@ use Rattle.dc_walk.specs.Looks.{outcome_by}
 use Rattle.dc_walk.specs.Rooms.{Kept, used_at}
 use Rattle.dc_walk.specs.Uses.{Marked}
 
--- the rows in the room are some of so many, and were noted in this view
+-- the rows in the room are some of this many, and were noted in this view
 pub record AreNoted (v : View) (rows : ℕ) (room : Kept) : Type 0 where
   pub noted : 0 < length room.items → Marked 0 0 v.walk.notes (map use_shown room.items)
   pub inside : AllInside rows room.items

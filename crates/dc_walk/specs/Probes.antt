@@ -17,7 +17,7 @@ use Rattle.dc_walk.specs.declared.probe.Top.{Top}
 abbrev pub fresh_note : ℕ → ℕ → List ℕ → Note
 fresh_note row count words = record { row = row; count = count; words = words; checked = false }
 
--- a row was noted, and so many words of it were read
+-- a row was noted, and this many words of it were read
 abbrev pub probed : View → ℕ → ℕ → List ℕ → View
 probed v row count words = record v {
   walk = record v.walk { notes = v.walk.notes ++ fresh_note row count words ∷ [] };

@@ -45,7 +45,7 @@ pub record IsBelow (end : ℕ) (s : Stored) : Type 0 where
   pub size : s.end ≤ s.start + ROW_WORDS
   pub within : s.end ≤ end
 
--- so many places are kept of those that there are, whose words stand before an end, behind which a whole row has room
+-- this many places are kept of those that there are, whose words stand before an end, behind which a whole row has room
 pub record IsRoom (rows : List Stored) (len : ℕ) (words : List ℕ) (end : ℕ) : Type 0 where
   pub few : len ≤ MOST_USED
   pub many : length rows ≡ MOST_USED
@@ -63,11 +63,11 @@ key_bytes (Entry name) = length name
 key_bytes Parent = 2
 key_bytes Text = ROW_TEXT
 
--- a room has words for rows of so many bytes more
+-- a room has words for rows of this many bytes more
 abbrev pub HasWords : Kept → ℕ → Type 0
 HasWords r n = 8 * r.spent + n ≤ 40 * length r.items + MOST_USED_BYTES
 
--- rows of so many bytes at most were kept
+-- rows of this many bytes at most were kept
 abbrev pub Keeps : Kept → Kept → ℕ → Type 0
 Keeps r s n = 8 * s.spent + 40 * length r.items ≤ 8 * r.spent + 40 * length s.items + n
 

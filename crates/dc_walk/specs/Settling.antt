@@ -38,7 +38,7 @@ pub record IsOpen (call : Request) (uses : List Use) (book : Book) (at c : ℕ) 
   pub book_is : w.book ≡ with_seen book at
   pub marked : Marked 0 c w.walk.notes uses
 
--- so many of the notes are checked since the pivot, before which the view was this
+-- this many of the notes are checked since the pivot, before which the view was this
 pub record IsChecking (call : Request) (answer : Answer) (uses : List Use) (before : View) (at c : ℕ) (w : View) : Type 0 where
   pub loads : w.loads ≤ before.loads + 1 + c
   pub first_load : w.first_load ≡ before.first_load

@@ -46,7 +46,7 @@ module _ (f : Rows) (key : Key) (g : Rows) where
   Saw row extent earlier k sights.Other = Fails (earlier + k) × (extent ≡ extents.Whole → IsOther (now_in g) row key)
   Saw row extent earlier k (sights.Tells at) = Answers row earlier at
 
--- where the rows were read whole, this is what was seen of them
+-- if the rows were read whole, this is what was seen of them
 abbrev pub LookedWhole : View → ℕ → Key → rust_extent.Extent → ℕ → Option ℕ → Type 0
 LookedWhole v first key extent k odd = extent ≡ extents.Whole → Looked v first key odd k
 

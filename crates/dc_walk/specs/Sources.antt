@@ -18,11 +18,11 @@ pub record Rests (locks : Bool) (v w : View) : Type 0 where
   pub nothing : NothingNew v w
   pub still : locks ≡ false → w ≡ v
 
--- where no lock is taken, none was tried for
+-- if no lock is taken, none was tried for
 abbrev pub IsUntried : Bool → Pass → Pass → Type 0
 IsUntried locks p q = locks ≡ false → HasNotTried (known p) (known q)
 
--- rows of a table of so many, which are those of the key's bucket where the source takes no lock
+-- rows of a table of this many, which are those of the key's bucket if the source takes no lock
 pub record Serves (locks : Bool) (rows : ℕ) (key : Key) (lane : Lane) : Type 0 where
   pub within : lane.first + lane.many ≤ rows
   pub few : lane.many ≤ BUCKET_ROWS
@@ -38,7 +38,7 @@ pub record HasLane (k l : Known) (result : Result Lane NoMemory) : Type 0 where
   pub once : HadOnce k l
   pub pins : PinsLane l.got l.left result
 
--- where the lock is taken, it is so
+-- if the lock is taken, it is so
 abbrev pub PinsIts : Bool → Pass → Pass → Result Lane NoMemory → Type 0
 PinsIts locks p q result = locks ≡ true → HasLane (known p) (known q) result
 

@@ -5,6 +5,7 @@ use Rattle.dc_rows.specs.Outcomes.{UnpinsOnce}
 use Rattle.dc_table.specs.Shares.{Known, LockHold}
 use Rattle.dc_table.specs.Passes.{Pass, known}
 use Rattle.dc_walk.specs.Rooms.{Kept, Used}
+use Rattle.dc_walk.specs.declared.rows.Stop.{Stop}
 
 -- the rows that answered
 abbrev pub rows_used : List Used → List ℕ
@@ -19,10 +20,10 @@ abbrev pub with_spare : List ℕ → Option ℕ → List ℕ
 with_spare rows None = rows
 with_spare rows (Some row) = rows ++ row ∷ []
 
--- the row that a walk had and didn't use, where it gave up
-abbrev pub spare_of : {A B : Type 0} → Result A (B × Option ℕ) → Option ℕ
+-- the row that a walk had and didn't use, if it gave up
+abbrev pub spare_of : {A : Type 0} → Result A Stop → Option ℕ
 spare_of (Ok went) = None
-spare_of (Err stopped) = stopped.1
+spare_of (Err stop) = stop.spare
 
 -- under these holds, the last first, these rows got a pin each, one after the other; under one that had no row no pin came or went
 abbrev pub EachPinned : List LockHold → List ℕ → Type 0

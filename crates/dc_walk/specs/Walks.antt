@@ -45,7 +45,7 @@ WentTo locks look p q begun room reply = Went locks look (view p) (view_in begun
 abbrev pub StoppedAt : (locks brief : Bool) → Look → Pass → Pass → Kept → Why → Type 0
 StoppedAt locks brief look p q room why = Stopped locks brief look (buckets_of p) (view p) (view q) (map use_shown room.items) why
 
--- its pivot was made, and so many rows were checked; before that the view was this
+-- its pivot was made, and this many rows were checked; before that the view was this
 pub record Settles (look : Look) (used : ℕ) (before now : View) (fast : Fast) : Type 0 where
   pub settled : Settled (look_shown look) before now fast
   pub asks : IfAgain fast (outcome_of look (told_by []) ≡ None)

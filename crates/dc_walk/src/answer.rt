@@ -1,4 +1,4 @@
-//! What a look-up that rests on rows comes to.
+//! The answer type of `walk_fast` and `walk_counted`: an answer with its point, or a cause.
 
 use crate::why::Why;
 use dc_plain::Stamped;

@@ -20,7 +20,7 @@ use crate::source::Lane;
 use dc_plain::Key;
 
 /// Looks at some rows up to the first that tells of a key, which is the last of the used ones then.
-/// Else it answers the first of them that is odd. So many rows were looked at before for this key.
+/// Else it answers the first of them that is odd. `earlier` rows were looked at before for this key.
 #[inline(always)]
 fn ask_rows(
     rows: &mut Rows<'_>,
@@ -42,8 +42,6 @@ fn ask_rows(
     requires untold { IsUntold (said_in rows.old) (key_shown key).number (key_shown key).label }
     ensures same { SameRows rows.old rows.new }
     ensures untried { HasNotTried (known rows.old.pass.now) (known rows.new.pass.now) }
-    ensures why { rows.new.why ≡ rows.old.why }
-    ensures spare { rows.new.spare ≡ rows.old.spare }
     ensures on { GoesOn (now_in rows.old) (now_in rows.new) }
     ensures tells { IfOk result (AnswersIn rows.old (key_shown key.entry) rows.new lane earlier) }
     ensures slow { rows.new.slow ≡ rows.old.slow }
@@ -64,7 +62,7 @@ fn ask_rows(
 }
 
 /// Looks at rows whole, since a row that was left after its head tells nothing of why there is no answer.
-/// Where a row tells of the key after all, later keys are sought in whole rows at once.
+/// If a row tells of the key after all, later keys are sought in whole rows at once.
 // Kept out of line: few look-ups come to it.
 #[inline(never)]
 fn look_whole(
@@ -86,8 +84,6 @@ fn look_whole(
     requires untold { IsUntold (said_in rows.old) (key_shown key).number (key_shown key).label }
     ensures same { SameRows rows.old rows.new }
     ensures untried { HasNotTried (known rows.old.pass.now) (known rows.new.pass.now) }
-    ensures why { rows.new.why ≡ rows.old.why }
-    ensures spare { rows.new.spare ≡ rows.old.spare }
     ensures on { GoesOn (now_in rows.old) (now_in rows.new) }
     ensures tells { IfOk result (AnswersIn rows.old (key_shown key.entry) rows.new lane 0) }
     ensures fails { OnErr result (GivesUp rows.old rows.new) }
@@ -122,8 +118,6 @@ pub(crate) fn seek_row(
     requires untold { IsUntold (said_in rows.old) (key_shown key).number (key_shown key).label }
     ensures same { SameRows rows.old rows.new }
     ensures untried { HasNotTried (known rows.old.pass.now) (known rows.new.pass.now) }
-    ensures why { rows.new.why ≡ rows.old.why }
-    ensures spare { rows.new.spare ≡ rows.old.spare }
     ensures on { GoesOn (now_in rows.old) (now_in rows.new) }
     ensures tells { IfOk result (AnswersIn rows.old (key_shown key.entry) rows.new lane 0) }
     ensures fails { OnErr result (GivesUp rows.old rows.new) }

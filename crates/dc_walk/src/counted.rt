@@ -1,4 +1,4 @@
-//! A look-up by rows that are filled and pinned for it.
+//! The counted walk: it has each row that it needs filled and pinned, and takes the pins back at its end.
 
 ghost use Rattle.std.specs.Prelude.{true};
 ghost use Rattle.dc_table.specs.Passes.{known, view, Fits, IsSamePass, IsIdle};
@@ -43,7 +43,7 @@ fn unpin<R: Wait>(shared: &Shared, rt: &R, pass: &mut Pass, used: &Room, spare: 
 
 /// Where a path leads, by rows that are filled from the tree and pinned one after the other, each under
 /// the lock; the answer rests on the rows alone, as that of `walk_fast`. It waits for the lock.
-/// `Again(Memory)` where memory for a row or its pin was refused. On every way out each row that it
+/// `Again(Memory)` if memory for a row or its pin was refused. On every way out each row that it
 /// pinned is unpinned, so that n names take n + 1 holds of the lock.
 pub fn walk_counted<R: Wait>(
     shared: &Shared,

@@ -1,4 +1,4 @@
-//! A filter of keys by their hashes.
+//! A filter of keys by their hashes: a walk looks through its used rows only for a key that it may hold.
 
 ghost use Rattle.std.specs.Prelude.{◌↔◌, ◌≡◌, ◌%◌, ℕ, IsTrue};
 ghost use Rattle.dc_walk.specs.Filters.{MayHold};
@@ -9,7 +9,7 @@ ghost use Rattle.dc_walk.specs.declared.filter.TheConstants.{FILTER_PLACES};
 pub(crate) const FILTER_PLACES: usize = 128;
 
 /// Keys by the places of their hashes: a key that was added it may hold, and of another it says so too
-/// where both have one place.
+/// if both have one place.
 #[derive(Drop)]
 pub(crate) struct KeyFilter {
     places: [bool; FILTER_PLACES],

@@ -1,4 +1,4 @@
-//! The text of a link that a walk follows.
+//! The text of a link that a walk follows, copied out of the row that spells it.
 
 ghost use Rattle.std.specs.Prelude.{◌≤◌, Some, length};
 ghost use Rattle.dc_row.specs.Narrow.{widened};

@@ -1,4 +1,4 @@
-//! The question of a look-up.
+//! The question of a look-up as one value, which every walk is handed.
 
 use dc_names::PathText;
 use dc_plain::{Call, Follow};

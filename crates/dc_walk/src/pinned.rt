@@ -1,4 +1,4 @@
-//! Rows that are filled and pinned for a walk.
+//! The source of a counted walk: each row that it needs is filled and pinned under the lock.
 
 ghost use Rattle.std.specs.Prelude.{◌≡◌, true};
 
@@ -11,8 +11,8 @@ use dc_table::{Pass, Reader, Shared};
 use std::alloc::Global;
 use std::sync::Wait;
 
-/// The key's own row, which is filled from the tree under the lock where no row has the key, and pinned.
-/// Who walks by such rows takes their pins back.
+/// The key's own row, which is filled from the tree under the lock if no row has the key, and pinned.
+/// A walk by such rows takes their pins back.
 #[derive(Drop)]
 pub(crate) struct Pinning<'a, R> {
     pub shared: &'a Shared,

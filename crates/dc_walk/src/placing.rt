@@ -8,7 +8,8 @@ ghost use Rattle.dc_rows.specs.Guards.{seat_of, kept_by, IsStill};
 ghost use Rattle.dc_rows.specs.Outcomes.{IsBack, MakesAlone, MakesHeld};
 ghost use Rattle.dc_table.specs.Changes.{IsTaken, NothingNew};
 ghost use Rattle.dc_table.specs.Holders.{table_of};
-ghost use Rattle.dc_table.specs.Passes.{view, share, IsIdle, IsSamePass, StaysOut};
+ghost use Rattle.dc_table.specs.Passes.{known, view, share, IsIdle, IsSamePass, StaysOut};
+ghost use Rattle.dc_table.specs.Shares.{HadOnce};
 ghost use Rattle.dc_walk.specs.Findings.{CanWalk};
 ghost use Rattle.dc_walk.specs.Placing.{AreNoted, AreTrue, IsFoundBy};
 
@@ -22,7 +23,7 @@ use dc_plain::{Call, Follow, Reply, answers_from_true_facts_are_replies};
 use dc_resolve::before_last_part;
 use dc_row::words_have_the_fact_they_spell;
 use dc_rows::{ChangeFault, Guard};
-use dc_table::{Pass, Reader, Shared};
+use dc_table::{Pass, Reader, Shared, Sleepers};
 use std::alloc::Global;
 use std::sync::Wait;
 
@@ -53,8 +54,8 @@ fn path_of<'a>(call: &Call<'a>) -> (u64, &'a [u8]) {
 }
 
 /// Where all components of a call's path but the last lead, by the rows of a table alone. It takes no
-/// lock and no memory, never waits, and records nothing. `None` where there are none, where they lead to
-/// no directory, and where the rows don't tell. What was found is known of the tree once `is_known` says
+/// lock and no memory, never waits, and records nothing. `None` if there are none, if they lead to
+/// no directory, or if the rows don't tell. What was found is known of the tree once `is_known` says
 /// so under the lock.
 fn find_front<'a>(
     reader: Reader<'_>,
@@ -87,7 +88,7 @@ fn find_front<'a>(
 }
 
 /// Whether each row that a walk used before is as it was, for the pass that has got the lock since. Then
-/// what they tell is true of the tree, and nobody else can change that.
+/// what they tell is true of the tree, and no other thread can change that.
 pub fn are_as_noted(guard: &mut Guard<'_>, room: &Room) -> bool
     requires noted { let p = seat_of guard.old in AreNoted (view p) (share p).rows room.now }
     ensures same { IsStill guard.old guard.new }
@@ -114,7 +115,7 @@ fn is_known(guard: &mut Guard<'_>, room: &Room, known: Known<'_>) -> bool
 }
 
 /// Makes a change under the lock, by what was found before.
-fn change_held<'t>(
+fn change_under_lock<'t>(
     mut guard: Guard<'t>,
     alloc: Global,
     room: &Room,
@@ -128,12 +129,12 @@ fn change_held<'t>(
     ensures made { MakesHeld guard.entry result.0.now (request_of call.now) result.1 }
 {
     let Some(front) = found else {
-        return guard.change(alloc, call);
+        return guard.change::<Sleepers>(alloc, call);
     };
     if is_known(&mut guard, room, front) {
-        guard.change_knowing(alloc, call, found)
+        guard.change_knowing::<Sleepers>(alloc, call, found)
     } else {
-        guard.change(alloc, call)
+        guard.change::<Sleepers>(alloc, call)
     }
 }
 
@@ -149,15 +150,13 @@ pub fn change_by_rows<R: Wait>(
 ) -> Result<(Reply, u64), ChangeFault>
     requires can { CanWalk shared.now pass.old × IsChange call.now }
     ensures same { IsSamePass pass.old pass.new × IsIdle pass.new }
+    ensures once { HadOnce (known pass.old) (known pass.new) }
     ensures made { MakesAlone pass.old pass.new (request_of call.now) result }
 {
     let found = find_front(shared.reader(), pass, room, call);
     let guard = Guard::lock(shared, rt, pass);
-    let (back, made) = change_held(guard, alloc, room, call, found);
+    let (back, made) = change_under_lock(guard, alloc, room, call, found);
     // For the proof: the pass is back as it is bound.
     let _pass = back;
-    // After the lock is given back: a sleeper that was woken before would find it held, and sleep on with
-    // nobody left to wake it.
-    shared.wake();
     made
 }

@@ -1,6 +1,6 @@
 //! The questions of a walk, answered by the rows of a source.
 
-ghost use Rattle.std.specs.Prelude.{◌≡◌, ◌≢◌, None, true, is_some, IfOk, OnOk, OnErr};
+ghost use Rattle.std.specs.Prelude.{◌≡◌, ◌≢◌, true, IfErr, IfOk, OnOk, OnErr};
 ghost use Rattle.dc_names.specs.Names.{part_shown};
 ghost use Rattle.dc_names.specs.Paths.Part.{Dot};
 ghost use Rattle.dc_plain.specs.Facts.Label.{Text};
@@ -8,21 +8,21 @@ ghost use Rattle.dc_plain.specs.KeysShown.{key_shown};
 ghost use Rattle.dc_resolve.specs.Asked.{label_of};
 ghost use Rattle.dc_table.specs.Holders.{table_of};
 ghost use Rattle.dc_table.specs.Passes.{share};
-ghost use Rattle.dc_walk.specs.Becomings.{Becomes, IsGood, KeepsPinned, MayAskRows, MayAskNew, Had};
+ghost use Rattle.dc_walk.specs.Becomings.{Becomes, IsGood, KeepsPinned, MayAskRows, MayAskNew, Had, Stops};
 ghost use Rattle.dc_walk.specs.Causes.{TellsWhy};
 ghost use Rattle.dc_index.specs.Slots.{key_hash};
 ghost use Rattle.dc_walk.specs.Finds.{StandsAt};
 ghost use Rattle.dc_walk.specs.Rooms.{key_bytes, HasWords, Keeps};
 ghost use Rattle.dc_walk.specs.Sources.{PinsIts, Serves};
+ghost use Rattle.dc_walk.specs.Unpins.{spare_of};
 
 use crate::bucket::seek_row;
-use crate::rows::Rows;
+use crate::rows::{Rows, Stop};
 use crate::source::{Lane, Source};
 use crate::used::standing;
 use crate::why::Why;
 use dc_names::{NoMemory, Part};
 use dc_plain::{Key, Label};
-use dc_resolve::Stop;
 use dc_row::words_have_the_fact_they_spell;
 
 /// The key under which a part, a name or dot-dot, is looked up in the directory of a number.
@@ -49,8 +49,8 @@ pub(crate) fn text_key<'a>(number: u64) -> Key<'a>
     Key { number, label }
 }
 
-/// Why a walk ends where the rows that were looked at don't tell of a key. The first odd one of them is
-/// `odd`, and so many questions were answered before.
+/// Why a walk ends if the rows that were looked at don't tell of a key. The first odd one of them is `odd`,
+/// and `answered` questions were answered before.
 fn why_of(odd: Option<u64>, key: Key<'_>, answered: u64) -> Why
     ensures { TellsWhy odd (key_shown key.entry) result }
 {
@@ -70,7 +70,7 @@ fn have<S: Source>(
     hash: u64,
 ) -> Result<Lane, NoMemory>
     requires serves { S.serves source.now (table_of rows.old.reader) }
-    requires good { IsGood S.locks rows.old × (rows.old.why ≡ None) }
+    requires good { IsGood rows.old }
     requires hash { hash ≡ key_hash (key_shown key) }
     ensures had { Had S.locks rows.old rows.new }
     ensures pins { PinsIts S.locks rows.old.pass.now rows.new.pass.now result }
@@ -81,30 +81,32 @@ fn have<S: Source>(
     source.rows_of(rows.reader, rows.pass, key, hash)
 }
 
-/// Asks rows for a key of which nothing was told, by its hash, and answers where the row that tells of it
-/// stands among the used ones.
+/// Asks rows for a key that no used row tells of, by its hash, and answers the place of the row that does
+/// among the used ones.
 #[inline(always)]
 fn ask<S: Source>(source: &S, rows: &mut Rows<'_>, key: Key<'_>, hash: u64) -> Result<usize, Stop>
     requires serves { S.serves source.now (table_of rows.old.reader) }
-    requires fresh { rows.old.why ≡ None }
     requires hash { hash ≡ key_hash (key_shown key) }
-    requires may { MayAskNew S.locks rows.old (key_shown key) }
+    requires may { MayAskNew rows.old (key_shown key) }
     requires words { HasWords rows.old.used.now (key_bytes (key_shown key).label) }
-    ensures becomes { Becomes S.locks rows.old rows.new }
-    ensures pins { KeepsPinned S.locks rows.old rows.new }
+    ensures becomes { OnOk result (Becomes S.locks rows.old rows.new) }
+    ensures pins { KeepsPinned S.locks rows.old rows.new (spare_of result) }
     ensures told { IfOk result (StandsAt rows.new.used.now.items (key_shown key.entry)) }
-    ensures same { OnOk result (rows.new.why ≡ None) }
     ensures keeps { OnOk result (Keeps rows.old.used.now rows.new.used.now
         (key_bytes (key_shown key.entry).label)) }
-    ensures stopped { OnErr result (is_some rows.new.why ≡ true) }
+    ensures stops { IfErr result (Stops S.locks rows.old rows.new) }
 {
     if rows.used.is_full() {
-        rows.why = Some(Why::Long);
-        return Err(Stop);
+        return Err(Stop {
+            why: Why::Long,
+            spare: None,
+        });
     }
     let Ok(lane) = have(source, rows, key, hash) else {
-        rows.why = Some(Why::Memory);
-        return Err(Stop);
+        return Err(Stop {
+            why: Why::Memory,
+            spare: None,
+        });
     };
     let answered = rows.used.many() as u64;
     // For the proof: a table has fewer than 2^64 rows.
@@ -113,20 +115,19 @@ fn ask<S: Source>(source: &S, rows: &mut Rows<'_>, key: Key<'_>, hash: u64) -> R
     match seek_row(rows, lane, key, hash) {
         // As many rows are used as can be, after two looks for one of them: to check them all would take
         // a walk past its loads.
-        Ok(_) if rows.slow && rows.used.is_full() => {
-            rows.why = Some(Why::Long);
-            Err(Stop)
-        }
+        Ok(_) if rows.slow && rows.used.is_full() => Err(Stop {
+            why: Why::Long,
+            spare: None,
+        }),
         Ok(at) => Ok(at),
-        Err(odd) => {
-            rows.spare = lane.head();
-            rows.why = Some(why_of(odd, key, answered));
-            Err(Stop)
-        }
+        Err(odd) => Err(Stop {
+            why: why_of(odd, key, answered),
+            spare: lane.head(),
+        }),
     }
 }
 
-/// Where the used row stands that tells of a key with this hash. Where none does yet, the rows of the
+/// The place of the used row that tells of a key with this hash. If none does yet, the rows of the
 /// source are asked.
 #[inline(always)]
 pub(crate) fn told<S: Source>(
@@ -137,21 +138,17 @@ pub(crate) fn told<S: Source>(
 ) -> Result<usize, Stop>
     requires serves { S.serves source.now (table_of rows.old.reader) }
     requires hash { hash ≡ key_hash (key_shown key) }
-    requires may { MayAskRows S.locks rows.old (key_shown key).number (key_shown key).label }
+    requires may { MayAskRows rows.old (key_shown key).number (key_shown key).label }
     requires words { HasWords rows.old.used.now (key_bytes (key_shown key).label) }
-    ensures becomes { Becomes S.locks rows.old rows.new }
-    ensures pins { KeepsPinned S.locks rows.old rows.new }
+    ensures becomes { OnOk result (Becomes S.locks rows.old rows.new) }
+    ensures pins { KeepsPinned S.locks rows.old rows.new (spare_of result) }
     ensures told { IfOk result (StandsAt rows.new.used.now.items (key_shown key.entry)) }
-    ensures same { OnOk result (is_some rows.new.why ≡ is_some rows.old.why) }
     ensures keeps { OnOk result (Keeps rows.old.used.now rows.new.used.now
         (key_bytes (key_shown key.entry).label)) }
-    ensures stopped { OnErr result (is_some rows.new.why ≡ true) }
+    ensures stops { IfErr result (Stops S.locks rows.old rows.new) }
 {
-    if rows.why.is_some() {
-        return Err(Stop);
-    }
     words_have_the_fact_they_spell();
-    // Most paths have no key twice, and so few rows are looked through for one.
+    // Most paths have no key twice, so that few rows are looked through for one.
     if rows.filter.may_hold(hash) {
         if let Some(at) = standing(rows.used, key) {
             return Ok(at);

@@ -75,6 +75,8 @@ fn take_short(
     if !is_its || !leads(top.head, top.number, value, key) {
         return None;
     }
+    // The key's words, and not the row's, which weren't kept: `is_its` says that they are the same, and that
+    // zeros follow, so no byte is lost that a check could miss.
     let first = [
         top.count, top.head, top.number, value, words[0], words[1], words[2], words[3],
     ];
@@ -82,7 +84,7 @@ fn take_short(
     Some(room.keep(row, place, TEXT_START + text.len().div_ceil(8)))
 }
 
-/// Reads the rest of a row whose top was read into a room, where it stays if it tells of a key.
+/// Reads the rest of a row whose top was read into a room, and keeps it there if it tells of a key.
 // Kept out of line: few rows have long names, and a link has one text.
 #[inline(never)]
 fn take_wide(
@@ -149,9 +151,9 @@ fn take_in(
     }
 }
 
-/// Looks at a row for what it tells of a key, with the key's hash and the words of a short name. Where it
-/// does it is the last of the used ones. So many rows were looked at before, and before this look at the
-/// bucket.
+/// Looks at a row for what it tells of a key, with the key's hash and the words of a short name. If it
+/// does, it is the last of the used ones. `before` rows were looked at in this look at the bucket, and
+/// `earlier` ones in the look before.
 #[inline(always)]
 pub(crate) fn look_at(
     rows: &mut Rows<'_>,
@@ -175,8 +177,6 @@ pub(crate) fn look_at(
     requires untold { IsUntold (said_in rows.old) (key_shown key).number (key_shown key).label }
     ensures same { SameRows rows.old rows.new }
     ensures untried { HasNotTried (known rows.old.pass.now) (known rows.new.pass.now) }
-    ensures why { rows.new.why ≡ rows.old.why }
-    ensures spare { rows.new.spare ≡ rows.old.spare }
     ensures slow { rows.new.slow ≡ rows.old.slow }
     ensures on { GoesOn (now_in rows.old) (now_in rows.new) }
     ensures saw { Saw rows.old (key_shown key.entry) rows.new row extent earlier (before + 1) result }

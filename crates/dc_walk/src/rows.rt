@@ -1,4 +1,4 @@
-//! What a walk over rows has done so far.
+//! The state of a walk over rows, and what it gives up with.
 
 ghost use Rattle.std.specs.Prelude.{◌<◌, Some, length};
 ghost use Rattle.dc_row.specs.Spelling.{SpellsText, TellsTarget, TellsText};
@@ -13,9 +13,8 @@ use dc_names::Kind;
 use dc_table::{Pass, Reader};
 
 /// A walk over rows: its question, the rows that it used, whether a step was made, how many rows were
-/// noted, which keys the used rows may tell of, and why it gave up. `spare` is the row that was had for
-/// its last question, where that row didn't tell of the key. Once `slow`, it reads each row whole. Where
-/// it is `brief`, it needn't say why it gave up, and reads no row for that.
+/// noted, and which keys the used rows may tell of. Once `slow`, it reads each row whole. If it is `brief`,
+/// it needn't say why it gives up, and reads no row for that.
 #[derive(Drop)]
 pub(crate) struct Rows<'a> {
     pub reader: Reader<'a>,
@@ -25,10 +24,16 @@ pub(crate) struct Rows<'a> {
     pub begun: bool,
     pub made: u64,
     pub filter: KeyFilter,
-    pub spare: Option<u64>,
     pub slow: bool,
     pub brief: bool,
-    pub why: Option<Why>,
+}
+
+/// Why a walk over rows gives up. `spare` is the row that was had for its last question, if that row
+/// doesn't tell of the key: the walk doesn't use it, and it may be pinned.
+#[derive(Clone, Copy)]
+pub(crate) struct Stop {
+    pub why: Why,
+    pub spare: Option<u64>,
 }
 
 impl Rows<'_> {

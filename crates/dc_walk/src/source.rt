@@ -1,4 +1,4 @@
-//! Where a walk has its rows from.
+//! The sources of rows: the key's bucket as it is, or rows that are had under the lock (`pinned`).
 
 ghost use Rattle.std.specs.Prelude.{◌≡◌, ◌*◌, ◌/◌, Bool, true, false, IfOk, OnErr};
 ghost use Rattle.dc_plain.specs.KeysShown.{key_shown};
@@ -35,7 +35,7 @@ impl Lane {
     }
 }
 
-/// Who knows which rows may tell of a key.
+/// Knows which rows may tell of a key.
 pub(crate) trait Source {
     /// Whether it takes the lock for a question.
     ghost locks: { Bool };

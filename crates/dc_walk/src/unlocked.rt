@@ -1,4 +1,4 @@
-//! Look-ups without the lock.
+//! The walks without the lock: one that says why it gives up, and a brief one that doesn't.
 
 ghost use Rattle.std.specs.Prelude.{IfNone};
 ghost use Rattle.dc_table.specs.Holders.{table_of};
@@ -32,7 +32,7 @@ pub fn walk_fast(reader: Reader<'_>, pass: &mut Pass, room: &mut Room, look: Loo
 }
 
 /// Where a path leads, by the rows of a table alone, as `walk_fast`, for a caller who asks the tree next
-/// where there is no answer. `None` doesn't say why, as to tell the cause a walk would read rows whole,
+/// if there is no answer. `None` doesn't say why, as to tell the cause a walk would read rows whole,
 /// which takes a sixth of a miss (measured). The room has the rows then by which the questions before were
 /// answered, for `are_as_noted`.
 pub fn walk_briefly(

@@ -1,4 +1,4 @@
-//! The rows whose answers a walk rests on.
+//! The room of a walk: the rows whose answers it rests on, and the row that is being read.
 
 ghost use Rattle.std.specs.Prelude.{◌≡◌, ◌≢◌, ◌<◌, ◌≤◌, ◌+◌, ◌*◌, ◌==◌, ◌∷◌, ◌++◌, ◌↔◌, [], Some, length, slice_index, take, IfSome, IfNone, IsTrue};
 ghost use Rattle.dc_plain.specs.Facts.Label.{Text};
@@ -78,7 +78,7 @@ impl Room {
         }
     }
 
-    /// Forgets the rows of an earlier walk. What they told stays in its place, where nothing reads it.
+    /// Forgets the rows of an earlier walk. What they told stays in its place, and nothing reads it there.
     pub(crate) fn clear(&mut self)
         ensures { (self.new.items ≡ []) × (self.new.spent ≡ 0) }
     {
@@ -235,7 +235,7 @@ impl Room {
         are_past(reader, pass, row, words, told)
     }
 
-    /// Keeps the row that was read, whose note has this place, by so many of its first words, and answers
+    /// Keeps the row that was read, whose note has this place, by this many of its first words, and answers
     /// where it stands.
     #[inline(always)]
     pub(crate) fn keep(&mut self, row: u64, place: u64, told: usize) -> usize
@@ -262,7 +262,7 @@ impl Room {
     }
 }
 
-/// Where the row that was kept stands that tells of a key, if one does.
+/// The place of the kept row that tells of a key, if one does.
 #[inline(always)]
 pub(crate) fn standing(room: &Room, key: Key<'_>) -> Option<usize>
     requires spelled { AllSpelled room.now.items }

@@ -1,6 +1,9 @@
-//! A look-up by the rows of a source.
+//! The walk that `walk_fast`, `walk_briefly` and `walk_counted` share, over the rows of a source.
 
 ghost use Rattle.std.specs.Prelude.{◌≡◌, [], IfOk, IfErr};
+ghost use Rattle.dc_plain.specs.FactLaws.{outcome_answer};
+ghost use Rattle.dc_plain.specs.Requests.{answer_of};
+ghost use Rattle.dc_resolve.specs.Ends.{outcome_shown};
 ghost use Rattle.dc_table.specs.Holders.{table_of};
 ghost use Rattle.dc_table.specs.Passes.{view, share, IsSamePass, IsIdle};
 ghost use Rattle.dc_walk.specs.Findings.{CanWalk, buckets_of};
@@ -13,17 +16,27 @@ use crate::answer::Fast;
 use crate::filter::KeyFilter;
 use crate::finder::Walker;
 use crate::look::Look;
-use crate::rows::Rows;
+use crate::rows::{Rows, Stop};
 use crate::settle::settle;
 use crate::source::Source;
 use crate::used::Room;
-use crate::why::Why;
 use dc_plain::Reply;
 use dc_resolve::{Walked, walk};
 use dc_table::{Pass, Reader};
 
-/// Walks by rows. It answers the reply, and whether a step was made; or why there is none, and a row
-/// that was had and isn't used. Where it is `brief`, it reads no row for the cause, and may answer another.
+/// The reply of a walk that came to an end.
+#[inline(always)]
+fn reply_of(end: Walked) -> Reply
+    ensures { answer_of result ≡ outcome_answer (outcome_shown end) }
+{
+    match end {
+        Walked::Found((number, kind)) => Reply::Found(number, kind),
+        Walked::Refused(refusal) => Reply::Refused(refusal.number()),
+    }
+}
+
+/// Walks by rows. It answers the reply, and whether a step was made; or why there is none. If it is `brief`,
+/// it reads no row for the cause, and may answer another.
 pub(crate) fn walk_rows<'x, S: Source>(
     source: &'x S,
     reader: Reader<'x>,
@@ -31,7 +44,7 @@ pub(crate) fn walk_rows<'x, S: Source>(
     used: &'x mut Room,
     look: Look<'x>,
     brief: bool,
-) -> Result<(Reply, bool), (Why, Option<u64>)>
+) -> Result<(Reply, bool), Stop>
     requires serves { S.serves source.now (table_of reader) }
     requires can { CanWalk (table_of reader) pass.old }
     requires empty { (used.old.items ≡ []) × (used.old.spent ≡ 0) }
@@ -39,8 +52,8 @@ pub(crate) fn walk_rows<'x, S: Source>(
     ensures untried { IsUntried S.locks pass.old pass.new }
     ensures rows { AllInside (share pass.old).rows used.new.items }
     ensures went { IfOk result (λ r. WentTo S.locks look.entry pass.old pass.new r.1 used.new r.0) }
-    ensures stopped { IfErr result (λ e.
-        StoppedAt S.locks brief look.entry pass.old pass.new used.new e.0) }
+    ensures stopped { IfErr result (λ stop.
+        StoppedAt S.locks brief look.entry pass.old pass.new used.new stop.why) }
     ensures pins { PinsUsed S.locks pass.old pass.new used.new (spare_of result) }
 {
     let rows = Rows {
@@ -51,22 +64,15 @@ pub(crate) fn walk_rows<'x, S: Source>(
         begun: false,
         made: 0,
         filter: KeyFilter::new(),
-        spare: None,
         slow: false,
         brief,
-        why: None,
     };
     let mut walker = Walker { source, rows };
     let walked = walk(&mut walker, look.base, look.path, look.follow);
-    let (begun, spare, why) = (walker.rows.begun, walker.rows.spare, walker.rows.why);
+    let begun = walker.rows.begun;
     match walked {
-        Walked::Found(number, kind) => Ok((Reply::Found(number, kind), begun)),
-        Walked::Refused(refusal) => Ok((Reply::Refused(refusal.number()), begun)),
-        Walked::Stopped => match why {
-            Some(why) => Err((why, spare)),
-            // The finder keeps the cause before it stops.
-            None => unreachable!(),
-        },
+        Ok(end) => Ok((reply_of(end), begun)),
+        Err(stop) => Err(stop),
     }
 }
 
@@ -91,6 +97,6 @@ pub(crate) fn walk_by<S: Source>(
     used.clear();
     match walk_rows(source, reader, pass, used, look, false) {
         Ok((reply, begun)) => (settle(reader, pass, used, look, reply, begun), None),
-        Err((why, spare)) => (Fast::Again(why), spare),
+        Err(stop) => (Fast::Again(stop.why), stop.spare),
     }
 }

@@ -59,7 +59,7 @@ const LOOK: [Choice; 5] = [
     Choice(
         "one-hold",
         Given::Nothing,
-        "Looks up by look_filled: a miss takes the lock once",
+        "Looks up by resolve: a miss takes the lock once",
     ),
 ];
 

@@ -16,7 +16,7 @@ pub struct Causes {
     pub changed: u64,
 }
 
-/// Counts so many more.
+/// Counts this many more.
 pub fn add(count: &mut u64, more: u64) {
     *count = count.saturating_add(more);
 }

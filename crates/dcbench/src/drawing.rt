@@ -162,7 +162,7 @@ impl Drawing {
         })
     }
 
-    /// Makes so many in the directories above, in turns.
+    /// Makes this many in the directories above, in turns.
     fn level(&mut self, kind: &[u8], above: &[Spot], count: u64) -> Result<Vec<Spot>, AllocError> {
         let mut here = Vec::new(self.alloc);
         for i in 0..count {

@@ -45,7 +45,7 @@ impl Fault {
         }
     }
 
-    /// What is told of the fault, but for a limit and for the line that is bad.
+    /// What is said of the fault, but for a limit and for the line that is bad.
     fn text(&self) -> &'static str {
         match self {
             Fault::NoText => "an argument is no text",

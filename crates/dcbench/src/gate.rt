@@ -4,11 +4,11 @@ use std::rt::Clock;
 use std::sync::atomic::{AtomicU64, Ordering};
 use std::time::{Duration, Instant};
 
-/// The seconds of the longest wait: past it a thread begins alone, as where another couldn't be
+/// The seconds of the longest wait: past it a thread begins alone, as if another couldn't be
 /// started.
 const LONGEST: u64 = 1;
 
-/// A gate for so many threads.
+/// A gate for this many threads.
 #[derive(Drop)]
 pub struct Gate {
     arrived: AtomicU64,

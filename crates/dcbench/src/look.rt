@@ -83,7 +83,7 @@ pub fn look<R: Wait>(
     }
 }
 
-/// Whether a path leads somewhere, counted as `look` counts; but for `look_filled`, which doesn't tell
+/// Whether a path leads somewhere, counted as `look` counts; but for `resolve`, which doesn't tell
 /// whether it took the lock. The reply is read where it stands: to move it is the benchmark's time and not
 /// the cache's.
 #[inline(always)]
@@ -101,7 +101,7 @@ fn finds<R: Wait>(
 {
     if let Miss::OneHold = miss {
         tally.untold = tally.untold.saturating_add(1);
-        let found = cache.look_filled(rt, alloc, pass, ROOT, path.bytes(), Follow::Yes);
+        let found = cache.resolve(rt, alloc, pass, ROOT, path.bytes(), Follow::Yes);
         return is_found(&found.reply);
     }
     match &cache.look_fast(pass, ROOT, path, Follow::Yes) {

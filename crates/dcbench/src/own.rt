@@ -64,7 +64,7 @@ impl Pair {
 }
 
 impl Own {
-    /// The files of one of so many threads: one in the root, or some beside the paths that are asked.
+    /// The files of one of this many threads: one in the root, or some beside the paths that are asked.
     pub fn new(
         alloc: Global,
         work: Work,
@@ -84,7 +84,7 @@ impl Own {
         Ok(own)
     }
 
-    /// Adds the files of one of so many threads, beside the paths that are asked.
+    /// Adds the files of one of this many threads, beside the paths that are asked.
     fn add(
         &mut self,
         alloc: Global,

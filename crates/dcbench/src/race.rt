@@ -27,11 +27,11 @@ pub struct Course {
     pub lines: Vec<u8>,
     /// The path that is looked up.
     pub asked: Vec<u8>,
-    /// The path under which the file is made, where it is.
+    /// The path under which the file is made, if it is.
     pub made: Vec<u8>,
 }
 
-/// A path below a directory: so many times `d`, and then the file.
+/// A path below a directory: this many times `d`, and then the file.
 fn below(alloc: Global, top: &str, depth: u64) -> Result<Vec<u8>, AllocError> {
     let mut path = Vec::from_slice(alloc, top.as_bytes())?;
     for _ in 0..depth {
@@ -66,7 +66,7 @@ fn exchange_lines(alloc: Global, depth: u64, made: &[u8]) -> Result<Vec<u8>, All
 }
 
 impl Course {
-    /// The course with so many directories between the one that is renamed and the file.
+    /// The course with this many directories between the one that is renamed and the file.
     pub fn new(alloc: Global, sort: Sort, depth: u64) -> Result<Course, AllocError> {
         match sort {
             Sort::Rename => Course::of_rename(alloc, depth),

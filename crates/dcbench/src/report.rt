@@ -97,7 +97,7 @@ impl fmt::Display for Nanoseconds {
     }
 }
 
-/// Writes numbers, each behind a space and at the right of so many places.
+/// Writes numbers, each behind a space and at the right of this many places.
 fn write_cells<W: fmt::Write>(f: &mut fmt::Formatter<W>, cells: &[(usize, u64)]) -> fmt::Result {
     for cell in cells {
         let (width, number) = *cell;

@@ -248,7 +248,7 @@ fn tree<R: Print>(rt: &R, alloc: Global, shape: Shape) -> Result<(), Fault> {
     Ok(())
 }
 
-/// Times look-ups by up to so many threads.
+/// Times look-ups by up to this many threads.
 fn look<R: Threads + Wait + Clock + Sync + Print + Eprint + Files + AllocGlobal>(
     rt: &R,
     alloc: Global,

@@ -48,7 +48,7 @@ pub fn nanoseconds(time: Duration) -> u64 {
         .saturating_add(u64::from(time.subsec_nanos()))
 }
 
-/// How many a second so many in some time are.
+/// How many a second this many in some time are.
 pub fn a_second(calls: u64, time: Duration) -> u64 {
     calls
         .saturating_mul(1_000_000)
@@ -84,7 +84,7 @@ impl Tally {
             .saturating_sub(self.untold)
     }
 
-    /// Keeps the time of a turn of so many calls, as far as there is memory for it.
+    /// Keeps the time of a turn of this many calls, as far as there is memory for it.
     pub fn turn(&mut self, took: Duration, calls: u64) {
         if self.turns.len() < MOST_TURNS {
             let _ = self.turns.push(picoseconds(took, calls));
@@ -110,7 +110,7 @@ impl Tally {
         self.turns.sort_unstable();
     }
 
-    /// The time that so many in a hundred turns don't exceed, once the turns are sorted.
+    /// The time that this many in a hundred turns don't exceed, once the turns are sorted.
     pub fn quantile(&self, hundredths: usize) -> u64 {
         let at = self.turns.len().saturating_mul(hundredths) / 100;
         let last = self.turns.len().saturating_sub(1);

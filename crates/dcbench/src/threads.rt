@@ -34,7 +34,7 @@ fn work<R: Wait + Clock>(
     }
 }
 
-/// Does a job in a thread, and in so many others at the same time. Their passes end with them.
+/// Does a job in a thread, and in this many others at the same time. Their passes end with them.
 pub fn spread<R: Threads + Wait + Clock + Sync>(
     rt: &R,
     cache: &Dcache,

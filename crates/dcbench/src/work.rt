@@ -101,17 +101,17 @@ pub struct LookTask<'a> {
     pub json: bool,
 }
 
-/// What a look-up does where the rows don't answer.
+/// What a look-up does if the rows don't answer.
 #[derive(Clone, Copy)]
 pub enum Miss {
     /// It takes the lock for each name of its path, as `look` does.
     NameByName,
-    /// It takes the lock once, as `look_filled` does.
+    /// It takes the lock once, as `resolve` does.
     OneHold,
 }
 
 /// A tree that is drawn: how many names its paths have, how many files are asked, and over how many
-/// buckets its names are to fit; and what its look-ups do where the rows don't answer.
+/// buckets its names are to fit; and what its look-ups do if the rows don't answer.
 #[derive(Clone, Copy)]
 pub struct Shape {
     pub work: Work,
@@ -129,7 +129,7 @@ pub struct ChangeTask {
     pub json: bool,
 }
 
-/// A race of so many look-ups by so many threads.
+/// A race of this many look-ups by this many threads.
 #[derive(Clone, Copy)]
 pub struct RaceTask {
     pub sort: Sort,
@@ -139,7 +139,7 @@ pub struct RaceTask {
     pub style: Style,
 }
 
-/// How a race is told.
+/// How a race is reported.
 #[derive(Clone, Copy)]
 pub enum Style {
     Table,

@@ -3,6 +3,7 @@
 use crate::faults::Fault;
 use clap::{Arg, ArgAction, ArgMatches, Command, Error};
 use std::alloc::{AllocError, Global};
+use std::time::Duration;
 
 /// What is judged, by the paths of files. A dash is standard input.
 #[derive(Clone, Copy)]
@@ -16,13 +17,28 @@ pub enum Task<'a> {
 /// What the words choose.
 #[derive(Clone, Copy)]
 pub struct Options<'a> {
-    /// How many inodes may live: 0 where the word is no number of 64 bits.
+    /// How many inodes may live: 0 if the word is no number of 64 bits.
     pub inodes: u64,
     /// How many states of a trace are visited: the same.
     pub states: u64,
+    /// How many megabytes these may take: the same.
+    pub memory: u64,
     /// Whether one line of JSON is written.
     pub json: bool,
     pub task: Task<'a>,
+}
+
+/// What the words after `soak` choose.
+#[derive(Clone, Copy)]
+pub struct Soak {
+    /// After this time no further cache is begun.
+    pub time: Duration,
+    /// The number that the first cache's calls are drawn by. Each further one has the next.
+    pub seed: u64,
+    /// The calls of all threads on a cache.
+    pub calls: u64,
+    /// Writes the verdict alone, which is the same whatever the threads do.
+    pub brief: bool,
 }
 
 /// What an option or a file is given.
@@ -42,7 +58,40 @@ enum Given {
 #[derive(Clone, Copy)]
 struct Choice(&'static str, Given, &'static str);
 
-static CHOICES: [Choice; 6] = [
+/// The name of the program, and what it is for.
+const RECORD: (&str, &str) = (
+    "dccheck",
+    "Says whether stamped replies are what one plain tree answers\nCaches are judged by `dccheck soak`, which has a `--help` of its own",
+);
+
+/// The same of the soak.
+const SOAK: (&str, &str) = (
+    "dccheck soak",
+    "Threads make calls of all kinds on one cache after another. What they were answered is judged, and
+the tree of each cache is compared with the one that its changes make alone. Ends with status 1 if a
+cache was wrong.",
+);
+
+static SOAKS: [Choice; 4] = [
+    Choice(
+        "seconds",
+        Given::Number("10"),
+        "After this many seconds no further cache is begun: up to 1000000",
+    ),
+    Choice(
+        "seed",
+        Given::Number("1"),
+        "The number of the first cache, by which its calls are drawn; each further one has the next",
+    ),
+    Choice(
+        "calls",
+        Given::Number("8000"),
+        "Calls of all threads on a cache: from 16 to 1000000",
+    ),
+    Choice("brief", Given::Nothing, "Prints the verdict alone"),
+];
+
+static RECORDS: [Choice; 7] = [
     Choice(
         "inodes",
         Given::Number("65536"),
@@ -57,6 +106,11 @@ static CHOICES: [Choice; 6] = [
         "states",
         Given::Number("100000"),
         "How many states are visited to find an order of the trace",
+    ),
+    Choice(
+        "memory",
+        Given::Number("1024"),
+        "How many megabytes these states may take",
     ),
     Choice("json", Given::Nothing, "One line of JSON"),
     Choice(
@@ -86,27 +140,29 @@ fn arg_of<'a>(alloc: Global, choice: &Choice) -> Result<Arg<'a>, AllocError> {
 }
 
 /// The options and the files.
-fn args<'a>(alloc: Global) -> Result<Vec<Arg<'a>>, AllocError> {
+fn args<'a>(alloc: Global, choices: &[Choice]) -> Result<Vec<Arg<'a>>, AllocError> {
     let mut args = Vec::new(alloc);
-    for choice in &CHOICES {
+    for choice in choices {
         args.push(arg_of(alloc, choice)?)?;
     }
     Ok(args)
 }
 
-/// The command with all of them.
-fn command<'a>(alloc: Global) -> Result<Command<'a>, AllocError> {
-    Command::new(alloc, "dccheck")
-        .about("Says whether stamped replies are what one plain tree answers")
+/// What clap finds among the words of a command that has these.
+fn matches_in<'a>(
+    alloc: Global,
+    (name, about): (&'static str, &'static str),
+    choices: &[Choice],
+    words: &'a [String],
+) -> Result<ArgMatches<'a>, Error> {
+    Command::new(alloc, name)
+        .about(about)
         .no_binary_name(true)
-        .args(args(alloc)?)
+        .args(args(alloc, choices)?)?
+        .try_get_matches_from(words)
 }
 
-fn matches_in<'a>(alloc: Global, words: &'a [String]) -> Result<ArgMatches<'a>, Error> {
-    command(alloc)?.try_get_matches_from(words)
-}
-
-/// The text of an argument, empty where clap found none.
+/// The text of an argument, empty if clap found none.
 fn text_of<'a>(matches: &ArgMatches<'a>, id: &str) -> &'a str {
     matches.get_str(id).unwrap_or("")
 }
@@ -124,12 +180,32 @@ fn task_in<'a>(matches: &ArgMatches<'a>) -> Result<Task<'a>, Fault> {
     Ok(Task::Record { commands, replies })
 }
 
+/// The number of an option, if it is within these limits.
+fn number_in(matches: &ArgMatches<'_>, id: &str, least: u64, most: u64) -> Result<u64, Fault> {
+    match text_of(matches, id).parse::<u64>() {
+        Ok(number) if least <= number && number <= most => Ok(number),
+        _ => Err(Fault::BadSize),
+    }
+}
+
+/// What the words after `soak` choose.
+pub fn soak_in(alloc: Global, words: &[String]) -> Result<Soak, Fault> {
+    let matches = matches_in(alloc, SOAK, &SOAKS, words).map_err(Fault::Words)?;
+    Ok(Soak {
+        time: Duration::from_secs(number_in(&matches, "seconds", 0, 1_000_000)?),
+        seed: number_in(&matches, "seed", 0, u64::MAX)?,
+        calls: number_in(&matches, "calls", 16, 1_000_000)?,
+        brief: matches.get_flag("brief"),
+    })
+}
+
 /// The options that the words after the program's name choose.
 pub fn options_in<'a>(alloc: Global, words: &'a [String]) -> Result<Options<'a>, Fault> {
-    let matches = matches_in(alloc, words).map_err(Fault::Words)?;
+    let matches = matches_in(alloc, RECORD, &RECORDS, words).map_err(Fault::Words)?;
     Ok(Options {
         inodes: text_of(&matches, "inodes").parse::<u64>().unwrap_or(0),
         states: text_of(&matches, "states").parse::<u64>().unwrap_or(0),
+        memory: text_of(&matches, "memory").parse::<u64>().unwrap_or(0),
         json: matches.get_flag("json"),
         task: task_in(&matches)?,
     })

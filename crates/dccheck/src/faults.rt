@@ -12,7 +12,7 @@ pub enum Fault {
     Words(clap::Error),
     /// A word is no text.
     NoText,
-    /// The number of inodes is outside its limits.
+    /// A number is outside its limits.
     BadSize,
     /// Both files are standard input.
     OneInput,
@@ -22,6 +22,10 @@ pub enum Fault {
     BadLine(File, u64),
     /// This line of the replies, counted from 1, isn't the reply to its command.
     Unpaired(u64),
+    /// A cache of the soak was wrong, which has been said.
+    Wrong,
+    /// The clock can't be read.
+    NoClock,
     /// The verdict couldn't be written.
     Write,
     NoMemory,
@@ -54,22 +58,24 @@ impl Fault {
                 ErrorKind::OutOfMemory => 3,
                 _ => 2,
             },
+            Fault::Wrong => 1,
             Fault::NoText | Fault::BadSize | Fault::OneInput => 2,
             Fault::NoMemory => 3,
-            Fault::Unread(_) | Fault::Write => 4,
+            Fault::Unread(_) | Fault::Write | Fault::NoClock => 4,
             Fault::BadLine(..) | Fault::Unpaired(_) => 5,
         }
     }
 
-    /// What is told of a fault that is of no file and no line.
+    /// What is said of a fault that is of no file and no line.
     pub fn text(&self) -> &'static str {
         match self {
             Fault::NoText => "an argument is no text",
             Fault::BadSize => "bad size",
             Fault::OneInput => "both files are standard input",
             Fault::Write => "write fault",
+            Fault::NoClock => "the clock can't be read",
             Fault::Words(_) | Fault::NoMemory => "no memory",
-            Fault::Unread(_) | Fault::BadLine(..) | Fault::Unpaired(_) => "",
+            Fault::Unread(_) | Fault::BadLine(..) | Fault::Unpaired(_) | Fault::Wrong => "",
         }
     }
 }

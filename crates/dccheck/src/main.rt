@@ -1,4 +1,5 @@
-//! The checker as a program: it says whether a server's replies are what one plain tree answers.
+//! The checker as a program: it says whether a server's replies are what one plain tree answers, or judges
+//! caches that its own threads make calls on.
 #![tactic(auto)]
 
 mod command_line;
@@ -8,6 +9,8 @@ mod near;
 mod progress;
 mod record;
 mod report;
+mod soak;
+mod table;
 mod traces;
 
 ghost use Rattle.std.specs.Prelude.{◌≤◌};
@@ -16,6 +19,7 @@ ghost use Rattle.dc_names.specs.declared.limits.TheConstants.{MOST_INODES};
 use command_line::{Options, Task, options_in};
 use counts::Counts;
 use dc_plain::MOST_INODES;
+use dc_trace::Limits;
 use faults::{Fault, File};
 use progress::Progress;
 use record::Record;
@@ -31,7 +35,7 @@ fn words(rt: &HostRuntime) -> Result<Vec<String>, Fault> {
     Ok(all.skip(1).collect(rt.alloc())?)
 }
 
-/// The fault of an error that isn't want of memory.
+/// The fault of an error, which is this one unless memory was refused.
 fn unless_memory(error: &io::Error, fault: Fault) -> Fault {
     if error.kind() == io::ErrorKind::OutOfMemory {
         Fault::NoMemory
@@ -139,15 +143,18 @@ fn check_trace(rt: &HostRuntime, options: &Options, path: &str) -> Result<u8, Fa
     let progress = Progress::new(rt);
     let trace = read(rt, path, File::Trace)?;
     progress.tell(rt, "the file is read");
-    let found = explain(rt.alloc(), options.inodes, options.states, &trace)?;
+    let limits = Limits {
+        states: options.states,
+        memory: options.memory.saturating_mul(1 << 20),
+    };
+    let found = explain(rt.alloc(), options.inodes, limits, &trace)?;
     tell_found(rt, options, &trace, &found)
 }
 
 /// Reads the files and writes the verdict. Answers the status.
-fn run(rt: &HostRuntime) -> Result<u8, Fault> {
-    let words = words(rt)?;
-    let options = options_in(rt.alloc(), &words)?;
-    if !(1..=MOST_INODES).contains(&options.inodes) || options.states == 0 {
+fn judge(rt: &HostRuntime, words: &[String]) -> Result<u8, Fault> {
+    let options = options_in(rt.alloc(), words)?;
+    if !(1..=MOST_INODES).contains(&options.inodes) || options.states == 0 || options.memory == 0 {
         return Err(Fault::BadSize);
     }
     match options.task {
@@ -156,11 +163,17 @@ fn run(rt: &HostRuntime) -> Result<u8, Fault> {
     }
 }
 
+/// Whether the words ask for the soak.
+fn is_soak(words: &[String]) -> bool {
+    words.first().is_some_and(|first| first.as_str() == "soak")
+}
+
 /// Tells a fault, help on standard output and all else on standard error. Answers the status.
 fn tell(rt: &HostRuntime, fault: &Fault) -> u8 {
     let status = fault.status();
     let _ = match fault {
         Fault::Words(error) if status != 3 => error.print(rt),
+        Fault::Wrong => Ok(()),
         Fault::Unread(file) => eprintln!(rt; "dccheck: {} can't be read", file.name()),
         Fault::BadLine(file, line) => {
             eprintln!(rt; "dccheck: bad line {line} of {}", file.name())
@@ -173,9 +186,18 @@ fn tell(rt: &HostRuntime, fault: &Fault) -> u8 {
     status
 }
 
+/// The status that the program ends with. A fault is said.
+fn ended(rt: &HostRuntime, run: &Result<u8, Fault>) -> u8 {
+    match run {
+        Ok(status) => *status,
+        Err(fault) => tell(rt, fault),
+    }
+}
+
 fn main(rt: HostRuntime) -> ExitCode {
-    ExitCode::from(match run(&rt) {
-        Ok(status) => status,
+    ExitCode::from(match words(&rt) {
+        Ok(words) if is_soak(&words) => ended(&rt, &soak::run(&rt, rt.alloc(), &words)),
+        Ok(words) => ended(&rt, &judge(&rt, &words)),
         Err(fault) => tell(&rt, &fault),
     })
 }

@@ -1,4 +1,4 @@
-//! How far a long run is, for who waits at a terminal.
+//! How far a long run is, for whoever waits at a terminal.
 
 use std::io::IsTerminal;
 use std::time::Instant;
@@ -6,7 +6,7 @@ use std::time::Instant;
 /// How many seconds a run is silent.
 const SILENT: u64 = 1;
 
-/// When a run began, where someone may want to know.
+/// When a run began, if someone may want to know.
 #[derive(Clone, Copy)]
 pub struct Progress {
     begin: Option<Instant>,
@@ -23,7 +23,7 @@ impl Progress {
         Progress { begin }
     }
 
-    /// Tells what comes now, on standard error where that is a terminal and the run takes long.
+    /// Tells what comes now, on standard error if that is a terminal and the run takes long.
     pub fn tell(&self, rt: &HostRuntime, what: &str) {
         let Some(begin) = &self.begin else {
             return;

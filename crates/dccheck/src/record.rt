@@ -120,7 +120,7 @@ impl<'a> Record<'a> {
         })
     }
 
-    /// What the tree gives the call of a place at its point, where that is another reply.
+    /// What the tree gives the call of a place at its point, if that is another reply.
     fn due(&self, alloc: Global, inodes: u64, place: usize) -> Result<Option<Vec<u8>>, Fault>
         requires least { 1 ≤ inodes }
         requires most { inodes ≤ MOST_INODES }
@@ -164,7 +164,7 @@ impl<'a> Record<'a> {
         })
     }
 
-    /// The verdict, where at most so many inodes may live.
+    /// The verdict, if at most this many inodes may live.
     pub fn judge(&self, alloc: Global, inodes: u64) -> Result<Report, Fault>
         requires least { 1 ≤ inodes }
         requires most { inodes ≤ MOST_INODES }

@@ -40,23 +40,48 @@ pub fn push_all(out: &mut Vec<u8>, parts: &[&[u8]]) -> Result<(), AllocError> {
     Ok(())
 }
 
+/// Whether a byte behind another is a control character of a terminal, in UTF-8 too. A newline isn't: it
+/// ends a line.
+fn is_control(last: u8, byte: u8) -> bool {
+    (byte < b' ' && byte != b'\n') || byte == 0x7f || (last == 0xc2 && (0x80..0xa0).contains(&byte))
+}
+
+/// Adds a line of a file. A name may have any bytes, and a terminal obeys some: they are shown as `\x1b`,
+/// which no word of a line has.
+pub fn push_shown(alloc: Global, out: &mut Vec<u8>, line: &[u8]) -> Result<(), AllocError> {
+    let mut last = 0;
+    for byte in line {
+        if is_control(last, *byte) {
+            out.extend_from_slice(format!(in alloc; "\\x{byte:02x}")?.as_bytes())?;
+        } else {
+            out.push(*byte)?;
+        }
+        last = *byte;
+    }
+    Ok(())
+}
+
 /// Adds a reply and its command.
-fn push_answered(out: &mut Vec<u8>, one: &Answered) -> Result<(), AllocError> {
-    push_all(out, &[&one.reply, b", for \"", &one.command, b"\"\n"])
+fn push_answered(alloc: Global, out: &mut Vec<u8>, one: &Answered) -> Result<(), AllocError> {
+    push_shown(alloc, out, &one.reply)?;
+    out.extend_from_slice(b", for \"")?;
+    push_shown(alloc, out, &one.command)?;
+    out.extend_from_slice(b"\"\n")
 }
 
 /// Adds one of the changes nearest to a line.
 fn push_near(alloc: Global, out: &mut Vec<u8>, one: &Answered) -> Result<(), AllocError> {
     let head = format!(in alloc; "near {}: ", one.line)?;
     out.extend_from_slice(head.as_bytes())?;
-    push_answered(out, one)
+    push_answered(alloc, out, one)
 }
 
 /// Adds a line that is bad, the reply that is due, and the changes nearest to it.
 fn push_wrong(alloc: Global, out: &mut Vec<u8>, wrong: &Wrong) -> Result<(), AllocError> {
-    push_answered(out, &wrong.line)?;
+    push_answered(alloc, out, &wrong.line)?;
     if let Some(due) = &wrong.due {
-        push_all(out, &[b"due: ", due])?;
+        out.extend_from_slice(b"due: ")?;
+        push_shown(alloc, out, due)?;
     }
     for one in &wrong.near {
         push_near(alloc, out, one)?;
@@ -137,7 +162,7 @@ impl Report {
         }
     }
 
-    /// The line that is bad, its reply, its command and the reply that is due, empty where there are none.
+    /// The line that is bad, its reply, its command and the reply that is due, empty if there are none.
     fn shown(&self, alloc: Global) -> Result<(u64, String, String, String), AllocError> {
         match &self.wrong {
             Some(wrong) => Ok((

@@ -5,8 +5,8 @@ ghost use Rattle.dc_names.specs.declared.limits.TheConstants.{MOST_INODES};
 
 use crate::faults::{Fault, File};
 use crate::record::Record;
-use crate::report::{Report, json_line, push_all};
-use dc_trace::{Outcome, TraceFault, find_order, read_trace, write_record};
+use crate::report::{Report, json_line, push_all, push_shown};
+use dc_trace::{Limits, Outcome, TraceFault, find_order, read_trace, write_record};
 use std::alloc::{AllocError, Global};
 
 /// What a trace comes to.
@@ -33,7 +33,7 @@ fn judged(alloc: Global, inodes: u64, commands: Vec<u8>, replies: Vec<u8>) -> Re
 }
 
 /// Looks for an order of a trace, and judges its record.
-pub fn explain(alloc: Global, inodes: u64, states: u64, trace: &[u8]) -> Result<Found, Fault>
+pub fn explain(alloc: Global, inodes: u64, limits: Limits, trace: &[u8]) -> Result<Found, Fault>
     requires least { 1 ≤ inodes }
     requires most { inodes ≤ MOST_INODES }
 {
@@ -41,7 +41,7 @@ pub fn explain(alloc: Global, inodes: u64, states: u64, trace: &[u8]) -> Result<
         TraceFault::BadLine(line) => Fault::BadLine(File::Trace, line),
         TraceFault::NoMemory => Fault::NoMemory,
     })?;
-    match find_order(alloc, inodes, states, &lanes)? {
+    match find_order(alloc, inodes, limits, &lanes)? {
         Outcome::Order(points) => {
             let (commands, replies) = write_record(alloc, lanes, &points)?;
             judged(alloc, inodes, commands, replies)
@@ -67,7 +67,8 @@ impl Found {
         }
     }
 
-    /// What is said of a trace, in lines: where it is legal, the record stands behind the verdict.
+    /// What is said of a trace, in lines. If it is legal the record stands behind the verdict, as the
+    /// checker reads it.
     pub fn text(&self, alloc: Global, trace: &[u8]) -> Result<Vec<u8>, AllocError> {
         match self {
             Found::Legal(commands, replies, report) => {
@@ -79,7 +80,8 @@ impl Found {
                 let place = (*line as usize).saturating_sub(1);
                 let mut text = format!(in alloc; "bad call {line}: ")?.into_bytes();
                 let said = trace.split(|byte| *byte == b'\n').nth(place);
-                push_all(&mut text, &[said.unwrap_or(b""), b"\n"])?;
+                push_shown(alloc, &mut text, said.unwrap_or(b""))?;
+                text.push(b'\n')?;
                 Ok(text)
             }
             Found::Undecided => Vec::from_slice(alloc, b"undecided\n"),

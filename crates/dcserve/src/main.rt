@@ -2,7 +2,11 @@
 #![tactic(auto)]
 
 use dc_serve::{FreeGate, Options, OptionsFault, ServeFault, Stats, options, run};
+use std::alloc::Global;
+use std::io::{Read, Write};
 use std::process::ExitCode;
+use std::sync::Wait;
+use std::thread::Threads;
 use std::{env, io};
 
 /// The words after the program's name.
@@ -32,7 +36,7 @@ fn refuse(rt: &HostRuntime, fault: &OptionsFault) -> u8 {
     status
 }
 
-/// What the words choose, or the status where they choose nothing.
+/// What the words choose, or the status if they choose nothing.
 fn chosen(rt: &HostRuntime) -> Result<Options, u8> {
     let words = words(rt).map_err(|error| refuse_words(rt, &error))?;
     options(rt.alloc(), &words).map_err(|fault| refuse(rt, &fault))
@@ -47,19 +51,39 @@ fn ended(rt: &HostRuntime, run: Result<(), ServeFault>) -> u8 {
     fault.status()
 }
 
+/// Serves, and reports how look-ups were answered if all was answered.
+fn serve_counting<R: Threads + Wait + Sync + Eprint, I: Read, O: Write>(
+    rt: &R,
+    alloc: Global,
+    input: &mut I,
+    output: &mut O,
+    options: Options,
+) -> Result<(), ServeFault> {
+    let stats = Stats::default();
+    run(rt, alloc, input, output, options, &stats)?;
+    let _ = eprintln!(rt; "{stats}");
+    Ok(())
+}
+
+/// Serves as the options say.
+fn serve<R: Threads + Wait + Sync + Eprint, I: Read, O: Write>(
+    rt: &R,
+    alloc: Global,
+    input: &mut I,
+    output: &mut O,
+    options: &Options,
+) -> Result<(), ServeFault> {
+    if options.stats {
+        return serve_counting(rt, alloc, input, output, *options);
+    }
+    run(rt, alloc, input, output, *options, &FreeGate)
+}
+
 fn main(rt: HostRuntime) -> ExitCode {
     let (mut input, mut output) = (rt.stdin(), rt.stdout());
     let status = match chosen(&rt) {
-        Ok(options) if options.stats => {
-            let stats = Stats::default();
-            let result = run(&rt, rt.alloc(), &mut input, &mut output, options, &stats);
-            if result.is_ok() {
-                let _ = eprintln!(rt; "{stats}");
-            }
-            ended(&rt, result)
-        }
         Ok(options) => {
-            let result = run(&rt, rt.alloc(), &mut input, &mut output, options, &FreeGate);
+            let result = serve(&rt, rt.alloc(), &mut input, &mut output, &options);
             ended(&rt, result)
         }
         Err(status) => status,

@@ -8,7 +8,7 @@ use dc_plain::{Call, Follow};
 use dc_row::ROW_WORDS;
 use std::alloc::Global;
 
-/// Does each event. One that wanted memory is done again; `None` where it is refused otherwise.
+/// Does each event. One that wanted memory is done again; `None` if it is refused otherwise.
 fn do_each(alloc: Global, core: &mut Core, events: &[Event]) -> Option<bool> {
     let mut answered = true;
     for event in events {
@@ -106,7 +106,7 @@ fn events(alloc: Global) -> Result<Vec<Event<'static>>, Fault> {
     Ok(events)
 }
 
-/// Does all events. `None` where one is refused otherwise than for want of memory.
+/// Does all events. `None` if one is refused otherwise than out of memory.
 fn do_events(alloc: Global, core: &mut Core, events: &[Event], by_one_call: bool) -> Option<bool> {
     if by_one_call {
         do_all(alloc, core, events)

@@ -54,7 +54,7 @@ fn is_made(alloc: Global, kind: Kind) -> bool {
     }
 }
 
-/// Makes one where an allocation is refused, and then once more.
+/// Makes one with an allocation refused, and then once more.
 pub fn trial(alloc: Global, plan: &Plan<'_>, kind: Kind) -> Result<Told, Fault> {
     if plan.setup {
         return Ok(told(plan.place(alloc), true));

@@ -22,7 +22,7 @@ fn allocate(alloc: Global) -> Result<(), AllocError> {
     Ok(())
 }
 
-/// Makes so many allocations.
+/// Makes this many allocations.
 pub fn pad(alloc: Global, many: u64) -> Result<(), AllocError> {
     for _ in 0..many {
         allocate(alloc)?;

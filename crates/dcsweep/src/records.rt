@@ -1,4 +1,4 @@
-//! The checker of records, where an allocation is refused.
+//! The checker of records, with an allocation refused.
 
 ghost use Rattle.std.specs.Thread.{IsSync};
 
@@ -15,7 +15,7 @@ use std::alloc::Global;
 use std::sync::Wait;
 use std::thread::Threads;
 
-/// What the checker says of stamps: whether they are legal, or nothing for want of memory.
+/// What the checker says of stamps: whether they are legal, or nothing if out of memory.
 fn said(alloc: Global, stamps: &[Stamp], phases: Option<&[u64]>) -> Option<bool> {
     match phases {
         Some(phases) if phases.len() == stamps.len() => {
@@ -31,7 +31,7 @@ fn said(alloc: Global, stamps: &[Stamp], phases: Option<&[u64]>) -> Option<bool>
     }
 }
 
-/// Judges stamps where an allocation is refused, and then once more.
+/// Judges stamps with an allocation refused, and then once more.
 fn judge(
     alloc: Global,
     plan: &Plan<'_>,
@@ -49,7 +49,7 @@ fn judge(
     Ok(told(place, first.is_some()))
 }
 
-/// Asks what is due at the last stamp where an allocation is refused, and then once more.
+/// Asks what is due at the last stamp with an allocation refused, and then once more.
 fn ask_due(alloc: Global, plan: &Plan<'_>, stamps: &[Stamp]) -> Result<Told, Fault> {
     let last = stamps.last().ok_or(Fault::Words)?;
     if plan.setup {
@@ -70,7 +70,7 @@ fn ask_due(alloc: Global, plan: &Plan<'_>, stamps: &[Stamp]) -> Result<Told, Fau
     Ok(told(place, answered))
 }
 
-/// Reads a record where an allocation is refused, and then once more.
+/// Reads a record with an allocation refused, and then once more.
 fn read(
     alloc: Global,
     plan: &Plan<'_>,

@@ -1,4 +1,4 @@
-//! A whole run of the server, where an allocation is refused.
+//! A whole run of the server, with an allocation refused.
 
 ghost use Rattle.std.specs.Thread.{IsSync};
 
@@ -63,7 +63,7 @@ fn is_front<R: Threads + Wait + Sync>(
     Ok(false)
 }
 
-/// Serves an input where an allocation is refused, and then once more. The writer has its room before.
+/// Serves an input with an allocation refused, and then once more. The writer has its room before.
 pub fn trial<R: Threads + Wait + Sync>(
     rt: &R,
     alloc: Global,

@@ -9,7 +9,7 @@ pub enum Told {
     After(u64),
     /// It was within the call, which answered all the same.
     Answered,
-    /// It was within the call, which answered want of memory.
+    /// It was within the call, which answered out of memory.
     Refused,
     /// Something isn't as it should be.
     Wrong(&'static str),

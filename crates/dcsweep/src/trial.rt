@@ -1,4 +1,4 @@
-//! The calls of a cache, each where an allocation is refused.
+//! The calls of a cache, each with an allocation refused.
 
 ghost use Rattle.std.specs.Prelude.{IfOk};
 ghost use Rattle.dc_cache.specs.Passes.{Fits};
@@ -126,7 +126,7 @@ fn is_left(
     matches!(way, Way::Fills) && came.is_ok() && place.is_none() && is_told(cache, pass, asked)
 }
 
-/// Makes a call where an allocation is refused, and compares the cache with one that never met that.
+/// Makes a call with an allocation refused, and compares the cache with one that never met that.
 pub fn trial<R: Wait>(
     rt: &R,
     alloc: Global,

@@ -18,6 +18,8 @@ pub enum Way {
     Fills,
     /// A look-up that fills the rows of its whole path under one hold of the lock.
     FillsPath,
+    /// A look-up for who has just asked the rows, which fills them too.
+    Missed,
     /// Before it come calls that take no memory.
     Free,
 }
@@ -30,6 +32,7 @@ impl Way {
             "try" => Some(Way::Tries),
             "counted" => Some(Way::Fills),
             "filled" => Some(Way::FillsPath),
+            "missed" => Some(Way::Missed),
             "free" => Some(Way::Free),
             _ => None,
         }
@@ -177,10 +180,30 @@ fn fill<R: Wait>(
 {
     match *call {
         Call::Look { base, path, follow } => {
-            Ok(cache.look_filled(rt, alloc, pass, base, path, follow))
+            Ok(cache.resolve(rt, alloc, pass, base, path, follow))
         }
         _ => Err(Unanswered::Strange),
     }
+}
+
+/// Answers a look-up that asks the tree alone, and fills the rows of its whole path.
+fn look_missed<R: Wait>(
+    rt: &R,
+    alloc: Global,
+    cache: &Dcache,
+    pass: &mut Pass,
+    call: &Call<'_>,
+) -> Result<Stamped, Unanswered>
+    requires { Fits cache.now pass.old }
+    ensures { Fits cache.now pass.new }
+{
+    let Call::Look { base, path, follow } = *call else {
+        return Err(Unanswered::Strange);
+    };
+    let Ok(text) = parse(path) else {
+        return Err(Unanswered::Strange);
+    };
+    Ok(cache.look_missed(rt, alloc, pass, base, text, follow))
 }
 
 /// Whether the rows alone answer a look-up.
@@ -224,6 +247,7 @@ pub fn answer_by<R: Wait>(
         Way::Waits => answer(rt, alloc, cache, pass, call),
         Way::Fills => count(rt, alloc, cache, pass, call),
         Way::FillsPath => fill(rt, alloc, cache, pass, call),
+        Way::Missed => look_missed(rt, alloc, cache, pass, call),
         Way::Tries => match try_answer(alloc, cache, pass, call) {
             Some(told) => told,
             None => Err(Unanswered::Strange),

@@ -18,7 +18,7 @@ use crate::calls::mkdir;
 use dc_names::Kind;
 use dc_plain::{Key, Reply};
 use dc_row::{EMPTY_ROW, ROW_WORDS, empty_row_spells_nothing};
-use dc_table::{Guarded, Holder, MOST_COUNT, Pass, Shared};
+use dc_table::{Guarded, Holder, MOST_COUNT, Nobody, Pass, Shared};
 use dc_walk::{Fast, Why};
 use std::test::Fail;
 
@@ -193,7 +193,7 @@ fn evict_under_lock(
         return None;
     };
     let met = evict_key(&mut holder, &mut guarded, key, shared, pass);
-    holder.give(guarded);
+    holder.give::<Nobody>(guarded);
     met
 }
 

@@ -13,7 +13,7 @@ static PATHS: [&[u8]; 16] = [
     b"/l", b"/l/a", b"/a/../c", b"l", b"/c/./b",
 ];
 
-/// The next number of a fixed row in which none seems to follow from the one before.
+/// The next number of a fixed sequence in which none seems to follow from the one before.
 fn drawn(number: u32) -> u32 {
     number.wrapping_mul(1_664_525).wrapping_add(1_013_904_223)
 }
@@ -72,7 +72,7 @@ impl Three {
         })
     }
 
-    /// The reply of all three, where they are equal.
+    /// The reply of all three, if they are equal.
     fn answer(&mut self, alloc: Global, call: &Call) -> Result<Option<Reply>, NoMemory> {
         let wanted = self.plain.apply(alloc, call)?;
         let by_map = answered(alloc, &mut self.map, call)?;
@@ -81,7 +81,7 @@ impl Three {
     }
 }
 
-/// How often each kind of reply came to a thousand calls, and the next number of a slab. It fails where two
+/// How often each kind of reply came to a thousand calls, and the next number of a slab. Fails if two
 /// replies differ.
 fn answer_alike(alloc: Global) -> Result<([u32; 7], u64), Fail> {
     let mut three = Three::new(alloc)?;
@@ -115,7 +115,7 @@ fn ask_at(step: u32, number: u32) -> Ask<'static> {
     }
 }
 
-/// Fails where two replies to nine hundred calls differ.
+/// Fails if two replies to nine hundred calls differ.
 fn exchange_alike(alloc: Global) -> Result<(), Fail> {
     let mut three = Three::new(alloc)?;
     let mut number = 7;

@@ -53,7 +53,7 @@ static HELD: [(Told, bool); 6] = [
     (Told::Text(2, b"a"), false),
 ];
 
-/// Fails where a fact holds that is not to, or the other way round.
+/// Fails if a fact holds that should not, or the other way round.
 fn hold_so(alloc: Global) -> Result<(), Fail> {
     let tree = small_tree(alloc)?;
     for (told, holds) in HELD.iter() {
@@ -78,7 +78,7 @@ static TOUCHED: [(Told, bool); 3] = [
     (Told::Name(1, b"a", None), false),
 ];
 
-/// Fails where the link's removal touches a fact that it is not to, or the other way round.
+/// Fails if the link's removal touches a fact that it should not, or the other way round.
 fn touch_so(alloc: Global) -> Result<(), Fail> {
     let tree = small_tree(alloc)?;
     for (told, touches) in TOUCHED.iter() {

@@ -1,6 +1,6 @@
 //! Where the last part of a path stands, over fixed answers.
 
-use super::{Asked, PARENTS, ROWS, TEXTS, new_fixed};
+use super::{Asked, NoPath, PARENTS, ROWS, TEXTS, new_fixed};
 use dc_names::{Last, Refusal, parse};
 use dc_resolve::{Placed, before_last_part, place, place_in};
 use std::test::Fail;
@@ -37,17 +37,17 @@ enum At {
 
 impl At {
     /// Whether a last part is to be looked up there.
-    fn is(self, placed: Placed<'_>) -> bool {
+    fn is(self, placed: Result<Placed<'_>, NoPath>) -> bool {
         match (self, placed) {
-            (At::Name(dir, name, slash), Placed::At(at)) => {
+            (At::Name(dir, name, slash), Ok(Placed::At(at))) => {
                 let is_name = matches!(at.last, Last::Normal(last) if last.bytes() == name);
                 is_name && at.dir == dir && at.slash == slash
             }
-            (At::Last(dir, last), Placed::At(at)) => {
+            (At::Last(dir, last), Ok(Placed::At(at))) => {
                 at.dir == dir && at.last == last.last() && !at.slash
             }
-            (At::Refused(refusal), Placed::Refused(found)) => refusal == found,
-            (At::Stopped, Placed::Stopped) => true,
+            (At::Refused(refusal), Ok(Placed::Refused(found))) => refusal == found,
+            (At::Stopped, Err(NoPath)) => true,
             _ => false,
         }
     }
@@ -83,7 +83,7 @@ static PLACES: [(u64, &[u8], At); 18] = [
     (1, b"/bad/g", At::Stopped),
 ];
 
-/// Fails where a last part is to be looked up elsewhere.
+/// Fails if a last part is to be looked up elsewhere.
 fn place_all() -> Result<(), Fail> {
     for (base, path, want) in PLACES.iter() {
         let mut finder = new_fixed(&ROWS, &PARENTS, &TEXTS);
@@ -112,7 +112,7 @@ static ASKED: [(u64, &[u8], &[Asked]); 9] = [
     (1, b"/d/f/g/h", &[(1, b'd'), (2, b'f')]),
 ];
 
-/// Fails where something else is asked.
+/// Fails if something else is asked.
 fn ask_all() -> Result<(), Fail> {
     for (base, path, want) in ASKED.iter() {
         let mut finder = new_fixed(&ROWS, &PARENTS, &TEXTS);
@@ -129,8 +129,8 @@ fn places_ask_in_order(_rt: HostRuntime) -> Result<(), Fail> {
     ask_all()
 }
 
-/// A path, the bytes before its last component, and that component where it is a name that directory 7
-/// is known to hold, with whether a slash follows.
+/// A path, the bytes before its last component, and that component if it is a name, which directory 7 is
+/// known to hold, with whether a slash follows.
 static FRONTS: [(&[u8], &[u8], Option<(&[u8], bool)>); 8] = [
     (b"/d/f", b"/d/", Some((b"f", false))),
     (b"d//e///", b"d//", Some((b"e", true))),
@@ -151,8 +151,8 @@ fn name_in<'p>(path: &'p [u8], front: &[u8]) -> Option<(&'p [u8], bool)> {
     }
 }
 
-/// Whether a path has this front, and its last component stands so in directory 7 if that is known by the
-/// front, and not if another is known.
+/// Whether a path has this front, and its last component stands so in directory 7 if the front is known to
+/// lead there, and not if another front is.
 fn stands_so(path: &[u8], front: &[u8], want: Option<(&[u8], bool)>) -> bool {
     before_last_part(path) == front
         && name_in(path, front) == want

@@ -5,7 +5,7 @@ use dc_store::Store;
 use std::alloc::Global;
 use std::test::Fail;
 
-/// Whether two stores tell the same of a number.
+/// Whether two stores say the same of a number.
 fn agree_on<S: Store, T: Store>(one: &S, other: &T, number: u64) -> bool {
     one.kind(number) == other.kind(number)
         && one.parent(number) == other.parent(number)
@@ -13,7 +13,7 @@ fn agree_on<S: Store, T: Store>(one: &S, other: &T, number: u64) -> bool {
         && one.count(number) == other.count(number)
 }
 
-/// Whether two stores are one tree, by what they tell of each number up to the next.
+/// Whether two stores are one tree, by what they say of each number up to the next.
 fn agree<S: Store, T: Store>(one: &S, other: &T, alloc: Global) -> Result<bool, NoMemory> {
     for number in 0..20 {
         if !agree_on(one, other, number) || one.list(alloc, number)? != other.list(alloc, number)? {
@@ -31,8 +31,8 @@ fn agree_again<S: Store, T: Store>(one: &S, other: &T, alloc: Global) -> Result<
     }
 }
 
-/// Takes a step, of which the other store knows nothing yet. Where it is refused memory the store is
-/// still one tree with the other, and the step is taken once more.
+/// Takes a step that the other store hasn't taken yet. If it is refused memory, the store is still one
+/// tree with the other, and the step is taken once more.
 fn takes<S: Store, T: Store>(
     store: &mut S,
     other: &T,

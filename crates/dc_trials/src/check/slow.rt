@@ -18,7 +18,7 @@ static PATHS: [&[u8]; 8] = [
     b"/a/../b/",
 ];
 
-/// The next number of a fixed row in which none seems to follow from the one before.
+/// The next number of a fixed sequence in which none seems to follow from the one before.
 fn drawn(number: u32) -> u32 {
     number.wrapping_mul(1_664_525).wrapping_add(1_013_904_223)
 }
@@ -74,7 +74,7 @@ impl Slow {
         })
     }
 
-    /// What the machine answers to a call, and counts where the call is a change.
+    /// What the machine answers to a call, which is counted if it is a change.
     fn answer(&mut self, alloc: Global, call: &Call<'_>) -> Result<Reply, NoMemory> {
         let altered = self.tree.alters(alloc, call)?;
         let reply = self.tree.apply(alloc, call)?;
@@ -82,7 +82,7 @@ impl Slow {
         Ok(reply)
     }
 
-    /// A call that is drawn, with what the machine answers.
+    /// A call that is drawn, with the machine's answer.
     fn stamp(&mut self, alloc: Global) -> Result<Stamp, NoMemory> {
         self.number = drawn(self.number);
         let (call, at) = (call_of(self.number), self.at);
@@ -104,7 +104,7 @@ impl Slow {
         }
     }
 
-    /// A call more of a record.
+    /// One more call of a record.
     fn push(
         &mut self,
         alloc: Global,
@@ -153,7 +153,7 @@ fn is_run(alloc: Global, stamps: &[Stamp]) -> Result<bool, NoMemory> {
     Ok(true)
 }
 
-/// Whether a record is legal. It fails where the checker judges it otherwise than the slow machine.
+/// Whether a record is legal. Fails if checker and slow machine judge it differently.
 fn is_legal(alloc: Global, stamps: &[Stamp]) -> Result<bool, Fail> {
     let legal = check(alloc, 6, stamps)? == Verdict::Legal;
     if is_run(alloc, stamps)? != legal {
@@ -174,7 +174,7 @@ fn legal_records(alloc: Global) -> Result<u64, Fail> {
     Ok(legal)
 }
 
-/// One session's stamps are legal just where they are a run, and both verdicts come often.
+/// One session's stamps are legal exactly if they are a run, and both verdicts come often.
 #[test]
 fn judges_as_the_slow_machine_does(rt: HostRuntime) -> Result<(), Fail> {
     let legal = legal_records(rt.alloc())?;

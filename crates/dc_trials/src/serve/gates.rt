@@ -25,7 +25,7 @@ struct GateCall {
     when: When,
 }
 
-/// Whether a gate's call is the one with this place among those round these lines, two for each.
+/// Whether a gate's call is the one with this place among those around these lines, two for each.
 fn is_nth(call: &GateCall, place: usize, lines: &[u64]) -> bool {
     let when = if place % 2 == 0 {
         When::Before
@@ -60,7 +60,7 @@ impl<'a, R: Wait> Recorder<'a, R> {
         let _ = calls.push(call);
     }
 
-    /// Whether a session was called round these lines, one after the other, and round no others.
+    /// Whether the gate was called around these lines of a session, one after the other, and around no others.
     fn went_round(&self, session: u64, lines: &[u64]) -> bool {
         let calls = self.calls.lock(self.rt);
         let mut met = 0usize;
@@ -108,7 +108,7 @@ fn gates_are_called_round_each_command(rt: HostRuntime) {
     assert!(rt; gate.went_round(2, &[]));
 }
 
-/// No command is answered where a later line is bad.
+/// No command is answered if a later line is bad.
 #[test]
 fn no_gate_is_called_before_a_bad_line(rt: HostRuntime) {
     let gate = Recorder::new(&rt, rt.alloc());

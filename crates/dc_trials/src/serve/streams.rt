@@ -1,4 +1,4 @@
-//! Readers and writers that are not as one wishes, and what a run makes of them.
+//! Readers and writers that fail, end or give little at a time, and what a run makes of them.
 
 use crate::runs::USUAL;
 use dc_serve::{FreeGate, ServeFault, run};
@@ -8,21 +8,21 @@ use std::io::{Read, Write};
 use std::sync::Wait;
 use std::thread::Threads;
 
-/// What a stream does once it has given or taken so many bytes.
+/// What a stream does once it has given or taken this many bytes.
 #[derive(Clone, Copy, Debug, Drop)]
 enum Turn {
     /// It gives or takes no byte from then on.
     Ends,
     /// It fails from then on.
     Fails,
-    /// It fails once, and goes on as if nothing had been.
+    /// It fails once, and goes on as if nothing had happened.
     FailsOnce,
     /// It gives or takes no byte once, and goes on.
     PausesOnce,
 }
 
 impl Turn {
-    /// Whether the next call fails, and what the turn is then: `None` where it is over.
+    /// Whether the next call fails, and what the turn is then: `None` if it is over.
     fn taken(self) -> (bool, Option<Turn>) {
         match self {
             Turn::Ends => (false, Some(self)),
@@ -96,7 +96,7 @@ static ENDS: [(u32, Turn, Result<(), ServeFault>, u32); 5] = [
     (u32::MAX, Turn::Ends, Err(ServeFault::Read), 1_048_577),
 ];
 
-/// Whether a run makes this of a reader, and reads so often.
+/// Whether a run makes this of a reader, and reads this often.
 fn ends_so<R: Threads + Wait + Sync>(
     rt: &R,
     alloc: Global,
@@ -193,7 +193,7 @@ fn write_to<R: Threads + Wait + Sync>(
     (result, writer)
 }
 
-/// Whether a run writes all to who takes it, flushes once, and makes this of it.
+/// Whether a run writes everything to a writer that takes it, flushes once, and makes this of it.
 fn is_taken<R: Threads + Wait + Sync>(
     rt: &R,
     alloc: Global,
@@ -204,7 +204,7 @@ fn is_taken<R: Threads + Wait + Sync>(
     result == want && writer.taken.as_slice() == OUTPUT && writer.flushes == 1
 }
 
-/// A text is written whole to who takes it byte by byte, and is flushed once.
+/// A text is written whole to a writer that takes it byte by byte, and is flushed once.
 #[test]
 fn outputs_that_are_taken(rt: HostRuntime) {
     assert!(rt; is_taken(&rt, rt.alloc(), false, Ok(())));

@@ -14,11 +14,11 @@ pub resolve_from-requires-clause-spend : goal.resolve_from-requires-clause-spend
 resolve_from-requires-clause-spend g c =
     may_within g.F.Finder (omega (arith, front_within c.in-Some.front.now c.args.path.bytes.now (part_shown c.in-Some.last) c.bytes.ensures.bytes c.in-Some.ensures.last)) c.requires.spend
 
-pub returns-in-Ok-Found-clause-answer : goal.returns-in-Ok-Found-clause-answer
-returns-in-Ok-Found-clause-answer g c teller more =
-    place_met teller c.args.base _ c.in-Some.front.now _ c.bytes.ensures.bytes c.in-Some.ensures.last (c.in-Ok-Found.ensures.ends teller more) c.in-Ok-Found.field-0-is
-    ∙ (λ i. Some (At (record { dir = c.in-Ok-Found.dir; last = sym c.from.ensures i; slash = sym c.has_end_slash.ensures i })))
+pub returns-in-Found-clause-answer : goal.returns-in-Found-clause-answer
+returns-in-Found-clause-answer g c teller more =
+    place_met teller c.args.base _ c.in-Some.front.now _ c.bytes.ensures.bytes c.in-Some.ensures.last (c.in_ok-dir.ensures.ends teller more) c.in-Found.is
+    ∙ (λ i. Some (At (record { dir = c.in-Found.dir; last = sym c.from.ensures i; slash = sym c.has_end_slash.ensures i })))
 
-pub returns-in-Ok-Refused-clause-answer : goal.returns-in-Ok-Refused-clause-answer
-returns-in-Ok-Refused-clause-answer g c teller more =
-    place_met teller c.args.base _ c.in-Some.front.now _ c.bytes.ensures.bytes c.in-Some.ensures.last (c.in-Ok-Refused.ensures.ends teller more) c.in-Ok-Refused.field-0-is
+pub returns-in-Refused-clause-answer : goal.returns-in-Refused-clause-answer
+returns-in-Refused-clause-answer g c teller more =
+    place_met teller c.args.base _ c.in-Some.front.now _ c.bytes.ensures.bytes c.in-Some.ensures.last (c.in_ok-dir.ensures.ends teller more) c.in-Refused.is

@@ -1,7 +1,7 @@
 use Rattle.std.proofs.Common.{◌<◌, ◌+◌, ◌-◌, ◌*◌, ◌≤◌, Some, ap, sym, arith, rules, ◌∙◌}
 use Rattle.dc_resolve.specs.Steps.{met_shown}
 use Rattle.dc_resolve.proofs.Needed.{first_over, text_of, text_over}
-use Rattle.dc_resolve.proofs.Passing.{from_first, none_first, came_over, came_to_end, if_ok_both, kept_at_link, over_text, refused_at_link}
+use Rattle.dc_resolve.proofs.Passing.{from_first, none_first, came_over, came_to_end, if_ok_all, kept_at_link, over_text, refused_at_link}
 use Rattle.dc_resolve.proofs.Spending.{may_over, may_text, over_link}
 use Rattle.dc_resolve.proofs.Walking.{link_said, may_follow, may_next, may_through, spent_all, walk_ended, walked_on, walked_through}
 use Rattle.dc_resolve.proofs.resolution.+over_links.Goals as goal
@@ -22,11 +22,11 @@ walk_bytes-returns-in_default-clause-leads g t c =
 
 pub walk_bytes-parts-preserved-in-Dir : goal.walk_bytes-parts-preserved-in-Dir
 walk_bytes-parts-preserved-in-Dir g t c = let went = c.in_ok-reached.ensures in
-    walked_on g.F.Finder g.met.F.Finder.goes_on g.met.F.Finder.keeps c.parts.invariant went.kept.becomes went.kept.same went.taken c.in-Some.is went.left (ap met_shown c.in-Dir.is)
+    walked_on g.F.Finder g.met.F.Finder.goes_on g.met.F.Finder.keeps c.parts.invariant went.kept.becomes went.taken c.in-Some.is went.left (ap met_shown c.in-Dir.is)
 
 pub walk_bytes-parts-preserved-in-File : goal.walk_bytes-parts-preserved-in-File
 walk_bytes-parts-preserved-in-File g t c = let went = c.in_ok-reached.ensures in
-    walked_on g.F.Finder g.met.F.Finder.goes_on g.met.F.Finder.keeps c.parts.invariant went.kept.becomes went.kept.same went.taken c.in-Some.is went.left (ap met_shown c.in-File.is)
+    walked_on g.F.Finder g.met.F.Finder.goes_on g.met.F.Finder.keeps c.parts.invariant went.kept.becomes went.taken c.in-Some.is went.left (ap met_shown c.in-File.is)
 
 pub walk_bytes-returns-in-Stops-clause-leads : goal.walk_bytes-returns-in-Stops-clause-leads
 walk_bytes-returns-in-Stops-clause-leads g t c = let went = c.in_ok-reached.ensures in
@@ -34,19 +34,19 @@ walk_bytes-returns-in-Stops-clause-leads g t c = let went = c.in_ok-reached.ensu
 
 pub walk_bytes-walk_link-requires : goal.walk_bytes-walk_link-requires
 walk_bytes-walk_link-requires g t c = let went = c.in_ok-reached.ensures in
-    let may = may_through g.F.Finder g.met.F.Finder.goes_on g.met.F.Finder.keeps c.parts.invariant went.kept.becomes went.kept.same went.taken c.in-Some.is went.left c.in-Meets.is c.is_end-is_last.ensures c.requires.may in
-    let said = link_said g.F.Finder g.met.F.Finder.goes_on g.met.F.Finder.keeps c.parts.invariant went.kept.becomes went.kept.same went.taken c.in-Some.is went.left c.in-Meets.is in
+    let may = may_through g.F.Finder g.met.F.Finder.goes_on g.met.F.Finder.keeps c.parts.invariant went.kept.becomes went.taken c.in-Some.is went.left c.in-Meets.is c.is_end-is_last.ensures c.requires.may in
+    let said = link_said g.F.Finder g.met.F.Finder.goes_on g.met.F.Finder.keeps c.parts.invariant went.kept.becomes went.taken c.in-Some.is went.left c.in-Meets.is in
     let less : 2 * c.parts.left < t = omega (arith, c.parts.invariant.fewer) in
-    let spend = may_follow g.F.Finder g.met.F.Finder.goes_on g.met.F.Finder.keeps c.parts.invariant went.kept.becomes went.kept.same went.taken c.in-Some.is went.left c.in-Meets.is c.requires.spend in
+    let spend = may_follow g.F.Finder g.met.F.Finder.goes_on g.met.F.Finder.keeps c.parts.invariant went.kept.becomes went.taken c.in-Some.is went.left c.in-Meets.is c.requires.spend in
     search (rules, less, may, said, spend)
 
 pub walk_bytes-returns-in-Ended-clause-leads : goal.walk_bytes-returns-in-Ended-clause-leads
 walk_bytes-returns-in-Ended-clause-leads g t c = let went = c.in_ok-reached.ensures in let over = c.in_ok-end-in-Meets.ensures in
-    walk_ended g.F.Finder g.met.F.Finder.goes_on g.met.F.Finder.keeps c.parts.invariant went.kept.becomes went.kept.same went.taken c.in-Some.is went.left c.in-Meets.is c.is_end-is_last.ensures over.kept.becomes over.leads c.in-Ended.is
+    walk_ended g.F.Finder g.met.F.Finder.goes_on g.met.F.Finder.keeps c.parts.invariant went.kept.becomes went.taken c.in-Some.is went.left c.in-Meets.is c.is_end-is_last.ensures over.kept.becomes over.leads c.in-Ended.is
 
 pub walk_bytes-parts-preserved : goal.walk_bytes-parts-preserved
 walk_bytes-parts-preserved g t c = let went = c.in_ok-reached.ensures in let over = c.in_ok-end-in-Meets.ensures in
-    walked_through g.F.Finder g.met.F.Finder.goes_on g.met.F.Finder.keeps c.parts.invariant went.kept.becomes went.kept.same went.taken c.in-Some.is went.left c.in-Meets.is c.is_end-is_last.ensures over.kept.becomes over.leads over.kept.same over.through over.left c.in-Through.is
+    walked_through g.F.Finder g.met.F.Finder.goes_on g.met.F.Finder.keeps c.parts.invariant went.kept.becomes went.taken c.in-Some.is went.left c.in-Meets.is c.is_end-is_last.ensures over.kept.becomes over.leads over.through over.left c.in-Through.is
 
 pub walk_link-returns-then-is_kept-clause-leads : goal.walk_link-returns-then-is_kept-clause-leads
 walk_link-returns-then-is_kept-clause-leads g t c = kept_at_link (let is = c.is_kept.ensures in cc)
@@ -70,8 +70,8 @@ walk_link-walk_bytes-requires g t c = let text = c.in_ok-text.ensures in
 
 pub walk_link-returns-clause-leads : goal.walk_link-returns-clause-leads
 walk_link-returns-clause-leads g t c = let text = c.in_ok-text.ensures in let over = c.walk_bytes.ensures in
-    if_ok_both c.walk_bytes.result _ _ _ (λ way leads middle. over_text (λ left. left ≤ c.args.links - 1) (let is = c.is_kept.ensures in cc) (omega arith)
-    ((g.met.F.Finder.keeps _ _ over.kept.becomes).text _ _ text.told ∙ ap Some (sym (c.known-path.ensures ∙ c.bytes.ensures))) c.bytes-2.ensures.bytes c.base_of-base.ensures c.slash_after-ends.ensures leads middle) over.leads over.through
+    if_ok_all c.walk_bytes.result _ _ _ _ (λ on way leads middle. over_text (λ left. left ≤ c.args.links - 1) (let is = c.is_kept.ensures in cc) (omega arith)
+    ((g.met.F.Finder.keeps _ _ on).text _ _ text.told ∙ ap Some (sym (c.known-path.ensures ∙ c.bytes.ensures))) c.bytes-2.ensures.bytes c.base_of-base.ensures c.slash_after-ends.ensures leads middle) over.kept.becomes over.leads over.through
 
 pub walk_link-returns-clause-left : goal.walk_link-returns-clause-left
 walk_link-returns-clause-left g t c = let text = c.in_ok-text.ensures in let over = c.walk_bytes.ensures in

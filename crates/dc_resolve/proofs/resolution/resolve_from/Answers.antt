@@ -17,4 +17,4 @@ resolve-requires-clause-spend g c = may_start g.F.Finder (way_bytes g.F.Finder c
 
 pub returns-in-Some-clause-ends : goal.returns-in-Some-clause-ends
 returns-in-Some-clause-ends g c = let began = c.in_ok-place.ensures in
-    ends_by c.args.follow c.args.base c.args.path.bytes.now c.args.parts.now c.args.slash c.resolve.result (g.met.F.Finder.keeps _ _ c.resolve.ensures.kept.becomes) (began.start ∙ ap Some c.in-Some.is) c.resolve.ensures.leads
+    ends_by _ c.args.follow c.args.base c.args.path.bytes.now c.args.parts.now c.args.slash c.resolve.result (g.met.F.Finder.keeps _ _) c.resolve.ensures.kept.becomes (began.start ∙ ap Some c.in-Some.is) c.resolve.ensures.leads

@@ -1,8 +1,9 @@
-use Rattle.std.proofs.Common.{◌≡◌, ◌+◌, ◌-◌, ◌<◌, ℕ, rules, arith, length, subst}
+use Rattle.std.proofs.Common.{◌≡◌, ◌+◌, ◌-◌, ◌<◌, ℕ, ap, rules, arith, length, subst}
 use Rattle.std.specs.Prelude.{slice_index}
 use Rattle.dc_cache.specs.Passes.{known}
 use Rattle.dc_cache.specs.declared.cache.Pass.{Pass}
 use Rattle.dc_lang.specs.Phases.{ordered, ordered_by}
+use Rattle.dc_serve.specs.Bytes.{bytes_of}
 use Rattle.dc_serve.specs.Sessions.{ObeyedBelow, outcome}
 use Rattle.dc_serve.specs.Threads.{GaveBack, book}
 use Rattle.dc_serve.proofs.Forks.{obeyed_nobody, took_next, took_past}
@@ -14,8 +15,8 @@ pub returns-then-count-eq0-clause-ok : goal.returns-then-count-eq0-clause-ok
 returns-then-count-eq0-clause-ok g t c =
     let none : 0 ≡ c.args.count = search (rules, arith) in
     let orders = ordered c.args.phase.now.lines.now in
-    subst (λ (n : ℕ). ObeyedBelow (book c.args.pass.now) c.args.bases n orders (outcome c.new-text.result.items c.args.bases) (book c.args.pass.now)) none
-    (obeyed_nobody (book c.args.pass.now) c.args.bases orders c.new-text.result.items c.new-text.ensures.items)
+    subst (λ (n : ℕ). ObeyedBelow (book c.args.pass.now) c.args.bases n orders (outcome (bytes_of c.new-texts.result.items) c.args.bases) (book c.args.pass.now)) none
+    (obeyed_nobody (book c.args.pass.now) c.args.bases orders (bytes_of c.new-texts.result.items) (ap bytes_of c.new-texts.ensures.items))
 
 pub returns-then-not-has_lines-clause-took_in : goal.returns-then-not-has_lines-clause-took_in
 returns-then-not-has_lines-clause-took_in g t c =

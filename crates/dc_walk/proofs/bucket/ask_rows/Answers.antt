@@ -20,8 +20,6 @@ pub loop-k-init : goal.loop-k-init
 loop-k-init c = record {
   same = same_still c.args.rows.now;
   untried = untried_still;
-  why = refl;
-  spare = refl;
   slow = refl;
   used = refl;
   spent = refl;
@@ -63,8 +61,6 @@ loop-k-preserved c =
     record {
       same = same_again i.same e.same;
       untried = untried_again i.untried e.untried;
-      why = e.why ∙ i.why;
-      spare = e.spare ∙ i.spare;
       slow = e.slow ∙ i.slow;
       used = more.0.used ∙ i.used;
       spent = more.0.spent ∙ i.spent;

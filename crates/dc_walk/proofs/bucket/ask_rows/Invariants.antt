@@ -11,8 +11,6 @@ abbrev pub invariant-loop-k : goal.invariant-loop-k
 invariant-loop-k l = record {
   same : SameRows l.fn.rows l.rows;
   untried : HasNotTried (known l.fn.rows.pass.now) (known l.rows.pass.now);
-  why : l.rows.why ≡ l.fn.rows.why;
-  spare : l.rows.spare ≡ l.fn.rows.spare;
   slow : l.rows.slow ≡ l.fn.rows.slow;
   used : l.rows.used.now.items ≡ l.fn.rows.used.now.items;
   spent : l.rows.used.now.spent ≡ l.fn.rows.used.now.spent;

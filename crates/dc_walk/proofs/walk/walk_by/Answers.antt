@@ -13,4 +13,4 @@ returns-in-Ok-clause-walks g c = let a = c.args in let items = c.walk_rows.new.u
     (length items) (sym (length-map items use_shown)) c.in-Ok.ensures.went c.settle.result c.settle.ensures.settles
 
 pub returns-in-Err-clause-walks : goal.returns-in-Err-clause-walks
-returns-in-Err-clause-walks g c = gave_up g.S.Source.locks c.args.look (buckets_of c.args.pass.now) (view c.args.pass.now) (view c.walk_rows.new.pass) (map use_shown c.walk_rows.new.used.items) c.in-Err.why c.in-Err.ensures.stopped
+returns-in-Err-clause-walks g c = gave_up g.S.Source.locks c.args.look (buckets_of c.args.pass.now) (view c.args.pass.now) (view c.walk_rows.new.pass) (map use_shown c.walk_rows.new.used.items) c.in-Err.stop.why c.in-Err.ensures.stopped

@@ -12,7 +12,7 @@ use Rattle.dc_rows.proofs.Made.{rows_stay, untouched, altered_tree, retold_as}
 use Rattle.dc_rows.proofs.guard.Guard.change_knowing.Goals as goal
 
 pub returns-in-Err-clause-made : goal.returns-in-Err-clause-made
-returns-in-Err-clause-made c = let g = c.args.self in let call = request_of c.args.call.now in let limit = (share (seat_of g)).limit in let tree = tree_now (seat_of g) in
+returns-in-Err-clause-made w c = let g = c.args.self in let call = request_of c.args.call.now in let limit = (share (seat_of g)).limit in let tree = tree_now (seat_of g) in
     let settled : operation limit tree call ≡ (answer_of c.in-Err.reply, tree) = subst₂ (λ (n : ℕ) (t : Tree). operation n t call ≡ (answer_of c.in-Err.reply, t)) (ap (λ (y : Guarded). y.max_inodes) c.deref.ensures ∙ g.rests.same_limit) (c.store.ensures ∙ g.rests.tree)
     c.in-Err.ensures.declined.operation in
     let same : tree_after limit tree call ≡ tree = ap (λ x. x.1) settled in record {
@@ -25,7 +25,7 @@ returns-in-Err-clause-made c = let g = c.args.self in let call = request_of c.ar
     }
 
 pub returns-in-Ok-altered-clause-made : goal.returns-in-Ok-altered-clause-made
-returns-in-Ok-altered-clause-made c = let g = c.args.self in let call = request_of c.args.call.now in let limit = (share (seat_of g)).limit in let tree = tree_now (seat_of g) in let a = c.alter-altered in
+returns-in-Ok-altered-clause-made w c = let g = c.args.self in let call = request_of c.args.call.now in let limit = (share (seat_of g)).limit in let tree = tree_now (seat_of g) in let a = c.alter-altered in
     let h = a.new.self in record {
       done = search rules;
       fault = search rules;
@@ -37,4 +37,4 @@ returns-in-Ok-altered-clause-made c = let g = c.args.self in let call = request_
     }
 
 pub returns-in-Err-altered-clause-made : goal.returns-in-Err-altered-clause-made
-returns-in-Err-altered-clause-made c = search rules
+returns-in-Err-altered-clause-made w c = search rules

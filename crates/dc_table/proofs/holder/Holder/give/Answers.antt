@@ -6,7 +6,7 @@ use Rattle.dc_table.proofs.Moves.{gives_lock}
 use Rattle.dc_table.proofs.holder.Holder.give.Goals as goal
 
 pub store-requires : goal.store-requires
-store-requires c = let e = c.exchange.ensures.3 in let v = ap (λ m. known_of m.0) e in let h = c.args.self.has_lock in (
+store-requires g c = let e = c.exchange.ensures.3 in let v = ap (λ m. known_of m.0) e in let h = c.args.self.has_lock in (
   search rules,
   search rules,
   gives_lock _ c.events_keep_the_rule.ensures.holders _ _ _ c.args.guarded (ap (λ m. m.1) e ∙ ap (λ l. (0, Some c.args.guarded) ∷ rest l) h.out) (ap (λ k. k.view.hold.holds) v ∙ h.has) (subst (λ k. 0 < k.share.parts) (sym v) h.part)

@@ -1,9 +1,0 @@
-use Rattle.std.proofs.Common.{sym, ◌∙◌}
-use Rattle.dc_plain.specs.Requests.{request_of}
-use Rattle.dc_cache.proofs.Tellings.{nothing_took, told_back, told_with}
-use Rattle.dc_cache.proofs.cache.Dcache.tell.Goals as goal
-
-pub returns-clause-told : goal.returns-clause-told
-returns-clause-told g c = let back = c.ask_held-back in let taken = c.lock-guard.ensures in
-    told_back _ _ _ _ (request_of c.args.call.now) back.result.1 (c.pass-1.given.1 (sym (back.ensures.same.0 ∙ taken.same_reference)))
-    (told_with _ _ _ _ _ (request_of c.args.call.now) back.result.1 taken.locked.same.same_share (nothing_took _ _ _ taken.locked.took) back.ensures.told)
