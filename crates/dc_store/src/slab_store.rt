@@ -1,4 +1,4 @@
-//! The store that the cache holds: inodes in a slab, and the names of each directory in a map.
+//! The store that the cache holds: inodes in a slab, and the names of each directory in an ordered map.
 
 ghost use Rattle.std.specs.Prelude.{◌≡◌, ◌<◌, [], None, Some, option_map, IfSome, IfNone, IfOk, OnOk, OnErr, IsTrue};
 ghost use Rattle.dc_plain.specs.Effects.{with_new, with_entry_for};
@@ -17,15 +17,14 @@ use crate::inodes::Inodes;
 use crate::laws::trees_keep_their_laws;
 use crate::names::Names;
 use crate::node::Node;
-use crate::place::Place;
 use crate::store::{New, Store};
 use dc_names::{Kind, Name, NoMemory};
 use dc_plain::Spot;
 use std::alloc::Global;
 use std::marker::Model;
 
-/// A store of inodes in a slab. Each directory has a map of its own names, found by a hash, and each inode
-/// counts the entries that lead to it, so that no call scans the tree.
+/// A store of inodes in a slab. Each directory has an ordered map of its own names, and each inode counts
+/// the entries that lead to it, so that no call scans the tree.
 #[derive(Drop)]
 pub struct SlabStore {
     inodes: Inodes,
@@ -138,7 +137,6 @@ impl SlabStore {
         &mut self,
         alloc: Global,
         old: Spot<'_>,
-        place: Place,
         new: Spot<'_>,
         number: u64,
     ) -> Result<(), NoMemory>
@@ -152,7 +150,7 @@ impl SlabStore {
         let replaced = self.inodes.enter(alloc, new.dir, new.name, number)?;
         self.entries = self.entries.saturating_sub(replaced.is_some() as u64);
         // A file under both names for a moment is never seen: nothing can fail from here on.
-        self.inodes.leave(old.dir, old.name, place);
+        self.inodes.leave(old.dir, old.name);
         self.inodes.lose(replaced);
         self.inodes.set_parent(number, new.dir);
         Ok(())
@@ -164,11 +162,6 @@ impl Store for SlabStore {
 
     fn find_hashed(&self, dir: u64, name: Name<'_>, hash: u64) -> Option<u64> {
         self.inodes.get(dir)?.names.get(dir, name, hash)
-    }
-
-    fn seek(&self, dir: u64, name: Name<'_>) -> Option<(u64, Place)> {
-        let (number, index) = self.inodes.get(dir)?.names.seek(name)?;
-        Some((number, Place { index }))
     }
 
     fn kind(&self, number: u64) -> Option<Kind> {
@@ -230,9 +223,9 @@ impl Store for SlabStore {
         }
     }
 
-    fn drop_entry(&mut self, dir: u64, name: Name<'_>, place: Place) {
+    fn drop_entry(&mut self, dir: u64, name: Name<'_>) {
         trees_keep_their_laws();
-        let lost = self.inodes.leave(dir, name, place);
+        let lost = self.inodes.leave(dir, name);
         self.inodes.lose(lost);
         self.entries = self.entries.saturating_sub(1);
     }
@@ -241,24 +234,16 @@ impl Store for SlabStore {
         &mut self,
         alloc: Global,
         old: Spot<'_>,
-        place: Place,
         new: Spot<'_>,
         number: u64,
     ) -> Result<(), NoMemory> {
-        self.relocate(alloc, old, place, new, number)
+        self.relocate(alloc, old, new, number)
     }
 
-    fn swap_entries(
-        &mut self,
-        a: Spot<'_>,
-        first: u64,
-        b: Spot<'_>,
-        second: u64,
-        places: (Place, Place),
-    ) {
+    fn swap_entries(&mut self, a: Spot<'_>, first: u64, b: Spot<'_>, second: u64) {
         trees_keep_their_laws();
-        self.inodes.redirect(a.dir, a.name, places.0, second);
-        self.inodes.redirect(b.dir, b.name, places.1, first);
+        self.inodes.redirect(a.dir, a.name, second);
+        self.inodes.redirect(b.dir, b.name, first);
         // A directory whose dot-dot still led to its old parent would not be found from there.
         self.inodes.set_parent(first, b.dir);
         self.inodes.set_parent(second, a.dir);

@@ -15,7 +15,6 @@ ghost use Rattle.dc_store.specs.Dropped.{CanDrop, Drops};
 ghost use Rattle.dc_store.specs.Moved.{CanStandAt, tree_moved};
 ghost use Rattle.dc_plain.specs.Spots.{spot_at, spot_shown};
 
-use crate::place::Place;
 use dc_names::{Kind, Name, NoMemory, PathText, hash};
 use dc_plain::Spot;
 use std::alloc::Global;
@@ -52,13 +51,6 @@ pub trait Store {
     fn find_hashed(&self, dir: u64, name: Name<'_>, hash: u64) -> Option<u64>
         requires { hash ≡ hash_of dir name.bytes.now }
         ensures target { result ≡ entry_number (tree self.now) (spot_at dir name.entry.bytes.now) }
-        ensures well { IsWellFormed (tree self.now) };
-
-    /// The number that a name in a directory leads to, and where the store keeps the entry. `None` where
-    /// there is no such entry, or no such directory.
-    fn seek(&self, dir: u64, name: Name<'_>) -> Option<(u64, Place)>
-        ensures target { option_map (λ found. found.0) result
-            ≡ entry_number (tree self.now) (spot_at dir name.entry.bytes.now) }
         ensures well { IsWellFormed (tree self.now) };
 
     /// The kind of an inode. `None` where nothing lives under the number.
@@ -119,21 +111,19 @@ pub trait Store {
         ensures err { OnErr result (tree self.new ≡ tree self.old) };
 
     /// Drops an entry that is there and leads to no directory in which entries stand, and what it leads
-    /// to where that was its last name. It takes no memory. Where it stands at `place`, it isn't sought.
-    fn drop_entry(&mut self, dir: u64, name: Name<'_>, place: Place)
+    /// to where that was its last name. It takes no memory.
+    fn drop_entry(&mut self, dir: u64, name: Name<'_>)
         requires { CanDrop (tree self.old) (spot_at dir name.bytes.now) }
         ensures { Drops (tree self.old) (spot_at dir name.entry.bytes.now) (tree self.new) };
 
     /// Moves an entry that is there, and leads to this number, to another name, in a live directory that
     /// isn't beneath what moves: over nothing, or over another inode that is no directory in which entries
-    /// stand, whose name goes and which goes itself where that was its last. Where the entry stands at
-    /// `place`, it isn't sought.
+    /// stand, whose name goes and which goes itself where that was its last.
     /// `NoMemory` where memory was refused: then nothing has changed.
     fn move_entry(
         &mut self,
         alloc: Global,
         old: Spot<'_>,
-        place: Place,
         new: Spot<'_>,
         number: u64,
     ) -> Result<(), NoMemory>
@@ -144,16 +134,8 @@ pub trait Store {
         ensures err { OnErr result (tree self.new ≡ tree self.old) };
 
     /// Lets two entries that are there, and lead to these two inodes, swap what they lead to: inodes of
-    /// any kinds, of which neither is a directory above the other's name. It takes no memory. Where they
-    /// stand at `places`, they aren't sought.
-    fn swap_entries(
-        &mut self,
-        a: Spot<'_>,
-        first: u64,
-        b: Spot<'_>,
-        second: u64,
-        places: (Place, Place),
-    )
+    /// any kinds, of which neither is a directory above the other's name. It takes no memory.
+    fn swap_entries(&mut self, a: Spot<'_>, first: u64, b: Spot<'_>, second: u64)
         requires { CanSwap (tree self.old) (spot_shown a) first (spot_shown b) second }
         ensures { tree self.new
             ≡ tree_swapped (tree self.old) (spot_shown a.entry) first (spot_shown b.entry) second };
