@@ -37,8 +37,9 @@
  *
  * A path is `len` bytes, without a zero byte at its end. `base` is the number of the directory from which a relative
  * path starts. Names have up to 255 bytes, paths up to 4,095, and one path may pass 40 links. Names may come from
- * anybody: any bytes are safe, and none lead to a wrong answer. Somebody who chooses names whose hashes collide makes
- * calls slower.
+ * anybody: any bytes are safe, and none lead to a wrong answer. Whoever chose the names, a search of a directory
+ * compares a number of names that grows with the logarithm of how many it has. Names that somebody chose to fall into
+ * one bucket push each other's rows out, so that look-ups of them take the lock.
  *
  * Rules:
  *

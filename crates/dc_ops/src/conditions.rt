@@ -65,11 +65,7 @@ pub(crate) fn name_or_each(
 }
 
 /// Where a name in a directory leads, or else ENOENT.
-pub(crate) fn present<S: Store>(
-    store: &S,
-    dir: u64,
-    name: Name<'_>,
-) -> Result<Target, Refusal>
+pub(crate) fn present<S: Store>(store: &S, dir: u64, name: Name<'_>) -> Result<Target, Refusal>
     ensures found { Gives result (λ target. target)
         (present NotFound (entry_of (S.tree store.now) dir (Entry name.entry.bytes.now))) }
     ensures target { IfOk result (λ target.

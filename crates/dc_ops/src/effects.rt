@@ -30,7 +30,10 @@ pub fn carry<S: Store>(alloc: Global, store: &mut S, plan: Plan<'_>) -> Result<R
             Ok(Reply::Unit)
         }
         Plan::Move {
-            from, to, number, ..
+            from,
+            to,
+            number,
+            ..
         } => {
             store.move_entry(alloc, from, to, number)?;
             Ok(Reply::Unit)
