@@ -1,7 +1,6 @@
 use Rattle.std.proofs.Common.{refl, rules, sym, subst, arith, None}
 use Rattle.dc_plain.specs.KeysShown.{key_shown}
 use Rattle.dc_index.specs.Slots.{IsRowOf}
-use Rattle.dc_table.specs.Changes.{words_of}
 use Rattle.dc_table.specs.declared.table.Guarded.{Guarded}
 use Rattle.dc_shrink.specs.Listings.{dropped}
 use Rattle.dc_rows.specs.Guards.{rows_at}
