@@ -125,8 +125,8 @@ struct gb_found {
 
 /* What a change took away, so that you can let go of what you keep by inode number: the number and kind of what stood
  * at the name, and 1 if that was its last name (numbers are never used again). It is read under the same hold of the
- * lock. All 0 if nothing went, so also with a refusal and with GB_BUSY; as it was with GB_BAD_PASS and
- * GB_BAD_ARGUMENT. */
+ * lock, from the tree that the change was then made on. All 0 if nothing went, so also with a refusal and with
+ * GB_BUSY; as it was with GB_BAD_PASS and GB_BAD_ARGUMENT. */
 struct gb_gone {
     uint64_t number;
     uint32_t kind;
@@ -214,7 +214,7 @@ int gb_try_list(struct gb_pass *pass, uint64_t base, const char *path, size_t le
 
 /* The seven changes. Each takes the lock, and memory for what it makes or moves. A last link is never followed.
  * Proved of each: it takes effect at one moment, whole or not at all, and every look-up of any thread is on one side of
- * that moment. If it is out of memory, the tree is as it was. What `gone` says is true of the same moment.
+ * that moment. If it is out of memory, the tree is as it was. What `gone` says is true of the tree at that moment.
  * They answer 0, a refusal, GB_BUSY, GB_NO_MEMORY, GB_SPENT, GB_BAD_PASS. */
 
 /* Makes an empty directory. Its number is found. */
