@@ -81,7 +81,7 @@ impl SlabStore {
         self.inodes.get(number)
     }
 
-    /// Adds an inode under the next number, and an entry for it. The inode goes again where the entry
+    /// Adds an inode under the next number, and an entry for it. The inode goes again if the entry
     /// finds no memory.
     fn make(&mut self, alloc: Global, dir: u64, name: Name<'_>, node: Node) -> Result<u64, NoMemory>
         requires directory { IsTrue (is_live_directory self.old dir) }
