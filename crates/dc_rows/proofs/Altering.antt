@@ -24,7 +24,7 @@ use Rattle.dc_table.specs.Rows.{Rest}
 use Rattle.dc_rows.specs.Rows.{Between, Stage}
 use Rattle.dc_table.specs.Plays.{Home}
 use Rattle.dc_table.specs.Changes.{tree_now, words_of}
-use Rattle.dc_rows.specs.Changes.{OnlyWrites, StageAt}
+use Rattle.dc_rows.specs.Changes.{KeepsTree, OnlyWrites, StageAt}
 use Rattle.dc_table.specs.Passes.{Pass, known, view, share, IsSamePass, CanCommit}
 use Rattle.dc_table.specs.declared.table.Guarded.{Guarded}
 use Rattle.dc_table.specs.RowStates.{RowState}
@@ -61,7 +61,7 @@ module _ (p q : Pass) (w : OnlyWrites p q) (call : Request) where
   limit_same : (share q).limit ≡ (share p).limit
   limit_same = ap (λ (s : Share). s.limit) w.same.same_share
 
-  pub history_same : (view q).hold.history ≡ (view p).hold.history
+  history_same : (view q).hold.history ≡ (view p).hold.history
   history_same = ap (λ (v : View). v.hold.history) w.only
 
   pub well_same : IsWellFormed (tree_now p) → IsWellFormed (tree_now q)
@@ -79,7 +79,7 @@ module _ (p q : Pass) (w : OnlyWrites p q) (call : Request) where
   }
 
 -- what a pass has at home once its rows are filled
-pub home_again : (p : Pass) (x : Guarded) (n : ℕ) (keys : List Key) → x.store ≡ tree_now p → x.clock ≡ length (view p).hold.history → x.max_inodes ≡ (share p).limit → StageAt p x n n keys → Home (known p) x
+home_again : (p : Pass) (x : Guarded) (n : ℕ) (keys : List Key) → x.store ≡ tree_now p → x.clock ≡ length (view p).hold.history → x.max_inodes ≡ (share p).limit → StageAt p x n n keys → Home (known p) x
 home_again p x n keys tree clock limit s = record {
   tree = tree;
   clock = clock;
@@ -93,11 +93,20 @@ module _ (p q r : Pass) (w : OnlyWrites p q) (call : Request) (same : IsSamePass
   store_after plan before store here e op = e ∙ (ap (λ t. (effect plan t).1) here ∙ (ap (λ (o : Answer × Tree). o.1) (sym op)
       ∙ (ap₂ (λ (limit : ℕ) (t : Tree). tree_after limit t call) (sym (limit_same p q w call)) (sym (tree_same p q w)) ∙ sym (tree_committed q r call same is))))
 
-  pub clock_after : (u : Pass) → OnlyWrites r u → (n : ℕ) → n ≡ length (view p).hold.history → n + 1 ≡ length (view u).hold.history
+  clock_after : (u : Pass) → OnlyWrites r u → (n : ℕ) → n ≡ length (view p).hold.history → n + 1 ≡ length (view u).hold.history
   clock_after u v n e = let a = ap length (history_same p q w call) in let b = ap length (history_same r u v call) in let c = ap (λ (z : View). length z.hold.history) is in let d = length-append (view q).hold.history (call ∷ []) in omega arith
 
-  pub limit_after : (u : Pass) → OnlyWrites r u → (n : ℕ) → n ≡ (share p).limit → n ≡ (share u).limit
+  limit_after : (u : Pass) → OnlyWrites r u → (n : ℕ) → n ≡ (share p).limit → n ≡ (share u).limit
   limit_after u v n e = e ∙ (sym (limit_same p q w call) ∙ (ap (λ (z : Share). z.limit) (sym same.same_share) ∙ sym (limit_same r u v call)))
+
+  pub home_committed : (x y : Guarded) → Home (known p) x → KeepsTree x y → (plan : rust_plan.Plan) {store : Tree} → store ≡ (effect plan y.store).1 → operation (share p).limit (tree_now p) call ≡ effect plan (tree_now p)
+      → (u : Pass) → OnlyWrites r u → (z : Guarded) → KeepsTree (record y { store = store; clock = y.clock + 1 }) z → (n : ℕ) (keys : List Key) → StageAt u z n n keys → Home (known u) z
+  home_committed x y h k plan {store} e op u v z t n keys s = home_again u z n keys
+      (t.tree ∙ (store_after plan y.store store (k.tree ∙ h.tree) e op ∙ sym (tree_same r u v))) (t.clock ∙ clock_after u v y.clock (k.clock ∙ h.clock)) (t.same_limit ∙ limit_after u v y.max_inodes (k.same_limit ∙ h.same_limit)) s
+
+-- and if the call isn't committed
+pub home_kept : (p u : Pass) → OnlyWrites p u → (x y : Guarded) → Home (known p) x → KeepsTree x y → (n : ℕ) (keys : List Key) → StageAt u y n n keys → Home (known u) y
+home_kept p u w x y h t n keys s = home_again u y n keys (t.tree ∙ (h.tree ∙ sym (tree_same p u w))) (t.clock ∙ (h.clock ∙ sym (ap (λ (v : View). length v.hold.history) w.only))) (t.same_limit ∙ (h.same_limit ∙ ap (λ (z : Share). z.limit) (sym w.same.same_share))) s
 
 -- the keys of a list are those that the call touches
 pub touched_between : (limit : ℕ) (t : Tree) (call : Request) (keys : List Key) (n : ℕ) → n ≡ length keys → keys ≡ keys_touched limit t call → TouchesTheListed → IsWellFormed t → (key : Key) → Between 0 n keys key ↔ Touches limit t call key

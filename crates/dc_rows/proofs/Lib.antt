@@ -19,3 +19,4 @@ pub mod Pinning
 pub mod Fills
 pub mod Made
 pub mod Emptying
+pub mod OddRows

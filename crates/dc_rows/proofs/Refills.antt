@@ -1,21 +1,37 @@
 -- One row more is filled and opened.
-use Rattle.std.proofs.Common.{◌≡◌, ◌≢◌, ◌↔◌, ℕ, ◌+◌, ◌%◌, ◌<◌, false, true≢false, List, slice_get, slice_set, Some, None, refl, sym, ap, ◌∙◌, subst, arith, length-set, get_or-set_same, get_or-set_other}
+use Rattle.std.proofs.Common.{◌≡◌, ◌≢◌, ◌↔◌, ℕ, ◌+◌, ◌<◌, false, true≢false, List, slice_get, slice_set, Some, None, refl, sym, ap, ◌∙◌, subst, arith, length-set, get_or-set_same, get_or-set_other}
 use Rattle.dc_plain.specs.Facts.{Key}
 use Rattle.dc_plain.specs.Trees.{Tree}
-use Rattle.dc_index.specs.Slots.{Slot, slot_of, cleared, IsRowOf, IsIndex}
+use Rattle.dc_index.specs.Slots.{Slot, slot_of, cleared, IsRowOf}
 use Rattle.dc_index.specs.Slots.Slot.{Free, Holds as Held}
 use Rattle.dc_shrink.specs.Listings.{Listing}
 use Rattle.dc_shrink.specs.Uses.{SetsUse}
 use Rattle.dc_ops.specs.Keys.{AreDistinct}
 use Rattle.dc_row.specs.Spelling.{Spells}
 use Rattle.dc_row.specs.declared.TheConstants.{EMPTY_ROW}
-use Rattle.dc_events.specs.Rows.{most, count, row_words}
+use Rattle.dc_events.specs.Rows.{row_words}
 use Rattle.dc_table.specs.Rows.{At, is_retired, IsOdd, FitsSlot, IsOf, MayStand}
 use Rattle.dc_rows.specs.Narrow.{ZeroFrom, HasFrom, most_words}
 use Rattle.dc_rows.specs.Rows.{Between, Stage, Wrote}
 use Rattle.dc_rows.proofs.Cells.{spells_too}
 use Rattle.dc_rows.proofs.Narrow.{fits_narrow, has_zeros, narrow_moved, past_empty, past_nothing}
-use Rattle.dc_rows.proofs.Slots.{held_two, held_within, free_held, unheld, at_for, moved, rest_less, agrees}
+use Rattle.dc_rows.proofs.Slots.{held_two, held_inside, held_within, only_row, free_held, unheld, at_for, moved, rest_less, agrees}
+
+-- what an odd row may be opened with
+module _ (t : Tree) (words : List ℕ) (slots : List Slot) (x : Key) (row : ℕ) (held : slot_of slots row ≡ Held x) (odd : IsOdd (row_words words row)) where
+  pub may_tell : (own : List ℕ) → IsOf t own x → MayStand t words row own
+  may_tell own of = record { fact = Some of.fact; spelled = of.spelled; now = of.now; last = λ e. let l = odd.1 in absurd (omega arith) }
+
+  -- past the words of its key the row is zero, and so are words that tell of the key
+  module _ (narrow : ZeroFrom (most_words (slot_of slots row)) (row_words words row)) (end : ℕ) (is : end ≡ most_words (slot_of slots row)) where
+    zero_row : ZeroFrom end (row_words words row)
+    zero_row = subst (λ (e : ℕ). ZeroFrom e (row_words words row)) (sym is) narrow
+
+    pub has_own : (own : List ℕ) → IsOf t own x → HasFrom end words row own
+    has_own own of = has_zeros words row own end (omega arith) zero_row (subst (λ (e : ℕ). ZeroFrom e own) (sym (is ∙ ap most_words held)) (fits_narrow t own (Held x) of))
+
+    pub has_nothing : HasFrom end words row EMPTY_ROW
+    has_nothing = has_zeros words row EMPTY_ROW end (omega arith) zero_row (past_empty end)
 
 module _ (t : Tree) (rows : ℕ) (words : List ℕ) (slots : List Slot) (used : Listing) (i n : ℕ) (keys : List Key) (x : Key) (less : i < n) (here : slice_get keys i ≡ Some x) (s : Stage t rows words slots used i n keys) where
   -- no row has the key
@@ -27,39 +43,22 @@ module _ (t : Tree) (rows : ℕ) (words : List ℕ) (slots : List Slot) (used : 
     narrow = s.narrow;
   }
 
-  module _ (row : ℕ) (held : slot_of slots row ≡ Held x) where
-    pub inside : row < rows
-    inside = subst (λ (m : ℕ). row < m) s.fit.indexed (held_within slots row x held)
+  module _ (row : ℕ) (has : IsRowOf slots x (Some row)) where
+    held : slot_of slots row ≡ Held x
+    held = (has row).0 refl
 
-    odd_row : IsOdd (row_words words row)
+    inside : row < rows
+    inside = held_inside rows words slots used row x s.fit held
+
+    pub odd_row : IsOdd (row_words words row)
     odd_row = (s.rest row inside).odd x held (i, omega arith, less, here)
 
-    pub can_write : count words row % 2 ≡ 1
-    can_write = odd_row.0
+    pub narrow_row : ZeroFrom (most_words (slot_of slots row)) (row_words words row)
+    narrow_row = s.narrow row inside
 
-    pub low_row : count words row < most
-    low_row = let l = odd_row.1 in omega arith
-
-    pub low_odd : count words row + 1 < most
-    low_odd = odd_row.1
-
-    pub may_tell : (own : List ℕ) → IsOf t own x → MayStand t words row own
-    may_tell own of = record { fact = Some of.fact; spelled = of.spelled; now = of.now; last = λ e. let l = odd_row.1 in absurd (omega arith) }
-
-    -- past the words of its key the row is zero, and so are words that tell of the key
-    module _ (end : ℕ) (is : end ≡ most_words (slot_of slots row)) where
-      zero_row : ZeroFrom end (row_words words row)
-      zero_row = subst (λ (e : ℕ). ZeroFrom e (row_words words row)) (sym is) (s.narrow row inside)
-
-      pub has_own : (own : List ℕ) → IsOf t own x → HasFrom end words row own
-      has_own own of = has_zeros words row own end (omega arith) zero_row (subst (λ (e : ℕ). ZeroFrom e own) (sym (is ∙ ap most_words held)) (fits_narrow t own (Held x) of))
-
-      pub has_nothing : HasFrom end words row EMPTY_ROW
-      has_nothing = has_zeros words row EMPTY_ROW end (omega arith) zero_row (past_empty end)
-
-    module _ (distinct : AreDistinct keys) (index : IsIndex slots) (u : List ℕ) where
+    module _ (distinct : AreDistinct keys) (u : List ℕ) where
       other_key : (r : ℕ) (key : Key) → r ≢ row → slot_of slots r ≡ Held key → Between i n keys key ↔ Between (i + 1) n keys key
-      other_key r key ne f = rest_less keys i x key here (λ same. ne (index.one r row x (f ∙ ap Held same) held)) n
+      other_key r key ne f = rest_less keys i x key here (λ same. ne (only_row slots x row has r (f ∙ ap Held same))) n
 
       -- the key itself isn't left
       past : Between (i + 1) n keys x → ⊥

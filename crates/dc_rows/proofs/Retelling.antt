@@ -1,11 +1,11 @@
 -- A row of a change's key is shut, filled and opened.
-use Rattle.std.proofs.Common.{◌≡◌, ◌≢◌, ℕ, ◌+◌, ◌<◌, ◌≤◌, false, true≢false, List, length, set, get_or, slice_get, slice_set, Some, None, refl, sym, ap, ◌∙◌, subst, arith, inl, inr}
+use Rattle.std.proofs.Common.{◌≡◌, ◌≢◌, ℕ, ◌+◌, ◌<◌, ◌≤◌, false, true≢false, List, length, set, get_or, slice_set, Some, None, refl, sym, ap, ◌∙◌, subst, arith, inl, inr}
 use Rattle.dc_plain.specs.Facts.{Key}
 use Rattle.dc_plain.specs.Requests.{Request}
 use Rattle.dc_plain.specs.Trees.{Tree}
 use Rattle.dc_row.specs.Spelling.{Spells}
 use Rattle.dc_row.specs.declared.TheConstants.{EMPTY_ROW}
-use Rattle.dc_index.specs.Slots.{Slot, slot_of, has_key, cleared, IsIndex}
+use Rattle.dc_index.specs.Slots.{Slot, slot_of, has_key, cleared, IsRowOf}
 use Rattle.dc_index.specs.Slots.Slot.{Free, Retired, Holds as Held}
 use Rattle.dc_shrink.specs.Listings.{Listing, dropped, pins_of, is_used}
 use Rattle.dc_shrink.specs.Uses.{SetsUse}
@@ -14,7 +14,7 @@ use Rattle.dc_table.specs.Rows.{Agree, IsOf}
 use Rattle.dc_table.specs.RowStates.{RowState}
 use Rattle.dc_rows.specs.Rows.{Wrote}
 use Rattle.dc_rows.specs.RowChanges.{SameRow, KeepsPins, CanTell}
-use Rattle.dc_rows.specs.Refills.{Turns, Shut, Refilled, Retold, Place}
+use Rattle.dc_rows.specs.Refills.{Turns, Shut, Refilled, Retold, Is}
 use Rattle.dc_rows.proofs.Cells.{count_now, row_raised, spells_too}
 use Rattle.dc_rows.proofs.Slots.{held_within}
 use Rattle.dc_rows.proofs.SameRows.{same_then, empty_still, row_emptied, row_dropped}
@@ -96,36 +96,39 @@ module _ (tree : Tree) (K : Key → Type 0) (s m u : RowState) (history : List R
   }
 
 -- one row of a key changes
-module _ (s t : RowState) (agree : Agree s.slots s.used) (keys : List Key) (i : ℕ) (x : Key) (here : slice_get keys i ≡ Some x) (row : ℕ) (held : slot_of s.slots row ≡ Held x) (index : IsIndex s.slots) where
+module _ (s t : RowState) (agree : Agree s.slots s.used) (x : Key) (row : ℕ) (has : IsRowOf s.slots x (Some row)) where
+  held : slot_of s.slots row ≡ Held x
+  held = (has row).0 refl
+
   same_keys : (slots : t.slots ≡ s.slots) (used : t.used ≡ s.used) → KeepsPins s t row
   same_keys slots used = record { slot = ap (λ (z : List Slot). slot_of z row) slots; pins = ap (λ (u : Listing). pins_of u row) used; used = ap (λ (u : Listing). is_used u row) used }
 
   others_same : t.slots ≡ s.slots → t.used ≡ s.used → ((r : ℕ) → r ≢ row → row_words t.words r ≡ row_words s.words r) → (r : ℕ) → r ≢ row → SameRow s t r
   others_same slots used words r ne = record { words = words r ne; slot = ap (λ (z : List Slot). slot_of z r) slots; pins = ap (λ (u : Listing). pins_of u r) used; used = ap (λ (u : Listing). is_used u r) used }
 
-  pub shut_kept : (rows : ℕ) → row < rows → length s.words ≡ base_of rows → t.words ≡ set s.words (base_of row) (count s.words row + 1) → t.slots ≡ s.slots → t.used ≡ s.used → Turns Shut (Place keys i) s t
-  shut_kept rows inside size words slots used = turns_kept s agree Shut keys i x here t row held index
+  pub shut_kept : (rows : ℕ) → row < rows → length s.words ≡ base_of rows → t.words ≡ set s.words (base_of row) (count s.words row + 1) → t.slots ≡ s.slots → t.used ≡ s.used → Turns Shut (Is x) s t
+  shut_kept rows inside size words slots used = turns_kept s agree Shut x t row has
       (inl (same_keys slots used, ap (λ (z : List ℕ). count z row) words ∙ count_now s.words rows row (count s.words row + 1) inside size)) slots used
       (others_same slots used (λ r ne. ap (λ (z : List ℕ). row_words z r) words ∙ row_raised s.words row r (count s.words row + 1) ne))
 
   pub shut_lost : Spells EMPTY_ROW None → (rows : ℕ) → row < rows → length s.words ≡ base_of rows → (ws : List ℕ) → ws ≡ set s.words (base_of row) (count s.words row + 1) → Wrote ws t.words row EMPTY_ROW 1 → most ≤ count s.words row + 1 + 1
-      → t.slots ≡ slice_set s.slots row Retired → t.used ≡ dropped s.used row → SetsUse row false s.used t.used → Turns Shut (Place keys i) s t
+      → t.slots ≡ slice_set s.slots row Retired → t.used ≡ dropped s.used row → SetsUse row false s.used t.used → Turns Shut (Is x) s t
   shut_lost empty rows inside size ws words w full slots used sets = let below = held_within s.slots row x held in let n = w.count in
       let c : count ws row ≡ count s.words row + 1 = ap (λ (z : List ℕ). count z row) words ∙ count_now s.words rows row (count s.words row + 1) inside size in
       let now : count t.words row ≡ count s.words row + 2 = omega arith in let past : most ≤ count t.words row = omega arith in
       let own = row_emptied s t row below Retired slots used sets refl (spells_too t.words EMPTY_ROW row None empty w.own) (λ gone. past, λ high. refl) in
-      turns_lost s agree Shut keys i x here t row held index (inr (own, now, past)) own.keyless (ap (λ (u : Listing). u.listed) used)
+      turns_lost s agree Shut x t row has (inr (own, now, past)) own.keyless (ap (λ (u : Listing). u.listed) used)
       (row_dropped s t row below Retired slots used sets (λ r ne. w.others r ne ∙ (ap (λ (z : List ℕ). row_words z r) words ∙ row_raised s.words row r (count s.words row + 1) ne)))
 
-  pub refilled_kept : (tree : Tree) (own : List ℕ) → IsOf tree own x → Wrote s.words t.words row own 1 → t.slots ≡ s.slots → t.used ≡ s.used → Turns (Refilled tree) (Place keys i) s t
-  refilled_kept tree own of w slots used = turns_kept s agree (Refilled tree) keys i x here t row held index
+  pub refilled_kept : (tree : Tree) (own : List ℕ) → IsOf tree own x → Wrote s.words t.words row own 1 → t.slots ≡ s.slots → t.used ≡ s.used → Turns (Refilled tree) (Is x) s t
+  refilled_kept tree own of w slots used = turns_kept s agree (Refilled tree) x t row has
       record { counted = w.count; own = inl (same_keys slots used, record { fact = of.fact; about = of.about; now = of.now; spelled = spells_too t.words own row (Some of.fact) of.spelled w.own }) } slots used
       (others_same slots used w.others)
 
   pub refilled_lost : (tree : Tree) → Spells EMPTY_ROW None → (CanTell tree x → ⊥) → Wrote s.words t.words row EMPTY_ROW 1 → count s.words row + 1 < most
-      → t.slots ≡ slice_set s.slots row (cleared (slot_of s.slots row)) → t.used ≡ dropped s.used row → SetsUse row false s.used t.used → Turns (Refilled tree) (Place keys i) s t
+      → t.slots ≡ slice_set s.slots row (cleared (slot_of s.slots row)) → t.used ≡ dropped s.used row → SetsUse row false s.used t.used → Turns (Refilled tree) (Is x) s t
   refilled_lost tree empty cannot w low slots used sets = let below = held_within s.slots row x held in let n = w.count in
       let free : t.slots ≡ slice_set s.slots row Free = slots ∙ ap (λ (slot : Slot). slice_set s.slots row (cleared slot)) held in
       let own = row_emptied s t row below Free free used sets refl (spells_too t.words EMPTY_ROW row None empty w.own) (λ gone. absurd (true≢false (sym gone)), λ high. absurd (omega arith)) in
-      turns_lost s agree (Refilled tree) keys i x here t row held index record { counted = w.count; own = inr (own, cannot) } own.keyless (ap (λ (u : Listing). u.listed) used)
+      turns_lost s agree (Refilled tree) x t row has record { counted = w.count; own = inr (own, cannot) } own.keyless (ap (λ (u : Listing). u.listed) used)
       (row_dropped s t row below Free free used sets w.others)

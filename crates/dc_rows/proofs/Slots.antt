@@ -9,7 +9,7 @@ use Rattle.dc_index.specs.Slots.Slot.{Free, Retired, Holds as Held}
 use Rattle.dc_shrink.specs.Listings.{Listing, is_used}
 use Rattle.dc_shrink.specs.Uses.{SetsUse}
 use Rattle.dc_events.specs.Rows.{row_words}
-use Rattle.dc_table.specs.Rows.{At, OnlyOdd, Agree}
+use Rattle.dc_table.specs.Rows.{At, OnlyOdd, Agree, Fit}
 use Rattle.dc_rows.specs.Rows.{Between}
 
 -- the key of a slot
@@ -34,11 +34,29 @@ none_some row e = suc-ne-zero 0 (ap (λ (o : Option ℕ). elim o [ None ↦ 1 | 
 pub unheld : (slots : List Slot) (key : Key) → IsRowOf slots key None → (row : ℕ) → slot_of slots row ≡ Held key → ⊥
 unheld slots key missing row e = none_some row ((missing row).1 e)
 
+-- and one that one row has
+pub only_row : (slots : List Slot) (key : Key) (row : ℕ) → IsRowOf slots key (Some row) → (r : ℕ) → slot_of slots r ≡ Held key → r ≡ row
+only_row slots key row has r e = let same = (has r).1 e in cc
+
+-- which loses it
+pub none_left : (slots : List Slot) (key : Key) (row : ℕ) → IsRowOf slots key (Some row) → row < length slots → IsRowOf (slice_set slots row Retired) key None
+none_left slots key row has below r = (
+  λ e. absurd (none_some r e),
+  λ e. elim (cases_eq r row) [
+    | inl same ↦ absurd (retired_held key (sym (get_or-set_same slots row Retired Free below) ∙ (ap (slot_of (slice_set slots row Retired)) (sym same) ∙ e)))
+    | inr ne ↦ absurd (ne (only_row slots key row has r (sym (get_or-set_other slots row r Retired Free ne) ∙ e)))
+  ],
+)
+
 pub held_within : (slots : List Slot) (row : ℕ) (key : Key) → slot_of slots row ≡ Held key → row < length slots
 held_within slots row key e = elim (cases_lt row (length slots)) [
   | inl l ↦ l
   | inr out ↦ absurd (free_held key (sym (get_or_past slots row Free out) ∙ e))
 ]
+
+-- a row of the table
+pub held_inside : (rows : ℕ) (words : List ℕ) (slots : List Slot) (used : Listing) (row : ℕ) (key : Key) → Fit rows words slots used → slot_of slots row ≡ Held key → row < rows
+held_inside rows words slots used row key fit held = subst (λ (n : ℕ). row < n) fit.indexed (held_within slots row key held)
 
 -- a row for other keys, of which its own is or isn't one
 pub at_for : (t : Tree) (P Q : Key → Type 0) (row : List ℕ) (slot : Slot) → ((key : Key) → slot ≡ Held key → P key ↔ Q key) → At t P row slot → At t Q row slot
@@ -61,7 +79,7 @@ moved t rows words ws slots ss P Q row others beside same here o r l = elim (cas
   | inr ne ↦ subst₂ (λ (x : List ℕ) (y : Slot). At t Q x y) (sym (others r ne)) (sym (beside r ne)) (at_for t P Q (row_words words r) (slot_of slots r) (λ key e. same r key ne e) (o r l))
 ]
 
-some_one : (a b : Key) → Some a ≡ Some b → a ≡ b
+pub some_one : (a b : Key) → Some a ≡ Some b → a ≡ b
 some_one a b e = ap (λ (o : Option Key). elim o [ None ↦ a | Some x ↦ x ]) e
 
 -- one place more at the end, or one less at the head, makes no difference to another key

@@ -6,4 +6,5 @@ pub mod Filling
 pub mod RowChanges
 pub mod Guards
 pub mod Refills
+pub mod OddRows
 pub mod Outcomes

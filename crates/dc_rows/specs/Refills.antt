@@ -62,9 +62,10 @@ Retells g h call = let p = seat_of g in Turns (Retold (kept_by h).store) (Touche
 abbrev pub Place : List Key → ℕ → Key → Type 0
 Place keys i key = slice_get keys i ≡ Some key
 
--- the key at a place of the program's keys, and the first n of them
-abbrev pub KeyAt : ℕ → List rust_key.Key → Key → Type 0
-KeyAt i keys = Place (map key_shown keys) i
+-- this key
+abbrev pub Is : Key → Key → Type 0
+Is key other = other ≡ key
 
+-- the first n of the program's keys
 abbrev pub FirstKeys : ℕ → List rust_key.Key → Key → Type 0
 FirstKeys n keys = Between 0 n (map key_shown keys)

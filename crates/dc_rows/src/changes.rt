@@ -96,18 +96,18 @@ impl<'t> Guard<'t> {
         let kept: &mut Guarded = &mut self.guarded;
         let keys = plan.keys();
         let keys = keys.as_slice();
-        shut_keys(holder, kept, keys);
+        let rows = shut_keys(holder, kept, keys);
         // A reader that finds a row even must find it true. So the rows of what changes stay odd from before
         // the tree changes until they tell of the new one, or of the old one if that stays.
         match carry(alloc, &mut kept.store, plan) {
             Ok(reply) => {
                 holder.commit(call);
                 kept.clock += 1;
-                refill_keys(holder, kept, keys);
+                refill_keys(holder, kept, keys, &rows);
                 Ok(reply)
             }
             Err(NoMemory) => {
-                refill_keys(holder, kept, keys);
+                refill_keys(holder, kept, keys, &rows);
                 Err(NoMemory)
             }
         }

@@ -1,6 +1,7 @@
 //! What a row tells of a key.
 
 ghost use Rattle.std.specs.Prelude.{IfNone, IfSome};
+ghost use Rattle.dc_index.specs.Hashed.{key_in};
 ghost use Rattle.dc_plain.specs.KeysShown.{key_shown};
 ghost use Rattle.dc_plain.specs.Trees.{Tree};
 ghost use Rattle.dc_rows.specs.RowChanges.{CanTell, LeadsTo};
@@ -28,23 +29,11 @@ pub(crate) fn entry_words(key: &Key<'_>, target: Option<Target>) -> Option<[u64;
     encode(&Row::Entry(key.number, label, target))
 }
 
-/// The words of a row that tells what a store has under a key, or `None` if no row can tell it.
-pub(crate) fn words_for<S: Store>(store: &S, key: &Key<'_>) -> Option<[u64; ROW_WORDS]>
-    ensures some { IfSome result (λ words. IsOf (S.tree store.now) words (key_shown key.now)) }
-    ensures none { IfNone result (CanTell (S.tree store.now) (key_shown key.now) → ⊥) }
-{
-    words_for_hashed(store, &HashedKey::new(*key))
-}
-
-/// The words of a row as `words_for` gives them, for a caller that has the key's hash: the store seeks a
-/// name by it.
-pub(crate) fn words_for_hashed<S: Store>(
-    store: &S,
-    hashed: &HashedKey<'_>,
-) -> Option<[u64; ROW_WORDS]>
-    ensures some { IfSome result (λ words.
-        IsOf (S.tree store.now) words (key_shown hashed.now.key)) }
-    ensures none { IfNone result (CanTell (S.tree store.now) (key_shown hashed.now.key) → ⊥) }
+/// The words of a row that tells what a store has under a key, or `None` if no row can tell it. The store
+/// seeks a name by the key's hash.
+pub(crate) fn words_for<S: Store>(store: &S, hashed: &HashedKey<'_>) -> Option<[u64; ROW_WORDS]>
+    ensures some { IfSome result (λ words. IsOf (S.tree store.now) words (key_in hashed.now)) }
+    ensures none { IfNone result (CanTell (S.tree store.now) (key_in hashed.now) → ⊥) }
 {
     let key = &hashed.key;
     let target = match key.label {

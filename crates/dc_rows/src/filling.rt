@@ -19,7 +19,7 @@ ghost use Rattle.dc_table.specs.Holders.{pass_of, rows_held};
 ghost use Rattle.dc_table.specs.Rows.{IsOf};
 
 use crate::evicting::{empty, rewrite};
-use crate::facts::{entry_words, words_for_hashed};
+use crate::facts::{entry_words, words_for};
 use crate::guard::Guard;
 use crate::writing::most_words;
 use dc_index::HashedKey;
@@ -82,7 +82,7 @@ impl Guard<'_> {
         if let Some(row) = self.guarded.index.row_of_hashed(key) {
             return Ok(Some(row));
         }
-        let Some(words) = words_for_hashed(&self.guarded.store, key) else {
+        let Some(words) = words_for(&self.guarded.store, key) else {
             return Ok(None);
         };
         self.fill_new(alloc, key, &words)
