@@ -19,7 +19,7 @@ use Rattle.dc_plain.specs.Trees.{Tree, Inode, empty_tree, inode_of, kind_of, tar
 use Rattle.dc_plain.specs.Trees.Inode.{Directory, Regular, Symbolic}
 use Rattle.dc_events.specs.Standing.{tree_of}
 use Rattle.dc_events.specs.Views.{View}
-use Rattle.dc_walk.specs.Fasts.{Keeps, Recorded}
+use Rattle.dc_walk.specs.Fasts.{Keeps, RecordedAlone}
 use Rattle.dc_walk.specs.declared.answer.Fast.TheVariants as fasts
 use Rattle.dc_cache.specs.Links.{look_there, ReadsAs, TellsOf, ReadsFast}
 use Rattle.dc_cache.specs.declared.links.FastLink as rust_link
@@ -82,13 +82,13 @@ reads_by : (base : ℕ) (text : List ℕ) (buckets : ℕ) (before now : View) (f
     → ReadsFast base text buckets before now told
 reads_by base text buckets before now found (links.Refused stamped) tells kept = record {
   looked = answer_of found.reply;
-  recorded = subst (λ at. Recorded (look_there base text) (answer_of found.reply) at before now) (sym tells.0) kept;
+  recorded = subst (λ at. RecordedAlone (look_there base text) (answer_of found.reply) at before now) (sym tells.0) kept;
   reads = tells.1;
 }
 reads_by base text buckets before now found (links.Link stamped) tells kept = record {
   number = tells.1.0;
   found = ap (λ s. answer_of s.reply) tells.0 ∙ tells.1.1;
-  recorded = subst (λ s. Recorded (look_there base text) (answer_of s.reply) s.at before now) (sym tells.0) kept;
+  recorded = subst (λ s. RecordedAlone (look_there base text) (answer_of s.reply) s.at before now) (sym tells.0) kept;
 }
 reads_by base text buckets before now found (links.Again why) tells kept = absurd tells
 

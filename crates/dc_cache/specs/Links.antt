@@ -9,7 +9,7 @@ use Rattle.dc_plain.specs.Requests.Answer.{Found}
 use Rattle.dc_plain.specs.Runs.{reply_of}
 use Rattle.dc_events.specs.Standing.{tree_of}
 use Rattle.dc_events.specs.Views.{View}
-use Rattle.dc_walk.specs.Fasts.{Keeps, Recorded}
+use Rattle.dc_walk.specs.Fasts.{Keeps, RecordedAlone}
 use Rattle.dc_walk.specs.declared.answer.Fast.TheVariants as fasts
 use Rattle.dc_cache.specs.declared.links.FastLink as rust_link
 use Rattle.dc_cache.specs.declared.links.FastLink.TheVariants as links
@@ -31,14 +31,14 @@ TellsOf base text found (links.Again why) = ⊥
 -- the look-up was recorded at this point, and nothing else was; a readlink would have been so answered there
 pub record RefusedByLook (base : ℕ) (text : List ℕ) (before now : View) (stamped : Stamped) : Type 0 where
   pub looked : Answer
-  pub recorded : Recorded (look_there base text) looked stamped.at before now
+  pub recorded : RecordedAlone (look_there base text) looked stamped.at before now
   pub reads : ReadsAs base text looked (answer_of stamped.reply)
 
 -- the same look-up found a link
 pub record FoundLink (base : ℕ) (text : List ℕ) (before now : View) (stamped : Stamped) : Type 0 where
   pub number : ℕ
   pub found : answer_of stamped.reply ≡ Found number kinds.Link
-  pub recorded : Recorded (look_there base text) (answer_of stamped.reply) stamped.at before now
+  pub recorded : RecordedAlone (look_there base text) (answer_of stamped.reply) stamped.at before now
 
 -- a refusal or a link is told of by that look-up; without an answer there is a cause, as of a look-up
 abbrev pub ReadsFast : (base : ℕ) (text : List ℕ) (buckets : ℕ) (before now : View) → rust_link.FastLink → Type 0

@@ -15,7 +15,7 @@ ghost use Rattle.dc_plain.specs.Requests.{request_of, answer_of};
 ghost use Rattle.dc_plain.specs.Requests.Request.{Look, Stat, Readlink, List_names};
 ghost use Rattle.dc_table.specs.Changes.{NothingNew};
 ghost use Rattle.dc_table.specs.Shares.{HasNotTried};
-ghost use Rattle.dc_walk.specs.Fasts.{Keeps, IfAgain, Recorded};
+ghost use Rattle.dc_walk.specs.Fasts.{Keeps, IfAgain, RecordedAlone};
 ghost use Rattle.dc_walk.specs.Looks.{outcome_by};
 ghost use Rattle.dc_walk.specs.Placing.{AreNoted};
 
@@ -103,7 +103,7 @@ impl<W: Wakes> Cache<W> {
         requires fault { fault_of path.now ≡ Some fault }
         ensures same { Fits self.now pass.new × (share pass.new ≡ share pass.old) }
         ensures answered { Answered pass.old pass.new (Look base path.now follow) result }
-        ensures keeps { Recorded (Look base path.now follow) (answer_of result.reply) result.at
+        ensures keeps { RecordedAlone (Look base path.now follow) (answer_of result.reply) result.at
             (view pass.old) (view pass.new) }
         ensures untried { HasNotTried (known pass.old) (known pass.new) }
         ensures load { (view pass.new).loads ≡ (view pass.old).loads + 1 }

@@ -1,6 +1,7 @@
 -- The pivot of a walk, and the checks of the notes that it used.
 use Rattle.std.proofs.Common.{◌≡◌, ℕ, zero, suc, ◌+◌, ◌-◌, ◌<◌, ◌≤◌, ◌⊎◌, inl, inr, List, [], ◌∷◌, Bool, true, false, if◌then◌else◌, Option, Some, None, option_map, map, length, get_or, set, take, refl, ap, ap₂, sym, ◌∙◌, subst, arith}
 use Rattle.std.proofs.Math.Seq.{take-length}
+use Rattle.std.proofs.lemmas.List.{length-map}
 use Rattle.std.proofs.lemmas.List.Elements.{Contains-append_right}
 use mathlib.Core.Option.{some}
 use lib.ListN.{get_elem?}
@@ -19,14 +20,16 @@ use Rattle.dc_events.specs.Noted.{facts_in}
 use Rattle.dc_events.specs.Effects.{begins, with_seen, with_record, concluded, settled, turned, pivoted, marked, checked, faulted}
 use Rattle.dc_table.specs.Walking.{CanCheck}
 use Rattle.dc_walk.specs.Uses.{Use, IsUse, Marked, facts_of}
+use Rattle.dc_walk.specs.Finds.{use_shown}
 use Rattle.dc_walk.specs.Looks.{look_shown, outcome_by, outcome_of}
+use Rattle.dc_walk.specs.Rooms.{no_use, used_at, Used}
 use Rattle.dc_walk.specs.Settling.{Came, IsChecking, IsOpen}
 use Rattle.dc_walk.specs.Walks.{Settles}
 use Rattle.dc_walk.specs.declared.look.Look as rust_look
 use Rattle.dc_walk.specs.declared.answer.Fast.TheVariants.{Again}
 use Rattle.dc_walk.specs.declared.why.Why.TheVariants as whys
 use Rattle.dc_walk.proofs.Marks.{facts_are, marks_next, next_there, IsNext, ticked}
-use Rattle.dc_walk.proofs.Told.{answer_is}
+use Rattle.dc_walk.proofs.Told.{answer_is, none_before}
 use Rattle.dc_walk.proofs.Questions.{many_facts}
 
 module _ (spelled : SpelledIsRead) (base : ℕ) (text : List ℕ) (how : Follow) (valid : fault_of text ≡ None) where
@@ -65,7 +68,7 @@ module _ (spelled : SpelledIsRead) (base : ℕ) (text : List ℕ) (how : Follow)
 
     pub first_check : IsChecking (Look base text how) answer us now at 0 w
     first_check =
-        let facts = facts_are spelled 0 0 now.walk.notes us came.walk.marked in
+        let facts = facts_are spelled 0 0 now.walk.notes us came.walk.used.marked in
         elim (none_or_some us) [
           | inl none ↦
               let nobody : outcome_by base text how (told_by []) ≡ Some came.end = ap (λ us. outcome_by base text how (told_by (facts_of us))) (sym none) ∙ came.found in
@@ -76,9 +79,9 @@ module _ (spelled : SpelledIsRead) (base : ℕ) (text : List ℕ) (how : Follow)
               (omega arith) refl turned_at refl came.about (sym size))
           | inr some_use ↦
               goes_on (Look base text how) answer us now at 0 (turned now at) w
-              (e ∙ concludes (turned now at) [] None came.walk.busy came.about facts (came.walk.needed 0 (subst (λ (n : ℕ). 0 < n) (sym (many_facts us)) some_use)))
+              (e ∙ concludes (turned now at) [] None came.walk.busy came.about facts (none_before (outcome_by base text how) (facts_of us) came.walk.used.needed came.walk.used.distinct 0 (subst (λ (n : ℕ). 0 < n) (sym (many_facts us)) some_use)))
               (omega arith) refl some_use
-              (record { busy = came.walk.busy; late = came.walk.busy; pivot = turned_at; call_is = came.about; book_is = refl; marked = came.walk.marked })
+              (record { busy = came.walk.busy; late = came.walk.busy; pivot = turned_at; call_is = came.about; book_is = refl; marked = came.walk.used.marked })
         ]
       where
         none_or_some : (us : List Use) → (us ≡ []) ⊎ (0 < length us)
@@ -89,7 +92,7 @@ module _ (spelled : SpelledIsRead) (base : ℕ) (text : List ℕ) (how : Follow)
   less_or c n l = grind arith
 
   -- one check more
-  pub next_check : (now : View) (us : List Use) (answer : Answer) (at c : ℕ) (d : Use) (v w : View) → Came (outcome_by base text how) (Look base text how) now us answer → c < length us
+  next_check : (now : View) (us : List Use) (answer : Answer) (at c : ℕ) (d : Use) (v w : View) → Came (outcome_by base text how) (Look base text how) now us answer → c < length us
       → IsChecking (Look base text how) answer us now at c v → w ≡ checked v (get_or us c d).place → IsChecking (Look base text how) answer us now at (suc c) w
   next_check now us answer at c d v w came less is e =
       let open_now = is.more less in
@@ -103,7 +106,7 @@ module _ (spelled : SpelledIsRead) (base : ℕ) (text : List ℕ) (how : Follow)
         | inl more ↦
             let many : length (facts_of us) ≡ length us = many_facts us in
             goes_on (Look base text how) answer us now at (suc c) m w
-            (e ∙ concludes m (take (suc c) (facts_of us)) None open_now.busy open_now.call_is facts (came.walk.needed (suc c) (omega arith)))
+            (e ∙ concludes m (take (suc c) (facts_of us)) None open_now.busy open_now.call_is facts (none_before (outcome_by base text how) (facts_of us) came.walk.used.needed came.walk.used.distinct (suc c) (omega arith)))
             (omega arith) is.first_load more
             (record { busy = open_now.busy; late = open_now.late; pivot = open_now.pivot; call_is = open_now.call_is; book_is = open_now.book_is; marked = marks })
         | inr all ↦
@@ -142,7 +145,7 @@ can_check v u busy late n =
       counted = is.count;
     }
 
-pub ready : {call : Request} {answer : Answer} {us : List Use} {before : View} {at c : ℕ} {v : View} (d u : Use) → IsChecking call answer us before at c v → c < length us → get_or us c d ≡ u → CanCheck v u.place u.row u.count
+ready : {call : Request} {answer : Answer} {us : List Use} {before : View} {at c : ℕ} {v : View} (d u : Use) → IsChecking call answer us before at c v → c < length us → get_or us c d ≡ u → CanCheck v u.place u.row u.count
 ready {us = us} {c = c} {v = v} d u is less here = let now = is.more less in
     subst (λ (x : Use). CanCheck v x.place x.row x.count) here (can_check v (get_or us c d) now.busy now.late (next_there 0 c v.walk.notes us d now.marked less))
 
@@ -151,7 +154,7 @@ begins_book true v call = refl
 begins_book false v call = refl
 
 -- a check found a higher count
-pub stopped_check : (look : rust_look.Look) {answer : Answer} {us : List Use} {at c used : ℕ} {before v w : View} {row : ℕ} (noted found : ℕ) {count : ℕ} → Came (outcome_of look) (look_shown look) before us answer → IsChecking (look_shown look) answer us before at c v → c < length us → length us ≡ used → before.book.seen ≤ at
+stopped_check : (look : rust_look.Look) {answer : Answer} {us : List Use} {at c used : ℕ} {before v w : View} {row : ℕ} (noted found : ℕ) {count : ℕ} → Came (outcome_of look) (look_shown look) before us answer → IsChecking (look_shown look) answer us before at c v → c < length us → length us ≡ used → before.book.seen ≤ at
     → (noted ≡ count) × (count < found) × (w ≡ faulted v (Changed row count found)) → Settles look used before w (Again (whys.Changed row noted found))
 stopped_check look {us = us} {at = at} {c = c} {used = used} {before = before} {v = v} {row = row} noted found came is less many later changed =
     let book = (is.more less).book_is in
@@ -164,7 +167,26 @@ stopped_check look {us = us} {at = at} {c = c} {used = used} {before = before} {
         changed = (Contains-append_right v.faults (x ∷ []) x (0, omega arith, refl), omega arith);
         nothing = record { own = ap (λ (b : Book). b.own) book; joined = ap (λ (b : Book). b.joined) book; later = omega arith };
       };
-      asks = came.walk.needed 0 (omega arith);
+      asks = none_before (outcome_of look) (facts_of us) came.walk.used.needed came.walk.used.distinct 0 (omega arith);
       loads = omega arith;
       first_load = is.first_load;
     })
+
+-- the next of the rows that were used is checked
+module _ (look : rust_look.Look) (items : List Used) {answer : Answer} {before : View} {at c : ℕ} {v : View} (came : Came (outcome_of look) (look_shown look) before (map use_shown items) answer) (is : IsChecking (look_shown look) answer (map use_shown items) before at c v) (there : c < length items) where
+  less : c < length (map use_shown items)
+  less = omega (arith, length-map items use_shown, there)
+
+  here : get_or (map use_shown items) c (use_shown no_use) ≡ use_shown (used_at items c)
+  here = use_there use_shown items items c no_use refl
+
+  pub may_check : {place row count : ℕ} → place ≡ (used_at items c).place → row ≡ (used_at items c).row → count ≡ get_or (used_at items c).words 0 0 → CanCheck v place row count
+  may_check p r n = subst (λ (z : ℕ × ℕ × ℕ). CanCheck v z.0 z.1 z.2) (λ i. (sym p i, sym r i, sym n i)) (ready (use_shown no_use) _ is less here)
+
+  pub check_more : SpelledIsRead → {place : ℕ} (w : View) → place ≡ (used_at items c).place → w ≡ checked v place → IsChecking (look_shown look) answer (map use_shown items) before at (c + 1) w
+  check_more law w p e = let next : suc c ≡ c + 1 = omega arith in
+      subst (λ (n : ℕ). IsChecking (look_shown look) answer (map use_shown items) before at n w) next
+      (next_check law look.base look.path.bytes.now look.follow look.path.valid before (map use_shown items) answer at c (use_shown no_use) v w came less is (e ∙ (ap (checked v) p ∙ ap (λ (u : Use). checked v u.place) (sym here))))
+
+  pub check_failed : {w : View} {row : ℕ} (noted found : ℕ) {count : ℕ} → before.book.seen ≤ at → (noted ≡ count) × (count < found) × (w ≡ faulted v (Changed row count found)) → Settles look (length items) before w (Again (whys.Changed row noted found))
+  check_failed noted found later changed = stopped_check look noted found came is less (length-map items use_shown) later changed

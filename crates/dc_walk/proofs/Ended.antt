@@ -44,7 +44,7 @@ by_begun outcome buckets true v call why cause = refl
 by_begun outcome buckets false v call (whys.Miss n) cause = let other = cause.2.rows 0 (omega arith) in absurd (none_there other.note other.noted)
 by_begun outcome buckets false v call (whys.Busy row) cause = absurd (none_there (Busy row) cause)
 by_begun outcome buckets false v call (whys.Changed row noted found) cause = absurd (none_there (Changed row noted found) cause.0)
-by_begun outcome buckets false v call whys.Long cause = let none : length cause.uses ≡ 0 = ap length cause.marked in let many = cause.many in absurd (omega arith)
+by_begun outcome buckets false v call whys.Long cause = let none : length cause.uses ≡ 0 = ap length cause.used.marked in let many = cause.many in absurd (omega arith)
 by_begun outcome buckets false v call whys.Link cause = let other = cause.2.rows 0 (omega arith) in absurd (none_there other.note other.noted)
 by_begun outcome buckets false v call whys.Memory cause = absurd cause
 
@@ -65,11 +65,9 @@ started f v can now made none = record {
     walk = subst (λ (z : View × List Use). IsWalk (outcome_in f) z.0 z.1 (spent f + 0)) (λ i. (sym now i, map use_shown (sym none i))) (record {
       busy = refl;
       early = refl;
-      marked = refl;
+      used = record { marked = refl; needed = λ i l. absurd (omega arith); distinct = λ i l. absurd (omega arith) };
       few = omega arith;
       loads = omega arith;
-      needed = λ i l. absurd (omega arith);
-      distinct = λ i l. absurd (omega arith);
     });
     made = made ∙ ap (λ (z : View). length z.walk.notes) (sym now);
     call = ap (λ (z : View). z.walk.call) now;
@@ -140,7 +138,7 @@ stopped_so locks f g v begins_so stop b p same us same_used =
       nothing = nothing;
       asks = asks;
       noted = λ some. noted_by g.begun (view p) (request_in f) (map use_shown us) some
-          (subst (λ (z : View × List Used). Marked 0 0 z.0.walk.notes (map use_shown z.1)) (λ i. (now i, sym same_used i)) b.finding.walk.marked);
+          (subst (λ (z : View × List Used). Marked 0 0 z.0.walk.notes (map use_shown z.1)) (λ i. (now i, sym same_used i)) b.finding.walk.used.marked);
       gave_up = λ free tells. gave_so locks f g v begins_so b.same b.walk b.looks b.finding p same us same_used b.few stop.why (b.cause free (b.same.brief ∙ tells)) asks nothing;
     }
 

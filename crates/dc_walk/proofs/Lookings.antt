@@ -1,5 +1,5 @@
 -- What the rows of a bucket told so far.
-use Rattle.std.proofs.Common.{◌≡◌, ℕ, ◌+◌, ◌≤◌, List, [], ◌∷◌, refl, sym, subst, append-nil, Option, Some, None, Result, Ok, Err, IfOk, true, if◌then◌else◌, ap, arith, below_more}
+use Rattle.std.proofs.Common.{◌≡◌, ℕ, ◌+◌, ◌≤◌, List, [], ◌∷◌, refl, sym, ◌∙◌, subst, append-nil, Option, Some, None, Result, Ok, Err, IfOk, true, if◌then◌else◌, ap, arith, below_more}
 use Rattle.std.specs.List.{Contains}
 use Rattle.std.specs.Option.{option_or}
 use Rattle.dc_plain.specs.Facts.{Key}
@@ -8,16 +8,23 @@ use Rattle.dc_events.specs.Views.Fault.{Busy}
 use Rattle.dc_walk.specs.Asking.{IsOther, GoesOn}
 use Rattle.dc_walk.specs.Causes.{Looked}
 use Rattle.dc_names.specs.declared.limits.TheConstants.{BUCKET_ROWS}
-use Rattle.dc_walk.specs.Findings.{spent, IsFinding}
+use Rattle.dc_walk.specs.Findings.{now_in, spent, IsFinding, SameRows}
+use Rattle.dc_walk.specs.Seeks.{LooksOn}
+use Rattle.dc_table.specs.Passes.{StaysOut}
+use Rattle.dc_events.specs.Effects.{faulted}
 use Rattle.dc_walk.specs.Probes.{fresh_note, probed}
 use Rattle.dc_walk.specs.Sights.{AnswersIn}
+use Rattle.dc_walk.specs.declared.probe.Extent.{Extent}
+use Rattle.dc_walk.specs.declared.probe.Extent.TheVariants.{Head, Whole}
 use Rattle.dc_walk.specs.declared.rows.Rows.{Rows}
 use Rattle.dc_walk.specs.declared.source.Lane.{Lane}
-use Rattle.dc_walk.proofs.Sighted.{other_on, fault_on}
+use Rattle.dc_walk.proofs.Sighted.{on_odd, other_on, fault_on}
 use Rattle.dc_walk.proofs.Walked.{rested}
 
--- a row was noted and read
-pub on_read : {v w : View} (row count : ℕ) (words : List ℕ) → w ≡ probed v row count words → GoesOn v w
+pub not_whole : {e : Extent} → e ≡ Head → e ≡ Whole → ⊥
+not_whole is whole = let same : Head ≡ Whole = sym is ∙ whole in absurd cc
+
+on_read : {v w : View} (row count : ℕ) (words : List ℕ) → w ≡ probed v row count words → GoesOn v w
 on_read {v = v} row count words e = subst (GoesOn v) (sym e) (record {
   notes = fresh_note row count words ∷ [];
   noted = refl;
@@ -25,6 +32,15 @@ on_read {v = v} row count words e = subst (GoesOn v) (sym e) (record {
   faults = sym (append-nil v.faults);
   same = record { call = refl; book = refl; first_load = refl };
 })
+
+module _ {f g : Rows} (s : SameRows f g) (out : StaysOut f.pass.now g.pass.now) (row : ℕ) where
+  -- the row is odd
+  pub looks_odd : now_in g ≡ faulted (now_in f) (Busy row) → LooksOn f g
+  looks_odd now = record { same = s; untried = out.untried; on = on_odd row now }
+
+  -- it was noted and read
+  pub looks_read : (count : ℕ) (words : List ℕ) → now_in g ≡ probed (now_in f) row count words → LooksOn f g
+  looks_read count words now = record { same = s; untried = out.untried; on = on_read row count words now }
 
 pub looked_none : (v : View) (first : ℕ) (key : Key) → Looked v first key None 0
 looked_none v first key = record { odd_row = tt; others = λ j l. absurd (omega arith) }

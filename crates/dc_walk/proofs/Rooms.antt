@@ -12,25 +12,21 @@ use Rattle.dc_names.specs.Paths.{Part, bytes_of, fault_of, is_long}
 use Rattle.dc_names.specs.Paths.Part.{Name, Dot, DotDot}
 use Rattle.dc_names.specs.declared.limits.TheConstants.{NAME_MAX, PATH_MAX, ROW_WORDS, ROW_TEXT, MOST_USED_BYTES, MOST_USED}
 use Rattle.dc_names.specs.declared.fault.TextFault.TheVariants.{Empty, Long, Zero}
-use Rattle.dc_plain.specs.Facts.{Fact, Key, key_of}
+use Rattle.dc_plain.specs.Facts.{Fact, Key, Label, key_of}
 use Rattle.dc_plain.specs.Facts.Label.{Entry, Parent, Text}
 use Rattle.dc_plain.specs.Facts.Fact.{Leads, Reads}
 use Rattle.dc_row.specs.Narrow.{told_words, widened, RowsEndInZeros}
 use Rattle.dc_row.specs.Spelling.{fields_of, has_room, has_spelling, TellsOf}
 use Rattle.dc_resolve.specs.Asked.{label_of}
-use Rattle.dc_walk.specs.Rooms.{kept_in, key_bytes, no_place, no_use, stored_at, used_at, used_in, HasWords, IsBelow, IsRoom, Keeps, Kept, Used}
+use Rattle.dc_walk.specs.Rooms.{kept_in, key_bytes, no_place, no_use, stored_at, used_at, used_in, HasPlace, HasWords, IsBelow, IsRoom, Keeps, Kept, Used}
 use Rattle.dc_walk.specs.declared.used.Stored.{Stored}
 
--- with the same rows a room has words for the same
-pub words_still : (r s : Kept) (n : ℕ) → s.items ≡ r.items → s.spent ≡ r.spent → HasWords r n → HasWords s n
-words_still r s n items spent has = let many : length s.items ≡ length r.items = ap (λ (us : List Used). length us) items in omega arith
+-- with the same rows a room has a place for the same
+pub place_still : {r s : Kept} {label : Label} → s.items ≡ r.items → s.spent ≡ r.spent → HasPlace r label → HasPlace s label
+place_still items spent has = let many = ap (λ (us : List Used). length us) items in let some = has.some in let words = has.words in record { some = omega arith; words = omega arith }
 
 pub keeps_from : (r s t : Kept) (n : ℕ) → s.items ≡ r.items → s.spent ≡ r.spent → Keeps s t n → Keeps r t n
 keeps_from r s t n items spent keeps = let many : length s.items ≡ length r.items = ap (λ (us : List Used). length us) items in omega arith
-
--- what was asked for is spent, and words for the rest are left
-pub words_left : (r s : Kept) (n m : ℕ) → Keeps r s n → HasWords r (n + m) → HasWords s m
-words_left r s n m keeps has = omega arith
 
 -- an empty room has words for a walk of a path
 pub begins_with_words : (r : Kept) (path : ℕ) → r.items ≡ [] → r.spent ≡ 0 → path ≤ PATH_MAX → HasWords r (2 + path + 40 * (2 * ROW_TEXT))
@@ -67,8 +63,8 @@ key_size law key {words} tells =
     let text : length (fields_of (Some tells.fact)).text ≤ key_bytes key.label = subst (λ (k : Key). length (fields_of (Some tells.fact)).text ≤ key_bytes k.label) tells.about (text_size tells.fact tells.spelled.allowed) in
     omega arith
 
-pub has_room_for : (r : Kept) (n : ℕ) (key : Key) → 8 * n ≤ 40 + key_bytes key.label → length r.items < MOST_USED → HasWords r (key_bytes key.label) → 8 * (r.spent + n) ≤ 40 * MOST_USED + MOST_USED_BYTES
-has_room_for r n key size some has = omega arith
+pub has_room_for : {r : Kept} (n spent told : ℕ) (key : Key) → spent ≡ r.spent → told ≡ n → 8 * n ≤ 40 + key_bytes key.label → HasPlace r key.label → 8 * (spent + told) ≤ 40 * MOST_USED + MOST_USED_BYTES
+has_room_for n spent told key same is size has = let some = has.some in let words = has.words in omega arith
 
 pub kept_so : (r s : Kept) (key : Key) (n : ℕ) → 8 * n ≤ 40 + key_bytes key.label → length s.items ≡ length r.items + 1 → s.spent ≡ r.spent + n → Keeps r s (key_bytes key.label)
 kept_so r s key n size one more = omega arith
@@ -126,18 +122,7 @@ module _ {rows : List Stored} {len : ℕ} {words : List ℕ} {end : ℕ} (is : I
   pub rows_kept : (more : List ℕ) → take end more ≡ take end words → map (used_in more) (take len rows) ≡ map (used_in words) (take len rows)
   rows_kept more same = same_rows more words end same (take len rows) below_taken
 
-  pub room_with : (more : List ℕ) → length more ≡ length words → IsRoom rows len more end
-  room_with more size = record { few = is.few; many = is.many; size = size ∙ is.size; fits = is.fits; below = is.below }
-
 -- the words behind the end are those of the row that is being read
-pub next_size : (words : List ℕ) (end : ℕ) → end + ROW_WORDS ≤ length words → length (slice_range words end (end + ROW_WORDS)) ≡ ROW_WORDS
-next_size words end fits =
-    let many : end + ROW_WORDS - end ≡ ROW_WORDS = omega arith in
-    ap (λ (n : ℕ). length (take n (drop end words))) many ∙ length-take-le ROW_WORDS (drop end words) (let left = length-drop end words in omega arith)
-
-pub next_set : (words : List ℕ) (end at w : ℕ) → at < ROW_WORDS → slice_range (set words (end + at) w) end (end + ROW_WORDS) ≡ set (slice_range words end (end + ROW_WORDS)) at w
-next_set words end at w inside = ap (λ (xs : List ℕ). take (end + ROW_WORDS - end) xs) (drop-set-add end words at w) ∙ take-set-lt (end + ROW_WORDS - end) (drop end words) at w (omega arith)
-
 pub next_put : (words row : List ℕ) (end k : ℕ) → end ≤ length words → length row ≡ ROW_WORDS → slice_range (put_mid end k words row) end (end + ROW_WORDS) ≡ row
 next_put words row end k fits size =
     let front : length (take end words) ≡ end = length-take-le end words fits in

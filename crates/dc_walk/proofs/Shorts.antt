@@ -13,8 +13,15 @@ use Rattle.dc_row.specs.declared.short.TheConstants.{SHORT_TEXT, SHORT_WORDS}
 use Rattle.dc_row.specs.Short.{HasHead, HasText}
 use Rattle.dc_row.specs.Spelling.{fields_of, text_word}
 use Rattle.dc_events.specs.Views.{View}
-use Rattle.dc_walk.specs.Probes.{probed, row_of, AreZero, IsShort, IsText}
+use Rattle.dc_events.specs.Effects.{read}
+use Rattle.dc_table.specs.Passes.{Pass, view, Fits, IsWalkerAt, StaysOut}
+use Rattle.dc_table.specs.Walking.{CanRead}
+use Rattle.dc_table.specs.declared.shared.Shared.{Shared}
+use Rattle.dc_walk.specs.Probes.{probed, row_of, AreZero, IsShort, IsText, MayReadOn, ReadsTop}
+use Rattle.dc_walk.specs.declared.probe.Noted.{Noted}
 use Rattle.dc_walk.specs.declared.probe.Top.{Top}
+use Rattle.dc_walk.proofs.Probed.{can_go_on, goes_on}
+use Rattle.dc_walk.proofs.Seats.{fits_still, row_still, stays_again}
 
 -- this many words behind the value were read, and what is known of them says whether they are the text's
 pub record ReadsSome (v w : View) (row : ℕ) (top : Top) (text : List ℕ) (value n : ℕ) (Its : Type 0) : Type 0 where
@@ -22,6 +29,49 @@ pub record ReadsSome (v w : View) (row : ℕ) (top : Top) (text : List ℕ) (val
   pub size : length rest ≡ n
   pub read : w ≡ probed v row top.count (top.head ∷ top.number ∷ value ∷ rest)
   pub its : Its ↔ IsText text rest
+
+-- so it is whatever the view was before the top was read, and the pass stays out of the lock
+pub record ReadsOn (t : Shared) (p q : Pass) (noted : Noted) (text : List ℕ) (value n : ℕ) (Its : Type 0) : Type 0 where
+  pub fits : Fits t q
+  pub stays : StaysOut p q
+  pub read : (v : View) → ReadsTop v (view p) noted.row noted.top → ReadsSome v (view q) noted.row noted.top text value n Its
+
+module _ {t : Shared} {p q : Pass} {noted : Noted} where
+  -- after the value no word was compared yet
+  pub reads_value : MayReadOn t p noted → (text : List ℕ) → StaysOut p q → (value : ℕ) → view q ≡ read (view p) value → {Its : Type 0} → Its → ReadsOn t p q noted text value 0 Its
+  reads_value on text stays value is its = record {
+    fits = fits_still on.walker.fits stays.same;
+    stays = stays;
+    read = λ v h. record {
+      rest = [];
+      size = refl;
+      read = goes_on v noted.row noted.top.count (noted.top.head ∷ noted.top.number ∷ []) h (view q) value is;
+      its = (λ yes. record { first = λ i l. absurd (omega arith); past = λ i l. absurd (omega arith) }, λ text. its);
+    };
+  }
+
+  module _ {text : List ℕ} {value n : ℕ} {Its : Type 0} where
+    -- a word more may be read
+    pub can_read_on : MayReadOn t p noted → (i : ℕ) → ReadsOn t p q noted text value n Its → i ≡ 4 + n → i < ROW_WORDS → IsWalkerAt t q noted.row × CanRead (view q) noted.row i
+    can_read_on on i so at few = let r = on.reading in let s = so.read r.before r.read in let size = s.size in (
+      record { fits = so.fits; idle = so.stays.idle; inside = row_still on.walker.inside so.stays.same },
+      can_go_on r.before noted.row noted.top.count (noted.top.head ∷ noted.top.number ∷ value ∷ s.rest) s.read r.early i (omega arith) few,
+    )
+
+    pub reads_more : (m : ℕ) → m ≡ n + 1 → ReadsOn t p q noted text value n Its → {r : Pass} → StaysOut q r → (w : ℕ) → view r ≡ read (view q) w → {More : Type 0} → ((rest : List ℕ) → length rest ≡ n → (Its ↔ IsText text rest) → More ↔ IsText text (rest ++ w ∷ [])) → ReadsOn t p r noted text value m More
+    reads_more m next so {r = r} out w is its = record {
+      fits = fits_still so.fits out.same;
+      stays = stays_again so.stays out;
+      read = λ v h. let s = so.read v h in let size = s.size in let more = length-append s.rest (w ∷ []) in record {
+        rest = s.rest ++ w ∷ [];
+        size = omega arith;
+        read = goes_on v noted.row noted.top.count (noted.top.head ∷ noted.top.number ∷ value ∷ s.rest) s.read (view r) w is;
+        its = its s.rest s.size s.its;
+      };
+    }
+
+    pub reads_to : (m : ℕ) → n ≡ m → ReadsOn t p q noted text value n Its → ReadsOn t p q noted text value m Its
+    reads_to m same so = subst (λ (k : ℕ). ReadsOn t p q noted text value k Its) same so
 
 -- words that have no other bits are the same
 pub same_from_zero : (a b : ℕ) → bit_xor a b ≡ 0 → a ≡ b

@@ -14,10 +14,10 @@ use Rattle.dc_plain.specs.Places.{walk}
 use Rattle.dc_plain.specs.Requests.Request.{Look}
 use Rattle.dc_plain.specs.Tellers.{Extends}
 use Rattle.dc_plain.specs.FactLaws.{outcome_answer, answer_told}
-use Rattle.dc_resolve.specs.Needs.{IsUntold}
+use Rattle.dc_resolve.specs.Needs.{IsNeeded, IsUntold}
 use Rattle.dc_row.specs.Spelling.{has_spelling}
 use Rattle.dc_walk.specs.Finds.{IsTold}
-use Rattle.dc_walk.specs.Uses.{NeedsEach, DiffersEach, IsNew}
+use Rattle.dc_walk.specs.Uses.{NeedsEach, NeedsNext, DiffersEach, IsNew}
 
 pub same_test : (n : ℕ) → (n == n) ≡ true
 same_test n = grind (arith, nat_tests)
@@ -79,22 +79,29 @@ last_got : (facts : List Fact) (fact d : Fact) → get_or (facts ++ fact ∷ [])
 last_got [] fact d = refl
 last_got (f ∷ facts) fact d = last_got facts fact d
 
-pub needs_more : (outcome : Teller → Option Outcome) (facts : List Fact) (fact : Fact) → NeedsEach outcome facts → outcome (told_by facts) ≡ None → NeedsEach outcome (facts ++ fact ∷ [])
-needs_more outcome facts fact each now i l =
+-- what holds of each fact, after those before it, holds with one fact more
+each_more : (P : List Fact → Fact → Type 0) (facts : List Fact) (fact : Fact) → ((i : ℕ) → i < length facts → P (take i facts) (get_or facts i (Reads 0 []))) → P facts fact
+    → (i : ℕ) → i < length (facts ++ fact ∷ []) → P (take i (facts ++ fact ∷ [])) (get_or (facts ++ fact ∷ []) i (Reads 0 []))
+each_more P facts fact each now i l =
     let size : length (facts ++ fact ∷ []) ≡ length facts + 1 = length-append facts (fact ∷ []) in
     elim (last_or i (length facts) (omega arith)) [
-      | inl less ↦ ap (λ fs. outcome (told_by fs)) (take-append-le i facts (fact ∷ []) (omega arith)) ∙ each i less
-      | inr is ↦ ap (λ fs. outcome (told_by fs)) (ap (λ (n : ℕ). take n (facts ++ fact ∷ [])) is ∙ take-append_seam facts (fact ∷ [])) ∙ now
-    ]
-
-pub differs_more : (facts : List Fact) (fact : Fact) → DiffersEach facts → IsNew (told_by facts) fact → DiffersEach (facts ++ fact ∷ [])
-differs_more facts fact each now i l =
-    let size : length (facts ++ fact ∷ []) ≡ length facts + 1 = length-append facts (fact ∷ []) in
-    elim (last_or i (length facts) (omega arith)) [
-      | inl less ↦ subst (λ (z : List Fact × Fact). IsNew (told_by z.0) z.1) (λ j. (sym (take-append-le i facts (fact ∷ []) (omega arith)) j, sym (get_or_append_left facts (fact ∷ []) (Reads 0 []) i less) j)) (each i less)
-      | inr is ↦ subst (λ (z : List Fact × Fact). IsNew (told_by z.0) z.1)
+      | inl less ↦ subst (λ (z : List Fact × Fact). P z.0 z.1) (λ j. (sym (take-append-le i facts (fact ∷ []) (omega arith)) j, sym (get_or_append_left facts (fact ∷ []) (Reads 0 []) i less) j)) (each i less)
+      | inr is ↦ subst (λ (z : List Fact × Fact). P z.0 z.1)
           (λ j. (sym (ap (λ (n : ℕ). take n (facts ++ fact ∷ [])) is ∙ take-append_seam facts (fact ∷ [])) j, sym (ap (λ (n : ℕ). get_or (facts ++ fact ∷ []) n (Reads 0 [])) is ∙ last_got facts fact (Reads 0 [])) j)) now
     ]
 
+pub needs_more : (outcome : Teller → Option Outcome) (facts : List Fact) (fact : Fact) → NeedsEach outcome facts → NeedsNext outcome facts fact → NeedsEach outcome (facts ++ fact ∷ [])
+needs_more outcome facts fact each now = each_more (NeedsNext outcome) facts fact each now
+
+pub differs_more : (facts : List Fact) (fact : Fact) → DiffersEach facts → IsNew (told_by facts) fact → DiffersEach (facts ++ fact ∷ [])
+differs_more facts fact each now = each_more (λ before f. IsNew (told_by before) f) facts fact each now
+
+-- before each of them there is no outcome
+pub none_before : (outcome : Teller → Option Outcome) (facts : List Fact) → NeedsEach outcome facts → DiffersEach facts → (i : ℕ) → i < length facts → outcome (told_by (take i facts)) ≡ None
+none_before outcome facts needs differs i l = needs i l (told_by (take i facts)) (told_itself (told_by (take i facts))) (differs i l)
+
 pub new_same : (key : Key) (teller : Teller) (fact : Fact) → key_of fact ≡ key → IsUntold teller key.number key.label → IsNew teller fact
 new_same key teller fact is none = subst (λ (k : Key). IsUntold teller k.number k.label) (sym is) none
+
+pub needed_same : (outcome : Teller → Option Outcome) (key : Key) (facts : List Fact) (fact : Fact) → key_of fact ≡ key → IsNeeded outcome (told_by facts) key.number key.label → NeedsNext outcome facts fact
+needed_same outcome key facts fact is need = subst (λ (k : Key). IsNeeded outcome (told_by facts) k.number k.label) (sym is) need

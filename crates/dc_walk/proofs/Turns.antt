@@ -65,7 +65,7 @@ module _ (before : List LockHold) (f h g : Rows) (lane : Lane) (used : h.used.no
     | inr nothing ↦ let many = nothing.0 in let some = head.1 in absurd (omega arith)
   ]
   lane_turn None head = elim had.pins [
-    | inl one ↦ let many = one.0 in let none : lane.many ≡ 0 = head in absurd (omega arith)
+    | inl one ↦ let many = one.0 in let none : lane.len ≡ 0 = head in absurd (omega arith)
     | inr nothing ↦ had_none before f h used had.once is nothing.1
   ]
 

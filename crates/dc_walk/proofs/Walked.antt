@@ -1,5 +1,5 @@
 -- The state of a walk, step by step.
-use Rattle.std.proofs.Common.{◌≡◌, ℕ, ◌+◌, ◌<◌, ◌≤◌, List, [], ◌∷◌, ◌++◌, Option, Some, None, length, refl, sym, subst, arith, length-append}
+use Rattle.std.proofs.Common.{◌≡◌, ℕ, ◌+◌, ◌<◌, ◌≤◌, List, [], ◌∷◌, ◌++◌, Option, Some, length, refl, sym, subst, arith, length-append}
 use Rattle.std.specs.List.{Contains}
 use Rattle.std.proofs.lemmas.List.{map-append}
 use Rattle.std.proofs.lemmas.List.Elements.{Contains-append_left, Contains-append_right}
@@ -11,7 +11,7 @@ use Rattle.dc_events.specs.Views.Fault.{Busy}
 use Rattle.dc_events.specs.Effects.{faulted}
 use Rattle.dc_names.specs.declared.limits.TheConstants.{BUCKET_ROWS, ROW_WORDS}
 use Rattle.dc_walk.specs.Probes.{probed, fresh_note}
-use Rattle.dc_walk.specs.Uses.{Use, IsNew, facts_of, NeedsEach, DiffersEach}
+use Rattle.dc_walk.specs.Uses.{Use, IsNew, facts_of, NeedsEach, NeedsNext, DiffersEach}
 use Rattle.dc_walk.specs.Asking.{IsWalk, IsOther}
 use Rattle.dc_walk.proofs.Marks.{more_unused, more_used}
 use Rattle.dc_walk.proofs.Told.{needs_more, differs_more}
@@ -24,29 +24,19 @@ module _ {outcome : Teller → Option Outcome} {v : View} {us : List Use} {k : �
       let size : length (v.walk.notes ++ fresh_note row count words ∷ []) ≡ length v.walk.notes + 1 = length-append v.walk.notes (fresh_note row count words ∷ []) in record {
         busy = w.busy;
         early = w.early;
-        marked = more_unused 0 v.walk.notes us (fresh_note row count words) w.marked refl;
+        used = record { marked = more_unused 0 v.walk.notes us (fresh_note row count words) w.used.marked refl; needed = w.used.needed; distinct = w.used.distinct };
         few = omega arith;
         loads = omega arith;
-        needed = w.needed;
-        distinct = w.distinct;
       }
 
   -- a row that is odd
   pub stumbled : (row : ℕ) → IsWalk outcome v us k → IsWalk outcome (faulted v (Busy row)) us (k + 1)
-  stumbled row w = let few = w.few in let loads = w.loads in record {
-    busy = w.busy;
-    early = w.early;
-    marked = w.marked;
-    few = omega arith;
-    loads = omega arith;
-    needed = w.needed;
-    distinct = w.distinct;
-  }
+  stumbled row w = let few = w.few in let loads = w.loads in record { busy = w.busy; early = w.early; used = w.used; few = omega arith; loads = omega arith }
 
   -- a row that answers, before which m more rows were looked at than those of a bucket
-  pub answered : (u : Use) (words : List ℕ) (m : ℕ) → IsWalk outcome v us k → k < BUCKET_ROWS + m → u.place ≡ length v.walk.notes → Spells (u.count ∷ words) (Some u.fact) → outcome (told_by (facts_of us)) ≡ None → IsNew (told_by (facts_of us)) u.fact
+  pub answered : (u : Use) (words : List ℕ) (m : ℕ) → IsWalk outcome v us k → k < BUCKET_ROWS + m → u.place ≡ length v.walk.notes → Spells (u.count ∷ words) (Some u.fact) → NeedsNext outcome (facts_of us) u.fact → IsNew (told_by (facts_of us)) u.fact
       → IsWalk outcome (probed v u.row u.count words) (us ++ u ∷ []) m
-  answered u words m w early at spells unsettled new =
+  answered u words m w early at spells need new =
       let few = w.few in let loads = w.loads in
       let x = fresh_note u.row u.count words in let whole = spells.size in
       let size : length (v.walk.notes ++ x ∷ []) ≡ length v.walk.notes + 1 = length-append v.walk.notes (x ∷ []) in
@@ -54,16 +44,18 @@ module _ {outcome : Teller → Option Outcome} {v : View} {us : List Use} {k : �
       let many : length (us ++ u ∷ []) ≡ length us + 1 = length-append us (u ∷ []) in record {
         busy = w.busy;
         early = w.early;
-        marked = more_used 0 v.walk.notes us x u w.marked (record { at = placed; row = refl; count = refl; spells = spells }) refl;
+        used = record {
+          marked = more_used 0 v.walk.notes us x u w.used.marked (record { at = placed; row = refl; count = refl; spells = spells }) refl;
+          needed = subst (NeedsEach outcome) (sym (map-append (λ u. u.fact) us (u ∷ []))) (needs_more outcome (facts_of us) u.fact w.used.needed need);
+          distinct = subst DiffersEach (sym (map-append (λ u. u.fact) us (u ∷ []))) (differs_more (facts_of us) u.fact w.used.distinct new);
+        };
         few = omega arith;
         loads = omega arith;
-        needed = subst (NeedsEach outcome) (sym (map-append (λ u. u.fact) us (u ∷ []))) (needs_more outcome (facts_of us) u.fact w.needed unsettled);
-        distinct = subst DiffersEach (sym (map-append (λ u. u.fact) us (u ∷ []))) (differs_more (facts_of us) u.fact w.distinct new);
       }
 
   -- looking no further
   pub rested : (n : ℕ) → k ≤ n → IsWalk outcome v us k → IsWalk outcome v us n
-  rested n l w = let few = w.few in let loads = w.loads in record { busy = w.busy; early = w.early; marked = w.marked; few = omega arith; loads = omega arith; needed = w.needed; distinct = w.distinct }
+  rested n l w = let few = w.few in let loads = w.loads in record { busy = w.busy; early = w.early; used = w.used; few = omega arith; loads = omega arith }
 
 -- what a row told stays noted
 pub other_still : {v : View} {row : ℕ} {key : Key} (more : List Note) (w : View) → w.walk.notes ≡ v.walk.notes ++ more → IsOther v row key → IsOther w row key

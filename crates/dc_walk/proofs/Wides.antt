@@ -1,11 +1,13 @@
 -- A row of which the first words are stored, and the others only seen.
-use Rattle.std.proofs.Common.{◌≡◌, ℕ, zero, suc, ◌+◌, ◌-◌, ◌/◌, ◌%◌, ◌<◌, ◌≤◌, ◌↔◌, List, [], ◌∷◌, ◌++◌, min, length, length-append, length-take-le, get_or, take, drop, replicate, refl, ap, sym, ◌∙◌, arith}
+use Rattle.std.proofs.Common.{◌≡◌, ℕ, zero, suc, ◌+◌, ◌-◌, ◌/◌, ◌%◌, ◌<◌, ◌≤◌, ◌↔◌, Bool, IsTrue, List, [], ◌∷◌, ◌++◌, min, length, length-append, length-take-le, get_or, take, drop, replicate, refl, ap, sym, ◌∙◌, arith}
 use Rattle.std.proofs.lemmas.List.{get_or_append_left, get_or-append_right, get_or-replicate, get_or-take}
-use Rattle.dc_row.specs.Narrow.{told_words, widened, words_for}
+use Rattle.dc_plain.specs.Facts.{Key}
+use Rattle.dc_row.specs.Narrow.{told_words, widened, words_for, RowsEndInZeros}
+use Rattle.dc_row.specs.Spelling.{TellsOf}
 use Rattle.dc_names.specs.declared.limits.TheConstants.{ROW_WORDS}
 use Rattle.dc_row.specs.declared.layout.TheConstants.{LENGTH_UNIT, LENGTHS}
 use Rattle.dc_events.specs.Views.{View}
-use Rattle.dc_walk.specs.Probes.{probed, read_of, seen_whole, AreZero}
+use Rattle.dc_walk.specs.Probes.{probed, read_of, seen_whole, AreZero, ReadsFirst, ReadsWhole}
 use Rattle.dc_walk.proofs.Probed.{rest_size}
 
 -- words up to one were read, and from it on this many, of which it is known whether they are zero
@@ -64,3 +66,24 @@ first_again [] rest zero size = refl
 first_again [] rest (suc n) size = absurd (omega arith)
 first_again (x ∷ first) rest zero size = absurd (omega arith)
 first_again (x ∷ first) rest (suc n) size = ap (λ (ws : List ℕ). x ∷ ws) (first_again first rest n (omega arith))
+
+-- a row was read whole, and of how many of its first words it is known that they say all
+pub record ReadsWide (v w : View) (row : ℕ) (first : List ℕ) (told : ℕ) (narrow : Bool) : Type 0 where
+  pub words : List ℕ
+  pub whole : ReadsWhole v w row words
+  pub count : told ≡ told_words words
+  pub first_are : first ≡ take told words
+  pub narrow_is : IsTrue narrow ↔ (widened first ≡ words)
+
+pub wide_so : {v w : View} {row told : ℕ} (old new : List ℕ) {narrow : Bool} → told ≡ told_words old → take 3 new ≡ take 3 old → (4 ≤ told) × (told ≤ ROW_WORDS) → length new ≡ ROW_WORDS → ReadsFirst v w row (take told new) narrow → ReadsWide v w row (take told new) told narrow
+wide_so {told = told} old new is same few size s = let all = size in let most = few.1 in record {
+  words = take told new ++ s.rest;
+  whole = record { size = s.size; read = s.read };
+  count = told_still old new s.rest told is same few.0 (omega arith);
+  first_are = sym (first_again (take told new) s.rest told (length-take-le told new (omega arith)));
+  narrow_is = (λ yes. wide_with (take told new) s.rest s.size (s.zeros.0 yes), λ whole. s.zeros.1 (zeros_behind (take told new) s.rest s.size whole));
+}
+
+-- if it tells of a key, its first words do, and say all
+pub told_wide : RowsEndInZeros → {v w : View} {row told : ℕ} {first : List ℕ} {narrow : Bool} (r : ReadsWide v w row first told narrow) {key : Key} → TellsOf r.words key → widened first ≡ r.words
+told_wide law r tells = ap (λ (ws : List ℕ). widened ws) (r.first_are ∙ ap (λ (n : ℕ). take n r.words) r.count) ∙ (law r.words tells.fact tells.spelled).zeros

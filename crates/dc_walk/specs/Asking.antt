@@ -1,25 +1,23 @@
 -- The state of a walk, and the keys that it asks for.
-use Rattle.std.specs.Prelude.{◌≡◌, ℕ, ◌+◌, ◌*◌, ◌<◌, ◌≤◌, List, ◌++◌, true, false, Option, Some, length}
+use Rattle.std.specs.Prelude.{◌≡◌, ℕ, ◌+◌, ◌*◌, ◌<◌, ◌≤◌, List, ◌++◌, true, false, Option, length}
 use Rattle.std.specs.List.{Contains}
-use Rattle.dc_plain.specs.Facts.{Fact, Key, Teller, told_by}
+use Rattle.dc_plain.specs.Facts.{Key, Teller, told_by}
 use Rattle.dc_plain.specs.Resolution.{Outcome}
-use Rattle.dc_row.specs.Spelling.{Spells, TellsOf}
+use Rattle.dc_row.specs.Spelling.{TellsOf}
 use Rattle.dc_resolve.specs.Needs.{IsNeeded, IsUntold}
 use Rattle.dc_index.specs.Slots.{bucket_of}
 use Rattle.dc_events.specs.Views.{View, Note, Fault}
 use Rattle.dc_events.specs.Rows.{note_words, IsWhole}
-use Rattle.dc_walk.specs.Uses.{Use, Marked, NeedsEach, DiffersEach, facts_of}
+use Rattle.dc_walk.specs.Uses.{Use, HasUsed, facts_of}
 use Rattle.dc_names.specs.declared.limits.TheConstants.{BUCKET_ROWS, ROW_WORDS}
 
 -- a walk that has looked at k rows for its present question: each question cost the rows of a bucket at most, each row a load for each word
 pub record IsWalk (outcome : Teller → Option Outcome) (v : View) (uses : List Use) (k : ℕ) : Type 0 where
   pub busy : v.walk.busy ≡ true
   pub early : v.walk.pivoted ≡ false
-  pub marked : Marked 0 0 v.walk.notes uses
+  pub used : HasUsed outcome v.walk.notes uses
   pub few : length v.walk.notes ≤ BUCKET_ROWS * length uses + k
   pub loads : v.loads ≤ v.first_load + ROW_WORDS * (BUCKET_ROWS * length uses + k)
-  pub needed : NeedsEach outcome (facts_of uses)
-  pub distinct : DiffersEach (facts_of uses)
 
 -- what no step of a walk changes once it is begun
 pub record SameWalk (v w : View) : Type 0 where
@@ -47,12 +45,12 @@ pub record IsOther (v : View) (row : ℕ) (key : Key) : Type 0 where
 abbrev pub first_row : ℕ → Key → ℕ
 first_row buckets key = BUCKET_ROWS * bucket_of key buckets
 
--- facts of some whole notes, by which the walk asks for this key
+-- by the facts of the notes that answered its questions so far the walk asks for this key
 pub record Asks (outcome : Teller → Option Outcome) (v : View) (key : Key) : Type 0 where
-  pub facts : List Fact
-  pub noted : (fact : Fact) → Contains facts fact → (note : Note) × Contains v.walk.notes note × Spells (note_words note) (Some fact)
-  pub untold : IsUntold (told_by facts) key.number key.label
-  pub needed : IsNeeded outcome (told_by facts) key.number key.label
+  pub uses : List Use
+  pub used : HasUsed outcome v.walk.notes uses
+  pub untold : IsUntold (told_by (facts_of uses)) key.number key.label
+  pub needed : IsNeeded outcome (told_by (facts_of uses)) key.number key.label
 
 -- a key is asked for, and no row of its bucket tells of it
 pub record IsMissing (outcome : Teller → Option Outcome) (buckets : ℕ) (v : View) (key : Key) : Type 0 where

@@ -26,14 +26,14 @@ pub record GaveUp (outcome : Teller → Option Outcome) (buckets : ℕ) (before 
   pub loads : now.loads ≤ before.loads + MOST_LOADS
 
 -- exactly this record was made, at a pivot of a walk that was begun in this call
-pub record Recorded (call : Request) (answer : Answer) (at : ℕ) (before now : View) : Type 0 where
+pub record RecordedAlone (call : Request) (answer : Answer) (at : ℕ) (before now : View) : Type 0 where
   pub book : now.book ≡ noted_in before.book call answer at
   pub later : before.book.seen ≤ at
   pub first_load : now.first_load ≡ before.loads
   pub loads : now.loads ≤ before.loads + MOST_LOADS
 
 abbrev pub Keeps : (base : ℕ) (text : List ℕ) (how : Follow) (buckets : ℕ) (before now : View) → rust_fast.Fast → Type 0
-Keeps base text how buckets before now (fasts.Done stamped) = Recorded (Look base text how) (reply_shown stamped.reply) stamped.at before now
+Keeps base text how buckets before now (fasts.Done stamped) = RecordedAlone (Look base text how) (reply_shown stamped.reply) stamped.at before now
 Keeps base text how buckets before now (fasts.Again why) = GaveUp (outcome_by base text how) buckets before now why
 
 -- only a walk that asks something gives up

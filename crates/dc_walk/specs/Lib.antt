@@ -10,6 +10,7 @@ pub mod Sources
 pub mod Causes
 pub mod Findings
 pub mod Sights
+pub mod Seeks
 pub mod Becomings
 pub mod Settling
 pub mod Fasts

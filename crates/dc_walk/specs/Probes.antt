@@ -9,8 +9,10 @@ use Rattle.dc_names.specs.declared.limits.TheConstants.{ROW_WORDS}
 use Rattle.dc_row.specs.declared.layout.TheConstants.{TEXT_START}
 use Rattle.dc_row.specs.declared.short.TheConstants.{SHORT_TEXT, SHORT_WORDS}
 use Rattle.dc_events.specs.Views.{Note, Walk, View}
-use Rattle.dc_table.specs.Passes.{Pass, view}
+use Rattle.dc_table.specs.Passes.{Pass, view, IsWalkerAt}
+use Rattle.dc_table.specs.declared.shared.Shared.{Shared}
 use Rattle.dc_walk.specs.Rooms.{Kept}
+use Rattle.dc_walk.specs.declared.probe.Noted.{Noted}
 use Rattle.dc_walk.specs.declared.probe.Top.{Top}
 
 -- a note that no check has seen
@@ -65,6 +67,11 @@ pub record IsReadingTop (w : View) (row : ℕ) (top : Top) : Type 0 where
   pub before : View
   pub early : IsEarly before
   pub read : ReadsTop before w row top
+
+-- the pass of a table reads the row on
+pub record MayReadOn (t : Shared) (p : Pass) (noted : Noted) : Type 0 where
+  pub walker : IsWalkerAt t p noted.row
+  pub reading : IsReadingTop (view p) noted.row noted.top
 
 -- the words of a row by its top, its value and those behind
 abbrev pub row_of : Top → ℕ → List ℕ → List ℕ
@@ -123,9 +130,9 @@ abbrev pub ReadsRest : Pass → Pass → ℕ → List ℕ → ℕ → List ℕ �
 ReadsRest p q row words from first narrow = (v : View) → HasRead v (view p) row words from → ReadsFirst v (view q) row first narrow
 
 -- of a row whose top was read the rest was read, its value and whether its text has these words were seen
-abbrev pub ReadsBehind : Pass → Pass → ℕ → Top → List ℕ → ℕ → Bool → Type 0
-ReadsBehind p q row top text value is_its = (v : View) → ReadsTop v (view p) row top → ReadsShort v (view q) row top text value is_its
+abbrev pub ReadsBehind : Pass → Pass → Noted → List ℕ → ℕ → Bool → Type 0
+ReadsBehind p q noted text value is_its = (v : View) → ReadsTop v (view p) noted.row noted.top → ReadsShort v (view q) noted.row noted.top text value is_its
 
 -- a row whose top was read was read whole, and is kept as the last if it tells of the key
-abbrev pub TakesRow : Pass → Pass → ℕ → ℕ → Top → Key → Kept → Kept → Option ℕ → Type 0
-TakesRow p q row place top key r s kept = (v : View) → ReadsTop v (view p) row top → TakesIn v (view q) row place key r s kept
+abbrev pub TakesRow : Pass → Pass → Noted → Key → Kept → Kept → Option ℕ → Type 0
+TakesRow p q noted key r s kept = (v : View) → ReadsTop v (view p) noted.row noted.top → TakesIn v (view q) noted.row noted.place key r s kept

@@ -67,6 +67,11 @@ key_bytes Text = ROW_TEXT
 abbrev pub HasWords : Kept → ℕ → Type 0
 HasWords r n = 8 * r.spent + n ≤ 40 * length r.items + MOST_USED_BYTES
 
+-- it has a place for one row more, and words for one with this label
+pub record HasPlace (r : Kept) (label : Label) : Type 0 where
+  pub some : length r.items < MOST_USED
+  pub words : HasWords r (key_bytes label)
+
 -- rows of this many bytes at most were kept
 abbrev pub Keeps : Kept → Kept → ℕ → Type 0
 Keeps r s n = 8 * s.spent + 40 * length r.items ≤ 8 * r.spent + 40 * length s.items + n

@@ -37,7 +37,7 @@ module _ (f : Rows) (key : Key) (g : Rows) where
   -- a row of the lane does
   pub record AnswersIn (lane : Lane) (earlier at : ℕ) : Type 0 where
     pub place : ℕ
-    pub within : place < lane.many
+    pub within : place < lane.len
     pub answers : Answers (lane.first + place) earlier at
 
   -- of a row that was read whole it is known that it tells of another key, or of none

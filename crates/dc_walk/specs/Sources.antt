@@ -22,15 +22,19 @@ pub record Rests (locks : Bool) (v w : View) : Type 0 where
 abbrev pub IsUntried : Bool → Pass → Pass → Type 0
 IsUntried locks p q = locks ≡ false → HasNotTried (known p) (known q)
 
--- rows of a table of this many, which are those of the key's bucket if the source takes no lock
+-- rows of a table of this many, and no more than a bucket has
+pub record LiesIn (rows : ℕ) (lane : Lane) : Type 0 where
+  pub within : lane.first + lane.len ≤ rows
+  pub few : lane.len ≤ BUCKET_ROWS
+
+-- these are those of the key's bucket if the source takes no lock
 pub record Serves (locks : Bool) (rows : ℕ) (key : Key) (lane : Lane) : Type 0 where
-  pub within : lane.first + lane.many ≤ rows
-  pub few : lane.many ≤ BUCKET_ROWS
-  pub bucket : locks ≡ false → (lane.first ≡ first_row (rows / BUCKET_ROWS) key) × (lane.many ≡ BUCKET_ROWS)
+  pub lies : LiesIn rows lane
+  pub bucket : locks ≡ false → (lane.first ≡ first_row (rows / BUCKET_ROWS) key) × (lane.len ≡ BUCKET_ROWS)
 
 -- the only row of a lane got one pin; or there is no row, and no pin came or went
 abbrev pub PinsLane : RowState → RowState → Result Lane NoMemory → Type 0
-PinsLane s t (Ok lane) = ((lane.many ≡ 1) × PinsOnly lane.first s t) ⊎ ((lane.many ≡ 0) × SamePins s t)
+PinsLane s t (Ok lane) = ((lane.len ≡ 1) × PinsOnly lane.first s t) ⊎ ((lane.len ≡ 0) × SamePins s t)
 PinsLane s t (Err fault) = SamePins s t
 
 -- under one hold of the lock
@@ -44,5 +48,5 @@ PinsIts locks p q result = locks ≡ true → HasLane (known p) (known q) result
 
 -- the first row of a lane, if it has one
 abbrev pub IsHead : Lane → Option ℕ → Type 0
-IsHead lane (Some row) = (row ≡ lane.first) × (1 ≤ lane.many)
-IsHead lane None = lane.many ≡ 0
+IsHead lane (Some row) = (row ≡ lane.first) × (1 ≤ lane.len)
+IsHead lane None = lane.len ≡ 0

@@ -1,9 +1,10 @@
 -- The notes that a walk uses.
-use Rattle.std.specs.Prelude.{◌≡◌, ℕ, zero, suc, ◌<◌, ◌⊎◌, List, [], ◌∷◌, Bool, true, false, Some, None, length, map, take, get_or, Option}
+use Rattle.std.specs.Prelude.{◌≡◌, ℕ, zero, suc, ◌<◌, ◌⊎◌, List, [], ◌∷◌, Bool, true, false, Some, length, map, take, get_or, Option}
 use Rattle.dc_plain.specs.Facts.{Fact, key_of, told_by, Teller}
 use Rattle.dc_plain.specs.Facts.Fact.{Reads}
 use Rattle.dc_row.specs.Spelling.{Spells}
-use Rattle.dc_resolve.specs.Needs.{IsUntold}
+use Rattle.dc_plain.specs.Resolution.{Outcome}
+use Rattle.dc_resolve.specs.Needs.{IsNeeded, IsUntold}
 use Rattle.dc_events.specs.Views.{Note}
 use Rattle.dc_events.specs.Rows.{note_words}
 
@@ -46,6 +47,16 @@ IsNew teller fact = IsUntold teller (key_of fact).number (key_of fact).label
 abbrev pub DiffersEach : List Fact → Type 0
 DiffersEach facts = (i : ℕ) → i < length facts → IsNew (told_by (take i facts)) (get_or facts i (Reads 0 []))
 
--- what follows needs each of these facts, told in this order
+-- once these facts are told, what follows needs the key of one more
+abbrev pub NeedsNext : {A : Type 0} → (Teller → Option A) → List Fact → Fact → Type 0
+NeedsNext outcome facts fact = IsNeeded outcome (told_by facts) (key_of fact).number (key_of fact).label
+
+-- so it is of each of these facts, told in this order
 abbrev pub NeedsEach : {A : Type 0} → (Teller → Option A) → List Fact → Type 0
-NeedsEach outcome facts = (i : ℕ) → i < length facts → outcome (told_by (take i facts)) ≡ None
+NeedsEach outcome facts = (i : ℕ) → i < length facts → NeedsNext outcome (take i facts) (get_or facts i (Reads 0 []))
+
+-- these of the notes answered questions, one each: what follows needed each of them, and no two were of one key
+pub record HasUsed (outcome : Teller → Option Outcome) (notes : List Note) (uses : List Use) : Type 0 where
+  pub marked : Marked 0 0 notes uses
+  pub needed : NeedsEach outcome (facts_of uses)
+  pub distinct : DiffersEach (facts_of uses)

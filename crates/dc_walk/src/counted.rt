@@ -30,7 +30,7 @@ fn unpin<R: Wait>(shared: &Shared, rt: &R, pass: &mut Pass, used: &Room, spare: 
         (known pass.new) }
 {
     let mut rows: ArrayVec<u64, MOST_PINNED> = ArrayVec::new();
-    for at in 0..used.many() {
+    for at in 0..used.len() {
         rows.push(used.row_at(at));
     }
     if let Some(row) = spare {

@@ -21,6 +21,7 @@ mod question;
 mod row;
 mod rows;
 mod settle;
+mod sought;
 mod source;
 mod unlocked;
 mod used;

@@ -40,8 +40,8 @@ impl<'a, R: Wait> Source for Pinning<'a, R> {
             pass,
             &HashedKey { key, hash },
         )? {
-            Some(first) => Ok(Lane { first, many: 1 }),
-            None => Ok(Lane { first: 0, many: 0 }),
+            Some(first) => Ok(Lane { first, len: 1 }),
+            None => Ok(Lane { first: 0, len: 0 }),
         }
     }
 }

@@ -95,7 +95,7 @@ pub fn are_as_noted(guard: &mut Guard<'_>, room: &Room) -> bool
     ensures told { result ≡ true → AreTrue (kept_by guard.old).store room.now }
 {
     words_have_the_fact_they_spell();
-    for c in 0..room.many() {
+    for c in 0..room.len() {
         if !guard.is_as_noted(room.place_at(c), room.row_at(c), room.count_at(c)) {
             return false;
         }

@@ -3,13 +3,14 @@
 ghost use Rattle.std.specs.Prelude.{◌≡◌, ◌<◌, ◌≤◌, take, IfSome, IfNone};
 ghost use Rattle.dc_events.specs.Effects.{begins, faulted};
 ghost use Rattle.dc_events.specs.Views.Fault.{Busy};
-ghost use Rattle.dc_plain.specs.Requests.{request_of};
 ghost use Rattle.dc_names.specs.declared.limits.TheConstants.{ROW_WORDS};
 ghost use Rattle.dc_table.specs.Holders.{table_of};
 ghost use Rattle.dc_table.specs.Passes.{view, share, Fits, IsIdle, StaysOut};
-ghost use Rattle.dc_walk.specs.Probes.{IsEarly, IsReading, IsReadingTop, ReadsBehind, ReadsMore, ReadsRest, ReadsTop};
+ghost use Rattle.dc_walk.specs.Looks.{look_shown};
+ghost use Rattle.dc_walk.specs.Probes.{IsEarly, IsReading, MayReadOn, ReadsBehind, ReadsMore, ReadsRest, ReadsTop};
 
-use dc_plain::{Call, Key, Label};
+use crate::look::Look;
+use dc_plain::{Key, Label};
 use dc_row::{LENGTH_UNIT, LENGTHS, ROW_WORDS, SHORT_WORDS, TAGS, TEXT_START};
 use dc_table::{Pass, Reader};
 
@@ -39,6 +40,14 @@ pub(crate) struct Top {
     pub number: u64,
 }
 
+/// A row whose top was read, with the place of its note among those of the walk.
+#[derive(Clone, Copy)]
+pub(crate) struct Noted {
+    pub row: u64,
+    pub place: u64,
+    pub top: Top,
+}
+
 /// Whether a row may tell of a key, by its head and its number alone. Nothing rests on it but time:
 /// before a walk gives up for a key it reads the rows whole.
 #[inline(always)]
@@ -58,22 +67,22 @@ pub(crate) fn may_tell(top: Top, key: Key<'_>) -> bool {
 pub(crate) fn read_top(
     reader: Reader<'_>,
     pass: &mut Pass,
-    call: &Call<'_>,
+    look: Look<'_>,
     row: u64,
     first: bool,
 ) -> Option<Top>
     requires pass { Fits (table_of reader) pass.old × IsIdle pass.old }
     requires row { row < (share pass.old).rows }
-    requires early { IsEarly (begins first (view pass.old) (request_of call.now)) }
+    requires early { IsEarly (begins first (view pass.old) (look_shown look)) }
     ensures same { StaysOut pass.old pass.new }
-    ensures read { IfSome result (ReadsTop (begins first (view pass.old) (request_of call.now))
+    ensures read { IfSome result (ReadsTop (begins first (view pass.old) (look_shown look.entry))
         (view pass.new) row) }
     ensures odd { IfNone result (view pass.new
-        ≡ faulted (begins first (view pass.old) (request_of call.now)) (Busy row)) }
+        ≡ faulted (begins first (view pass.old) (look_shown look.entry)) (Busy row)) }
 {
     // The count before the words: words that are written meanwhile have a higher count, which the check
     // after the pivot finds. Read after them, a count could be that of a later fact.
-    let Ok(count) = reader.note(pass, call, row, first) else {
+    let Ok(count) = reader.note(pass, &look.call(), row, first) else {
         return None;
     };
     let head = reader.read_word(pass, row, 1);
@@ -92,16 +101,14 @@ pub(crate) fn read_top(
 pub(crate) fn read_short(
     reader: Reader<'_>,
     pass: &mut Pass,
-    row: u64,
-    top: Top,
+    noted: Noted,
     text: &[u64; SHORT_WORDS],
 ) -> (u64, bool)
-    requires pass { Fits (table_of reader) pass.old × IsIdle pass.old }
-    requires row { row < (share pass.old).rows }
-    requires reading { IsReadingTop (view pass.old) row top }
+    requires on { MayReadOn (table_of reader) pass.old noted }
     ensures same { StaysOut pass.old pass.new }
-    ensures read { ReadsBehind pass.old pass.new row top text.now result.0 result.1 }
+    ensures read { ReadsBehind pass.old pass.new noted text.now result.0 result.1 }
 {
+    let row = noted.row;
     let value = reader.read_word(pass, row, 3);
     // The bits in which any word differs: compared one by one, the words would be kept until the last is read.
     let mut differ = 0;

@@ -52,7 +52,7 @@ pub(crate) fn text_key<'a>(number: u64) -> Key<'a>
 /// Why a walk ends if the rows that were looked at don't tell of a key. The first odd one of them is `odd`,
 /// and `answered` questions were answered before.
 fn why_of(odd: Option<u64>, key: Key<'_>, answered: u64) -> Why
-    ensures { TellsWhy odd (key_shown key.entry) result }
+    ensures { TellsWhy odd (key_shown key.entry) answered result }
 {
     match (odd, key.label) {
         (Some(row), _) => Why::Busy(row),
@@ -108,10 +108,7 @@ fn ask<S: Source>(source: &S, rows: &mut Rows<'_>, key: Key<'_>, hash: u64) -> R
             spare: None,
         });
     };
-    let answered = rows.used.many() as u64;
-    // For the proof: a table has fewer than 2^64 rows.
-    let reader = rows.reader;
-    let _rows = reader.rows();
+    let answered = rows.used.len() as u64;
     match seek_row(rows, lane, key, hash) {
         // As many rows are used as can be, after two looks for one of them: to check them all would take
         // a walk past its loads.

@@ -37,7 +37,7 @@ pub(crate) fn settle(
     words_have_the_fact_they_spell();
     // After all reads and before all checks: a row whose count still stands was as read at this point.
     let at = reader.pivot(pass, &look.call(), !begun);
-    for c in 0..used.many() {
+    for c in 0..used.len() {
         let (place, row, count) = (used.place_at(c), used.row_at(c), used.count_at(c));
         if let Err((noted, found)) = reader.check(pass, place, row, count) {
             return Fast::Again(Why::Changed { row, noted, found });

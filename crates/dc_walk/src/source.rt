@@ -18,7 +18,7 @@ use dc_table::{Pass, Reader};
 #[derive(Clone, Copy)]
 pub(crate) struct Lane {
     pub first: u64,
-    pub many: u64,
+    pub len: u64,
 }
 
 impl Lane {
@@ -27,7 +27,7 @@ impl Lane {
     pub(crate) fn head(self) -> Option<u64>
         ensures { IsHead self result }
     {
-        if self.many > 0 {
+        if self.len > 0 {
             Some(self.first)
         } else {
             None
@@ -82,7 +82,7 @@ impl Source for Bucket {
         let buckets = reader.rows() / BUCKET_ROWS;
         Ok(Lane {
             first: BUCKET_ROWS * bucket_at(hash, buckets),
-            many: BUCKET_ROWS,
+            len: BUCKET_ROWS,
         })
     }
 }

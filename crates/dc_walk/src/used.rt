@@ -88,7 +88,7 @@ impl Room {
 
     /// How many rows are kept.
     #[inline(always)]
-    pub(crate) fn many(&self) -> usize
+    pub(crate) fn len(&self) -> usize
         ensures many { result ≡ length self.now.items }
         ensures fits { result ≤ MOST_USED }
     {
@@ -111,7 +111,7 @@ impl Room {
         ensures { result ≡ (used_at self.now.items at).row }
     {
         // For the proof, here and in the accessors below: that there are so few places.
-        let _many = self.many();
+        let _len = self.len();
         self.rows[at].row
     }
 
@@ -121,7 +121,7 @@ impl Room {
         requires kept { at < length self.now.items }
         ensures { result ≡ (used_at self.now.items at).place }
     {
-        let _many = self.many();
+        let _len = self.len();
         self.rows[at].place
     }
 
@@ -142,7 +142,7 @@ impl Room {
         requires kept { at < length self.now.items }
         ensures { result ≡ slice_index (used_at self.now.items at).words 0 }
     {
-        let _many = self.many();
+        let _len = self.len();
         self.words[self.rows[at].start]
     }
 
@@ -152,7 +152,7 @@ impl Room {
         requires kept { at < length self.now.items }
         ensures { TellsTarget (used_at self.now.items at).words result }
     {
-        let _many = self.many();
+        let _len = self.len();
         let start = self.rows[at].start;
         leads_to(self.words[start + 1], self.words[start + 3])
     }
@@ -174,7 +174,7 @@ impl Room {
             (told_of t).entry (key_shown key.entry).number (key_shown key.entry).label ≡ Some target) }
     {
         words_have_the_fact_they_spell();
-        if at < self.many() && self.tells_at(at, key) {
+        if at < self.len() && self.tells_at(at, key) {
             Some(self.target_at(at))
         } else {
             None
@@ -271,7 +271,7 @@ pub(crate) fn standing(room: &Room, key: Key<'_>) -> Option<usize>
         IsUntold (told_in room.now.items) key.number key.label) }
 {
     words_have_the_fact_they_spell();
-    for i in 0..room.many() {
+    for i in 0..room.len() {
         if number(room.words_at(i)) == key.number && room.tells_at(i, key) {
             return Some(i);
         }

@@ -6,8 +6,7 @@ use std::fmt;
 /// Why a walk ends without an answer.
 #[derive(Clone, Copy, Debug, PartialEq, Eq)]
 pub enum Why {
-    /// No row tells of an entry that is asked for, after this many questions were answered. That it is this
-    /// many stands only by reading.
+    /// No row tells of an entry that is asked for, after this many questions were answered.
     Miss(u64),
     /// The row was being changed as this walk came to it. That it is one of the bucket of a key that was
     /// asked for, and that no other row of the bucket told of the key, stands only by reading.

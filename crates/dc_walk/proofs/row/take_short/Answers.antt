@@ -12,7 +12,7 @@ use Rattle.dc_walk.proofs.row.take_short.Goals.{then-not-is_its-via-then-not-is_
 
 pub returns-then-not-is_its-clause-takes : goal.returns-then-not-is_its-clause-takes
 returns-then-not-is_its-clause-takes c v t =
-    let key = key_shown c.args.key in let top = c.args.top in let text = c.args.words.now in let value = c.read_short-value.result.0 in
+    let key = key_shown c.args.key in let top = c.args.noted.top in let text = c.args.words.now in let value = c.read_short-value.result.0 in
     let bytes = c.bytes-text.ensures in let entry = short_entry key.label c.requires.short in
     let first = c.requires.spelled.first c.requires.short in let past = c.requires.spelled.past c.requires.short in
     let s = c.read_short-value.ensures.read v t in let words = row_of top value s.rest in (
@@ -28,7 +28,7 @@ returns-then-not-is_its-clause-takes c v t =
 
 pub returns-clause-takes : goal.returns-clause-takes
 returns-clause-takes c v t =
-    let key = key_shown c.args.key in let top = c.args.top in let text = c.args.words.now in let value = c.read_short-value.result.0 in
+    let key = key_shown c.args.key in let top = c.args.noted.top in let text = c.args.words.now in let value = c.read_short-value.result.0 in
     let bytes = c.bytes-text.ensures in let entry = short_entry key.label c.requires.short in
     let first = c.requires.spelled.first c.requires.short in let past = c.requires.spelled.past c.requires.short in
     let s = c.read_short-value.ensures.read v t in let words = row_of top value s.rest in
@@ -46,7 +46,7 @@ returns-clause-takes c v t =
       words,
       record { size = row_size top value s.rest s.size; read = s.read },
       tells,
-      c.keep.ensures.kept ∙ ap₂ (λ (us : List Used) (ws : List ℕ). us ++ record { row = c.args.row; place = c.args.place; words = ws } ∷ []) c.put.ensures.same.0 whole,
+      c.keep.ensures.kept ∙ ap₂ (λ (us : List Used) (ws : List ℕ). us ++ record { row = c.args.noted.row; place = c.args.noted.place; words = ws } ∷ []) c.put.ensures.same.0 whole,
       c.keep.ensures.spent ∙ ap₂ (λ (a b : ℕ). a + b) c.put.ensures.same.1 told,
       c.keep.ensures.last ∙ ap (λ (us : List Used). length us) c.put.ensures.same.0,
     )
