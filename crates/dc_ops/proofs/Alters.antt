@@ -92,8 +92,8 @@ module _ (total : IsTotalOrder spot_cmp) where
 
   effect_differs : (plan : rust_plan.Plan) (t : Tree) → CanCarry plan t → (effect plan t).1 ≢ t
   effect_differs (plans.Add d name new number) t can = added_differs t d name.bytes.now new can.1
-  effect_differs (plans.Drop d name number lost at) t can = dropped_differs t d name.bytes.now number can.0
-  effect_differs (plans.Move from to number reparents lost at) t can = moved_differs t (spot_shown from) (spot_shown to) number can.1.other
+  effect_differs (plans.Drop d name number lost) t can = dropped_differs t d name.bytes.now number can.0
+  effect_differs (plans.Move from to number reparents lost) t can = moved_differs t (spot_shown from) (spot_shown to) number can.1.other
   effect_differs (plans.Swap from to first second) t can = swapped_differs t (spot_shown from) first.number (spot_shown to) second.number can
 
   -- a change that comes to a plan

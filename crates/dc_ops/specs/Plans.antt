@@ -23,8 +23,8 @@ use Rattle.dc_ops.specs.declared.plans.Plan.TheVariants as plans
 -- the reply of a plan and the tree that it leaves
 abbrev pub effect : rust_plan.Plan → Tree → Answer × Tree
 effect (plans.Add dir name new number) t = (Done number, tree_added t dir name.bytes.now new)
-effect (plans.Drop dir name number lost at) t = (Nothing, without_entry t dir name.bytes.now number)
-effect (plans.Move from to number reparents lost at) t = (Nothing, tree_moved t (spot_shown from) (spot_shown to) number)
+effect (plans.Drop dir name number lost) t = (Nothing, without_entry t dir name.bytes.now number)
+effect (plans.Move from to number reparents lost) t = (Nothing, tree_moved t (spot_shown from) (spot_shown to) number)
 effect (plans.Swap from to first second) t = (Nothing, tree_swapped t (spot_shown from) first.number (spot_shown to) second.number)
 
 -- an entry may be added: its directory lives, it isn't there, and it leads to the number told
@@ -42,22 +42,22 @@ CanMoveAt t from to number = (entry_number t from ≡ Some number) × CanStandAt
 -- the plan can be carried out on the tree
 abbrev pub CanCarry : rust_plan.Plan → Tree → Type 0
 CanCarry (plans.Add dir name new number) t = CanAddAt t (spot_at dir name.bytes.now) new number
-CanCarry (plans.Drop dir name number lost at) t = CanDropAt t (spot_at dir name.bytes.now) number
-CanCarry (plans.Move from to number reparents lost at) t = CanMoveAt t (spot_shown from) (spot_shown to) number
+CanCarry (plans.Drop dir name number lost) t = CanDropAt t (spot_at dir name.bytes.now) number
+CanCarry (plans.Move from to number reparents lost) t = CanMoveAt t (spot_shown from) (spot_shown to) number
 CanCarry (plans.Swap from to first second) t = CanSwap t (spot_shown from) first.number (spot_shown to) second.number
 
 -- what a plan says that goes with a last name is what goes
 abbrev pub Loses : rust_plan.Plan → Tree → Type 0
 Loses (plans.Add dir name new number) t = Unit {0}
-Loses (plans.Drop dir name number lost at) t = keys_in lost ≡ keys_gone t number
-Loses (plans.Move from to number reparents lost at) t = keys_in lost ≡ with_number (entry_number t (spot_shown to)) (keys_gone t)
+Loses (plans.Drop dir name number lost) t = keys_in lost ≡ keys_gone t number
+Loses (plans.Move from to number reparents lost) t = keys_in lost ≡ with_number (entry_number t (spot_shown to)) (keys_gone t)
 Loses (plans.Swap from to first second) t = Unit {0}
 
 -- an entry that goes takes no memory, and two that swap take none
 abbrev pub PlanTakesNoMemory : rust_plan.Plan → Type 0
 PlanTakesNoMemory (plans.Add dir name new number) = ⊥
-PlanTakesNoMemory (plans.Drop dir name number lost at) = Unit {0}
-PlanTakesNoMemory (plans.Move from to number reparents lost at) = ⊥
+PlanTakesNoMemory (plans.Drop dir name number lost) = Unit {0}
+PlanTakesNoMemory (plans.Move from to number reparents lost) = ⊥
 PlanTakesNoMemory (plans.Swap from to first second) = Unit {0}
 
 -- a call by which an entry goes and none comes, or two swap, takes no memory

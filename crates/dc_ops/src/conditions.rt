@@ -14,11 +14,11 @@ ghost use Rattle.dc_plain.specs.Trees.{entry_of, target_at, names_of};
 ghost use Rattle.dc_ops.specs.Found.{number_at};
 
 use crate::Known;
-use crate::finder::{entry, entry_at};
+use crate::finder::entry;
 use crate::paths::{path_of, place_path};
 use dc_names::{Last, Name, Refusal};
 use dc_plain::{NUMBER_LIMIT, Target, Where};
-use dc_store::{Place, Store};
+use dc_store::Store;
 
 /// This refusal if a test holds.
 pub(crate) fn refuse(test: bool, refusal: Refusal) -> Result<(), Refusal>
@@ -64,22 +64,17 @@ pub(crate) fn name_or_each(
     last.name_or_each(root, dot, dot_dot)
 }
 
-/// Where a name in a directory leads and where the store keeps the entry, or else ENOENT.
-pub(crate) fn present<S: Store>(
-    store: &S,
-    dir: u64,
-    name: Name<'_>,
-) -> Result<(Target, Place), Refusal>
-    ensures found { Gives result (λ found. found.0)
+/// Where a name in a directory leads, or else ENOENT.
+pub(crate) fn present<S: Store>(store: &S, dir: u64, name: Name<'_>) -> Result<Target, Refusal>
+    ensures found { Gives result (λ target. target)
         (present NotFound (entry_of (S.tree store.now) dir (Entry name.entry.bytes.now))) }
-    ensures target { IfOk result (λ found.
-        number_at (S.tree store.now) dir name.entry ≡ Some found.0.0) }
-    ensures lives { IfOk result (λ found.
-        target_at (S.tree store.now) found.0.0 ≡ Some found.0) }
-    ensures named { IfOk result (λ found. 1 ≤ names_of (S.tree store.now) found.0.0) }
+    ensures target { IfOk result (λ target.
+        number_at (S.tree store.now) dir name.entry ≡ Some target.0) }
+    ensures lives { IfOk result (λ target. target_at (S.tree store.now) target.0 ≡ Some target) }
+    ensures named { IfOk result (λ target. 1 ≤ names_of (S.tree store.now) target.0) }
     ensures well { IsWellFormed (S.tree store.now) }
 {
-    entry_at(store, dir, name).ok_or(Refusal::NotFound)
+    entry(store, dir, name).ok_or(Refusal::NotFound)
 }
 
 /// Whether no further inode may be made.

@@ -25,18 +25,17 @@ pub fn carry<S: Store>(alloc: Global, store: &mut S, plan: Plan<'_>) -> Result<R
             let number = store.add(alloc, dir, name, new)?;
             Ok(Reply::Done(number))
         }
-        Plan::Drop { dir, name, at, .. } => {
-            store.drop_entry(dir, name, at);
+        Plan::Drop { dir, name, .. } => {
+            store.drop_entry(dir, name);
             Ok(Reply::Unit)
         }
         Plan::Move {
             from,
             to,
             number,
-            at,
             ..
         } => {
-            store.move_entry(alloc, from, at, to, number)?;
+            store.move_entry(alloc, from, to, number)?;
             Ok(Reply::Unit)
         }
         Plan::Swap {
@@ -45,8 +44,7 @@ pub fn carry<S: Store>(alloc: Global, store: &mut S, plan: Plan<'_>) -> Result<R
             first,
             second,
         } => {
-            let places = (first.at, second.at);
-            store.swap_entries(from, first.number, to, second.number, places);
+            store.swap_entries(from, first.number, to, second.number);
             Ok(Reply::Unit)
         }
     }

@@ -13,29 +13,12 @@ ghost use Rattle.dc_ops.specs.Same.{one_after, same_tells};
 use dc_names::{Kind, Name, Part};
 use dc_plain::{Target, names_lead_to_the_living};
 use dc_resolve::Finder;
-use dc_store::{Place, Store};
+use dc_store::Store;
 use std::convert::Infallible;
 
 /// Answers the questions of a walk from a store.
 pub struct StoreFinder<'a, S: Store> {
     pub store: &'a S,
-}
-
-/// Where a name in a directory leads, and where the store keeps the entry.
-pub(crate) fn entry_at<S: Store>(store: &S, dir: u64, name: Name<'_>) -> Option<(Target, Place)>
-    ensures found { option_map (λ found. found.0) result
-        ≡ entry_of (S.tree store.now) dir (Entry name.entry.bytes.now) }
-    ensures target { option_map (λ found. found.0.0) result
-        ≡ number_at (S.tree store.now) dir name.entry }
-    ensures lives { IfSome result (λ found.
-        target_at (S.tree store.now) found.0.0 ≡ Some found.0) }
-    ensures named { IfSome result (λ found. 1 ≤ names_of (S.tree store.now) found.0.0) }
-    ensures well { IsWellFormed (S.tree store.now) }
-{
-    names_lead_to_the_living();
-    let (number, place) = store.seek(dir, name)?;
-    let kind = store.kind(number)?;
-    Some(((number, kind), place))
 }
 
 /// Where a name in a directory leads.
@@ -47,8 +30,10 @@ pub(crate) fn entry<S: Store>(store: &S, dir: u64, name: Name<'_>) -> Option<Tar
     ensures named { IfSome result (λ target. 1 ≤ names_of (S.tree store.now) target.0) }
     ensures well { IsWellFormed (S.tree store.now) }
 {
-    let (target, _) = entry_at(store, dir, name)?;
-    Some(target)
+    names_lead_to_the_living();
+    let number = store.find(dir, name)?;
+    let kind = store.kind(number)?;
+    Some((number, kind))
 }
 
 /// Where a name in a directory leads, for a caller that has the hash of the directory's number and the

@@ -101,7 +101,7 @@ fn link_at<'a, S: Store>(
         → IsTrue (is_live_directory (S.tree store.now) to.dir) }
     ensures { SettlesLink (S.tree store.now) from.entry old.entry to.entry new.entry result }
 {
-    let (inode, _) = present(store, from.dir, old)?;
+    let inode = present(store, from.dir, old)?;
     refuse(is_directory(inode), Refusal::NotPermitted)?;
     refuse(from.slash, Refusal::NotDirectory)?;
     refuse(is_there(store, to.dir, new), Refusal::Exists)?;

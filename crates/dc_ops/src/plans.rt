@@ -2,15 +2,13 @@
 
 use dc_names::Name;
 use dc_plain::{Key, Spot};
-use dc_store::{New, Place};
+use dc_store::New;
 
 /// An inode that gets another name.
 #[derive(Clone, Copy)]
 pub struct Moved {
     /// Its number.
     pub number: u64,
-    /// Where its entry was found.
-    pub at: Place,
     /// Whether it is a directory whose parent becomes another.
     pub reparents: bool,
 }
@@ -39,8 +37,6 @@ pub enum Plan<'a> {
         number: u64,
         /// The key of that inode's own which goes with its last name.
         lost: Option<Key<'a>>,
-        /// Where the entry was found.
-        at: Place,
     },
     /// An entry moves to another name, in the place of what stands there.
     Move {
@@ -54,8 +50,6 @@ pub enum Plan<'a> {
         reparents: bool,
         /// The key of its own that what stood at the new name has, if that was its last name.
         lost: Option<Key<'a>>,
-        /// Where the entry was found.
-        at: Place,
     },
     /// Two entries swap what they lead to.
     Swap {

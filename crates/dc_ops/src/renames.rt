@@ -23,7 +23,7 @@ use dc_plain::{
     Flags, Key, Spot, Target, Where, directories_have_one_holder, is_directory,
     names_lead_to_the_living, paths_lead_to_the_living,
 };
-use dc_store::{Place, Store};
+use dc_store::Store;
 
 /// The plan of a rename, or none if both names lead to one inode.
 pub(crate) fn plan_rename<'a, S: Store>(
@@ -67,12 +67,12 @@ fn plan_named<'a, S: Store>(
         from.entry old.entry to.entry new.entry flags result }
     ensures without_memory { IsTrue flags.exchange → FoundTakesNoMemory result }
 {
-    let found = present(store, from.dir, old)?;
+    let moved = present(store, from.dir, old)?;
     if flags.exchange {
-        return plan_swap(store, from, old, to, new, found);
+        return plan_swap(store, from, old, to, new, moved);
     }
     let ends = from.slash || to.slash;
-    refuse(!is_directory(found.0) && ends, Refusal::NotDirectory)?;
+    refuse(!is_directory(moved) && ends, Refusal::NotDirectory)?;
     let from = Spot {
         dir: from.dir,
         name: old,
@@ -81,7 +81,7 @@ fn plan_named<'a, S: Store>(
         dir: to.dir,
         name: new,
     };
-    plan_move(store, from, to, found, flags.no_replace)
+    plan_move(store, from, to, moved, flags.no_replace)
 }
 
 /// The plan of a move of what stands at the old name.
@@ -89,15 +89,14 @@ fn plan_move<'a, S: Store>(
     store: &S,
     from: Spot<'a>,
     to: Spot<'a>,
-    found: (Target, Place),
+    moved: Target,
     no_replace: bool,
 ) -> Result<Option<Plan<'a>>, Refusal>
-    requires source { entry_number (S.tree store.now) (spot_shown from) ≡ Some found.0.0 }
-    requires lives { target_at (S.tree store.now) found.0.0 ≡ Some found.0 }
+    requires source { entry_number (S.tree store.now) (spot_shown from) ≡ Some moved.0 }
+    requires lives { target_at (S.tree store.now) moved.0 ≡ Some moved }
     requires held { IsTrue (is_live_directory (S.tree store.now) to.dir) }
-    ensures { SettlesMove (S.tree store.now) from.entry to.entry found.0 no_replace result }
+    ensures { SettlesMove (S.tree store.now) from.entry to.entry moved no_replace result }
 {
-    let (moved, place) = found;
     let there = entry(store, to.dir, to.name);
     refuse(no_replace && there.is_some(), Refusal::Exists)?;
     if is_one(moved, there) {
@@ -111,7 +110,6 @@ fn plan_move<'a, S: Store>(
         number: moved.0,
         reparents: reparents(moved, from.dir, to.dir),
         lost: lost_there(store, there),
-        at: place,
     }))
 }
 
@@ -122,19 +120,18 @@ fn plan_swap<'a, S: Store>(
     old: Name<'a>,
     to: Where<'a>,
     new: Name<'a>,
-    found: (Target, Place),
+    moved: Target,
 ) -> Result<Option<Plan<'a>>, Refusal>
     requires source { entry_number (S.tree store.now) (spot_at from.dir old.bytes.now)
-        ≡ Some found.0.0 }
-    requires lives { target_at (S.tree store.now) found.0.0 ≡ Some found.0 }
+        ≡ Some moved.0 }
+    requires lives { target_at (S.tree store.now) moved.0 ≡ Some moved }
     requires old_held { IsTrue (is_live_directory (S.tree store.now) from.dir) }
     requires new_held { IsTrue (is_live_directory (S.tree store.now) to.dir) }
     ensures settled { SettlesSwap (S.tree store.now)
-        from.entry old.entry to.entry new.entry found.0 result }
+        from.entry old.entry to.entry new.entry moved result }
     ensures without_memory { FoundTakesNoMemory result }
 {
-    let (moved, place) = found;
-    let (there, there_place) = present(store, to.dir, new)?;
+    let there = present(store, to.dir, new)?;
     refuse(!is_directory(moved) && from.slash, Refusal::NotDirectory)?;
     refuse(!is_directory(there) && to.slash, Refusal::NotDirectory)?;
     if moved.0 == there.0 {
@@ -153,12 +150,10 @@ fn plan_swap<'a, S: Store>(
         },
         first: Moved {
             number: moved.0,
-            at: place,
             reparents: reparents(moved, from.dir, to.dir),
         },
         second: Moved {
             number: there.0,
-            at: there_place,
             reparents: reparents(there, to.dir, from.dir),
         },
     }))

@@ -31,7 +31,7 @@ pub(crate) fn plan_unlink<'a, S: Store>(
 {
     let at = place_text(store, known, base, path)?;
     let name = name_or(Refusal::NotPermitted, at.last)?;
-    let (inode, place) = present(store, at.dir, name)?;
+    let inode = present(store, at.dir, name)?;
     refuse(is_directory(inode), Refusal::NotPermitted)?;
     refuse(at.slash, Refusal::NotDirectory)?;
     Ok(Plan::Drop {
@@ -39,7 +39,6 @@ pub(crate) fn plan_unlink<'a, S: Store>(
         name,
         number: inode.0,
         lost: lost_key(store, inode),
-        at: place,
     })
 }
 
@@ -56,7 +55,7 @@ pub(crate) fn plan_rmdir<'a, S: Store>(
 {
     let at = place_text(store, known, base, path)?;
     let name = name_or_each(Refusal::Busy, Refusal::Invalid, Refusal::NotEmpty, at.last)?;
-    let (inode, place) = present(store, at.dir, name)?;
+    let inode = present(store, at.dir, name)?;
     refuse(!is_directory(inode), Refusal::NotDirectory)?;
     refuse(!is_empty(store, inode), Refusal::NotEmpty)?;
     Ok(Plan::Drop {
@@ -64,7 +63,6 @@ pub(crate) fn plan_rmdir<'a, S: Store>(
         name,
         number: inode.0,
         lost: lost_key(store, inode),
-        at: place,
     })
 }
 

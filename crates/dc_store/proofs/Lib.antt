@@ -16,7 +16,6 @@ pub mod Moves
 pub mod Slots
 pub mod SlotSteps
 pub mod Named
-pub mod Indexed
 pub mod Hashed
 pub mod Ordered
 pub mod Changes

@@ -71,10 +71,12 @@ found_bare q (e ∷ es) = elim (eq_by_cmp name_cmp q e.0) as (λ b. cond b (Some
 
 any_found : (q : List ℕ) (es : List (List ℕ × ℕ)) → list_any (pointwise nat_eq q) (keys_of es) ≡ is_some (found_by q es)
 any_found q [] = refl
-any_found q (e ∷ es) = elim (pointwise nat_eq q e.0) as (λ b. (b || list_any (pointwise nat_eq q) (keys_of es)) ≡ is_some (cond b (Some e.1) (found_by q es))) [
-  | true ↦ refl
-  | false ↦ any_found q es
-]
+any_found q (e ∷ es) =
+    ap (λ b. b || list_any (pointwise nat_eq q) (keys_of es)) (texts_ties q e.0)
+    ∙ elim (eq_by_cmp name_cmp q e.0) as (λ b. (b || list_any (pointwise nat_eq q) (keys_of es)) ≡ is_some (cond b (Some e.1) (found_by q es))) [
+      | true ↦ refl
+      | false ↦ any_found q es
+    ]
 
 -- ---- names that differ and don't fall rise
 rises : (a b : List ℕ) (o : Ordering) → name_cmp a b ≡ o → is_lt (name_cmp b a) ≡ false → pointwise nat_eq a b ≡ false → o ≡ Less

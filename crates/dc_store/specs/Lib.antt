@@ -6,7 +6,6 @@ pub mod Dropped
 pub mod Maps
 pub mod Moved
 pub mod Names
-pub mod Hashers
 pub mod Inodes
 pub mod Slots
 pub mod Lending

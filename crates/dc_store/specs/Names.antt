@@ -1,6 +1,7 @@
 -- The names in a directory, in the order of their bytes.
-use Rattle.std.specs.Prelude.{◌≡◌, ℕ, List, [], ◌∷◌, map, Option, Some, not, nat_eq, slice_get, IsSome, IsSomeAnd}
-use Rattle.std.specs.Cmp.Lexicographic.{pointwise, slice_cmp}
+use Rattle.std.specs.Prelude.{◌≡◌, ℕ, List, [], ◌∷◌, map, Option, not, IsSome}
+use Rattle.std.specs.BTreeMap.{is_at}
+use Rattle.std.specs.Cmp.Lexicographic.{slice_cmp}
 use Rattle.std.specs.FinMap.Entries.{put, where_key}
 use Rattle.std.specs.Map.{lookup}
 use Rattle.std.specs.Ordering.{nat_cmp, eq_by_cmp}
@@ -21,17 +22,13 @@ without_name name = where_key name_cmp (λ other. not (eq_by_cmp name_cmp name o
 
 -- what the map finds under some bytes
 abbrev pub found_by : List ℕ → List (List ℕ × ℕ) → Option ℕ
-found_by name es = lookup (λ (k : List ℕ). pointwise nat_eq name k) es
+found_by name es = lookup (is_at (name_cmp name)) es
 
 -- a name of a directory with its hash in front, as a map keeps it
 abbrev pub hashed : ℕ → List ℕ → List ℕ
 hashed d name = hash_of d name ∷ name
 
--- the hash in front, and the name behind it
-abbrev pub hash_in : List ℕ → ℕ
-hash_in [] = 0
-hash_in (h ∷ name) = h
-
+-- the name behind the hash
 abbrev pub unhashed : List ℕ → List ℕ
 unhashed [] = []
 unhashed (h ∷ name) = name
@@ -43,7 +40,3 @@ by_names es = map (λ e. (unhashed e.0, e.1)) es
 -- what a map finds are names of a directory with their hashes in front
 abbrev pub AreHashed : ℕ → List (List ℕ × ℕ) → Type 0
 AreHashed d es = (key : List ℕ) → IsSome (found_by key es) → key ≡ hashed d (unhashed key)
-
--- a name stands at an index of a map, which finds it there
-abbrev pub StandsAt : List ℕ → ℕ → List (List ℕ × ℕ) → Type 0
-StandsAt name i es = IsSomeAnd (slice_get es i) (λ e. (e.0 ≡ name) × (found_by name es ≡ Some e.1))

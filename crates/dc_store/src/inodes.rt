@@ -9,7 +9,6 @@ ghost use Rattle.dc_store.specs.Inodes.{inode_at, changed, with_name, less_name,
 ghost use Rattle.dc_store.specs.Lending.{LendsInodeIf};
 
 use crate::inode::Inode;
-use crate::place::Place;
 use dc_names::{Name, NoMemory};
 use slab::Slab;
 use std::alloc::Global;
@@ -72,7 +71,7 @@ impl Inodes {
         Some(&mut self.slab[key])
     }
 
-    /// Adds an inode under a number where none is.
+    /// Adds an inode under a number under which there is none.
     pub fn insert(&mut self, number: u64, inode: Inode) -> Result<(), NoMemory>
         requires { inode_at self.old number ≡ None }
         ensures ok { OnOk result (self.new ≡ put nat_cmp number inode self.old) }
@@ -115,24 +114,22 @@ impl Inodes {
         }
     }
 
-    /// Lets a name that is there lead elsewhere. It takes no memory. Where it stands at `place`, it isn't
-    /// sought.
-    pub fn redirect(&mut self, dir: u64, name: Name<'_>, place: Place, number: u64)
+    /// Lets a name that is there lead elsewhere. It takes no memory.
+    pub fn redirect(&mut self, dir: u64, name: Name<'_>, number: u64)
         requires { IsSome (led_to self.old dir name.bytes.now) }
         ensures { self.new ≡ changed dir (with_name name.entry.bytes.now number) self.old }
     {
         if let Some(inode) = self.get_mut(dir) {
-            inode.names.redirect(name, place.index, number);
+            inode.names.redirect(name, number);
         }
     }
 
-    /// Takes a name out of a directory, and answers where it led. Where it stands at `place`, it isn't
-    /// sought.
-    pub fn leave(&mut self, dir: u64, name: Name<'_>, place: Place) -> Option<u64>
+    /// Takes a name out of a directory, and answers where it led.
+    pub fn leave(&mut self, dir: u64, name: Name<'_>) -> Option<u64>
         ensures rest { self.new ≡ changed dir (less_name name.entry.bytes.now) self.old }
         ensures before { result ≡ led_to self.old dir name.entry.bytes.now }
     {
-        self.get_mut(dir)?.names.remove(name, place.index)
+        self.get_mut(dir)?.names.remove(name)
     }
 
     /// Counts one entry more for an inode.
@@ -145,7 +142,7 @@ impl Inodes {
         }
     }
 
-    /// Counts one entry less for what lost one, which goes where that was its last.
+    /// Counts one entry less for what lost one, which goes if that was its last.
     pub fn lose(&mut self, lost: Option<u64>)
         requires { IfSome lost (λ n. IfSome (inode_at self.old n) (λ inode. 0 < inode.count)) }
         ensures { self.new ≡ inodes_after lost self.old }

@@ -10,11 +10,9 @@ mod map_store;
 mod name_bytes;
 mod names;
 mod node;
-mod place;
 mod slab_store;
 mod store;
 
 pub use map_store::MapStore;
-pub use place::Place;
 pub use slab_store::SlabStore;
 pub use store::{New, Store};

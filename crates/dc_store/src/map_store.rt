@@ -13,7 +13,6 @@ ghost use Rattle.dc_names.specs.declared.limits.TheConstants.{NUMBER_LIMIT};
 use crate::entries::Entries;
 use crate::laws::trees_keep_their_laws;
 use crate::node::{Node, drop_unnamed, set_parent};
-use crate::place::Place;
 use crate::store::{New, Store};
 use dc_names::{Kind, Name, NoMemory};
 use dc_plain::Spot;
@@ -60,7 +59,7 @@ impl MapStore {
         self.nodes.get(&number)
     }
 
-    /// Adds a node under the next number, and an entry for it. The node goes again where the entry
+    /// Adds a node under the next number, and an entry for it. The node goes again if the entry
     /// finds no memory.
     fn make(&mut self, alloc: Global, dir: u64, name: Name<'_>, node: Node) -> Result<u64, NoMemory>
         requires directory { IsTrue (is_live_directory self.old dir) }
@@ -128,12 +127,6 @@ impl Store for MapStore {
         self.entries.get(dir, name)
     }
 
-    fn seek(&self, dir: u64, name: Name<'_>) -> Option<(u64, Place)> {
-        let number = self.entries.get(dir, name)?;
-        // The ordered map finds an entry by its key alone.
-        Some((number, Place { index: 0 }))
-    }
-
     fn kind(&self, number: u64) -> Option<Kind> {
         let node = self.node(number)?;
         Some(node.kind())
@@ -189,7 +182,7 @@ impl Store for MapStore {
         }
     }
 
-    fn drop_entry(&mut self, dir: u64, name: Name<'_>, _place: Place) {
+    fn drop_entry(&mut self, dir: u64, name: Name<'_>) {
         trees_keep_their_laws();
         let lost = self.entries.remove(dir, name);
         drop_unnamed(&mut self.nodes, &self.entries, lost);
@@ -199,21 +192,13 @@ impl Store for MapStore {
         &mut self,
         alloc: Global,
         old: Spot<'_>,
-        _place: Place,
         new: Spot<'_>,
         number: u64,
     ) -> Result<(), NoMemory> {
         self.relocate(alloc, old, new, number)
     }
 
-    fn swap_entries(
-        &mut self,
-        a: Spot<'_>,
-        first: u64,
-        b: Spot<'_>,
-        second: u64,
-        _places: (Place, Place),
-    ) {
+    fn swap_entries(&mut self, a: Spot<'_>, first: u64, b: Spot<'_>, second: u64) {
         trees_keep_their_laws();
         self.entries.redirect(a.dir, a.name, second);
         self.entries.redirect(b.dir, b.name, first);

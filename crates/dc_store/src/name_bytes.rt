@@ -1,19 +1,19 @@
-//! Names with their hashes, as the keys of a map.
+//! Names with their hashes, as the keys of an ordered map.
 
-ghost use Rattle.std.specs.Prelude.{◌≡◌, ℕ, List, ◌∷◌, nat_eq, IfOk};
-ghost use Rattle.std.specs.Cmp.Lexicographic.{pointwise, bytes_decides, nat_list_eq_equiv};
+ghost use Rattle.std.specs.Prelude.{◌≡◌, ℕ, List, ◌∷◌, nat_eq, Some, refl, IfOk};
+ghost use Rattle.std.specs.BTreeMap.Comparable.{le_lt_trans};
+ghost use Rattle.std.specs.Cmp.Lexicographic.{pointwise, slice_cmp, nat_list_cmp_total, texts_po, texts_ties};
 ghost use Rattle.std.specs.Cmp.Rules.{comparing};
-ghost use Rattle.std.specs.Hash as fed;
-ghost use Rattle.std.proofs.Common.{ap, rules};
+ghost use Rattle.std.specs.Ordering.{nat_cmp};
+ghost use Rattle.std.proofs.Common.{rules};
 ghost use Rattle.dc_names.specs.Hash.{hash_of};
-ghost use Rattle.dc_store.specs.Names.{hash_in, hashed, unhashed};
-ghost use Rattle.dc_store.specs.Hashers.{word_written};
+ghost use Rattle.dc_store.specs.Names.{hashed, unhashed};
 
 use dc_names::{Name, NoMemory, hash};
-use indexmap::Equivalent;
 use smallvec::SmallVec;
 use std::alloc::Global;
-use std::hash::{BuildHasher, Hash, Hasher};
+use std::cmp::Ordering;
+use std::collections::btree_map::Comparable;
 use std::marker::Model;
 
 /// The most bytes of a name that lie in its key. More would make each key larger.
@@ -66,13 +66,38 @@ impl Eq for NameBytes {
     ghost laws = { Prim.search (comparing, rules) };
 }
 
-impl Hash for NameBytes {
-    ghost hash_input = { λ name. fed.u64 (hash_in name) };
+impl PartialOrd for NameBytes {
+    ghost partial_cmp = { λ a b. Some (slice_cmp nat_cmp a b) };
 
-    ghost respects_eq = { λ x y same. ap (λ name. fed.u64 (hash_in name)) ((bytes_decides x y).0 same) };
+    ghost laws = { texts_po };
 
-    fn hash<H: Hasher>(&self, state: &mut H) {
-        state.write_u64(self.hash);
+    fn partial_cmp(&self, other: &NameBytes) -> Option<Ordering> {
+        Some(self.cmp(other))
+    }
+}
+
+impl Ord for NameBytes {
+    ghost cmp = { slice_cmp nat_cmp };
+
+    ghost total = { nat_list_cmp_total };
+
+    ghost matches_partial_cmp = { λ a b. refl };
+
+    ghost matches_eq = { texts_ties };
+
+    fn cmp(&self, other: &NameBytes) -> Ordering {
+        compare(self.hash, self.as_slice(), other)
+    }
+}
+
+/// How a hash and a name's bytes compare with a key. Nearly always the hashes differ, so that the bytes are
+/// compared with those of one key alone.
+fn compare(hash: u64, bytes: &[u8], key: &NameBytes) -> Ordering
+    ensures { result ≡ slice_cmp nat_cmp (hash ∷ bytes.now) key.now }
+{
+    match hash.cmp(&key.hash) {
+        Ordering::Equal => bytes.cmp(key.as_slice()),
+        other => other,
     }
 }
 
@@ -112,78 +137,14 @@ impl<'a> SoughtBytes<'a> {
     }
 }
 
-impl PartialEq for SoughtBytes<'_> {
-    ghost eq = { λ x y. pointwise nat_eq (x.hash ∷ x.bytes.now) (y.hash ∷ y.bytes.now) };
+impl Comparable<NameBytes> for SoughtBytes<'_> {
+    ghost compare = { λ sought. slice_cmp nat_cmp (sought.hash ∷ sought.bytes.now) };
 
-    ghost laws = { Prim.search (comparing, rules) };
+    ghost respects_cmp = { λ sought. nat_list_cmp_total.congr (sought.hash ∷ sought.bytes.now) };
 
-    fn eq(&self, other: &Self) -> bool {
-        self.hash == other.hash && self.bytes == other.bytes
-    }
-}
+    ghost below_greater = { λ sought. le_lt_trans nat_list_cmp_total (sought.hash ∷ sought.bytes.now) };
 
-impl Eq for SoughtBytes<'_> {
-    ghost laws = { Prim.search (comparing, rules) };
-}
-
-impl Hash for SoughtBytes<'_> {
-    ghost hash_input = { λ sought. fed.u64 sought.hash };
-
-    ghost respects_eq = { λ x y same. ap (λ name. fed.u64 (hash_in name))
-        ((bytes_decides (x.hash ∷ x.bytes.now) (y.hash ∷ y.bytes.now)).0 same) };
-
-    fn hash<H: Hasher>(&self, state: &mut H) {
-        state.write_u64(self.hash);
-    }
-}
-
-impl Equivalent<NameBytes> for SoughtBytes<'_> {
-    ghost equivalent = { λ sought name. pointwise nat_eq (sought.hash ∷ sought.bytes.now) name };
-
-    ghost respects_hash = { λ sought name same. ap (λ name. fed.u64 (hash_in name))
-        ((bytes_decides (sought.hash ∷ sought.bytes.now) name).0 same) };
-
-    ghost respects_eq = { λ sought x y. nat_list_eq_equiv.congr (sought.hash ∷ sought.bytes.now) x y };
-
-    fn equivalent(&self, key: &NameBytes) -> bool {
-        self.hash == key.hash && self.bytes == key.as_slice()
-    }
-}
-
-/// Makes the hashers of a map whose keys have their hashes.
-#[derive(Clone, Copy)]
-pub struct AsHashed;
-
-/// Hands on the word that was written last, as its hash.
-#[derive(Clone, Copy)]
-pub struct WordHasher {
-    word: u64,
-}
-
-impl BuildHasher for AsHashed {
-    type Hasher = WordHasher;
-
-    ghost build_hasher = { λ s. record { word = 0 } };
-
-    fn build_hasher(&self) -> WordHasher {
-        WordHasher { word: 0 }
-    }
-}
-
-impl Hasher for WordHasher {
-    ghost write = { word_written };
-
-    ghost finish = { λ h. h.word };
-
-    fn finish(&self) -> u64 {
-        self.word
-    }
-
-    // Inlined, so that the word of a key isn't taken apart and put together again.
-    #[inline(always)]
-    fn write(&mut self, bytes: &[u8]) {
-        if let Some(word) = bytes.first_chunk::<8>() {
-            self.word = u64::from_le_bytes(*word);
-        }
+    fn compare(&self, key: &NameBytes) -> Ordering {
+        compare(self.hash, self.bytes, key)
     }
 }

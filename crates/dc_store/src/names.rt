@@ -1,25 +1,25 @@
 //! The names in one directory.
 
-ghost use Rattle.std.specs.Prelude.{◌≡◌, ℕ, List, [], length, map, option_map, None, IsSome, IsTrue, IfNone, IfOk, IfSome, OnOk, OnErr};
+ghost use Rattle.std.specs.Prelude.{◌≡◌, ℕ, List, [], length, map, IsSome, IsTrue, IfOk, OnOk, OnErr};
 ghost use Rattle.std.specs.FinMap.Entries.{put, is_sorted};
 ghost use Rattle.std.specs.FinMap.Entries.{find as lookup};
 ghost use Rattle.dc_plain.specs.BytesShown.{names_shown};
 ghost use Rattle.dc_names.specs.Hash.{hash_of};
-ghost use Rattle.dc_store.specs.Names.{by_names, found_by, hashed, in_order, name_cmp, without_name, AreHashed, StandsAt};
+ghost use Rattle.dc_store.specs.Names.{by_names, in_order, name_cmp, without_name, AreHashed};
 
-use crate::name_bytes::{AsHashed, NameBytes, SoughtBytes};
+use crate::name_bytes::{NameBytes, SoughtBytes};
 use dc_names::{Name, NoMemory};
-use indexmap::IndexMap;
 use std::alloc::Global;
+use std::collections::BTreeMap;
 use std::marker::Model;
 
-/// The names in a directory, each with the number that it leads to, found by the hash of the directory's
-/// number and the name. They are seen as a list in the order of their bytes, whatever order the map keeps
-/// them in.
+/// The names in a directory, each with the number that it leads to, in the order of the hash of the
+/// directory's number and the name, and of their bytes if that is one. Whoever chooses the names, a search
+/// compares as many as the logarithm of their number. They are seen as a list in the order of their bytes.
 #[derive(Drop)]
 pub struct Names {
     dir: u64,
-    by_name: IndexMap<NameBytes, u64, AsHashed>,
+    by_name: BTreeMap<NameBytes, u64>,
 }
 
 impl Model for Names {
@@ -37,7 +37,7 @@ impl Names {
     {
         Names {
             dir,
-            by_name: IndexMap::with_hasher(alloc, AsHashed),
+            by_name: BTreeMap::new(alloc),
         }
     }
 
@@ -48,14 +48,6 @@ impl Names {
     {
         let sought = SoughtBytes::with_hash(self.dir, dir, name, hash);
         self.by_name.get(sought).copied()
-    }
-
-    /// Where a name leads, and its index.
-    pub fn seek(&self, name: Name<'_>) -> Option<(u64, usize)>
-        ensures { option_map (λ found. found.0) result ≡ lookup name_cmp name.entry.bytes.now self.now }
-    {
-        let (index, _, number) = self.by_name.get_full(SoughtBytes::new(self.dir, name))?;
-        Some((*number, index))
     }
 
     /// Puts a name in, and answers where it led before.
@@ -73,31 +65,26 @@ impl Names {
         Ok(self.by_name.insert(key, number)?)
     }
 
-    /// Lets a name that is there lead elsewhere. It takes no memory. Where it stands at the index, it isn't
-    /// sought.
-    pub fn redirect(&mut self, name: Name<'_>, index: usize, number: u64)
+    /// Lets a name that is there lead elsewhere. It takes no memory.
+    pub fn redirect(&mut self, name: Name<'_>, number: u64)
         requires { IsSome (lookup name_cmp name.bytes.now self.old) }
         ensures { self.new ≡ put name_cmp name.entry.bytes.now number self.old }
     {
+        let sought = SoughtBytes::new(self.dir, name);
         // The caller knows that the name is there.
-        let Some(index) = index_of(&self.by_name, self.dir, name, index) else {
-            unreachable!();
-        };
-        // And it stands at the index that was found just now.
-        let Some(target) = self.by_name.get_index_mut(index) else {
+        let Some(target) = self.by_name.get_mut(sought) else {
             unreachable!();
         };
         *target = number;
     }
 
-    /// Takes a name out, and answers where it led. Where it stands at the index, it isn't sought.
-    pub fn remove(&mut self, name: Name<'_>, index: usize) -> Option<u64>
+    /// Takes a name out, and answers where it led.
+    pub fn remove(&mut self, name: Name<'_>) -> Option<u64>
         ensures rest { self.new ≡ without_name name.entry.bytes.now self.old }
         ensures before { result ≡ lookup name_cmp name.entry.bytes.now self.old }
     {
-        let index = index_of(&self.by_name, self.dir, name, index)?;
-        let (_, number) = self.by_name.swap_remove_index(index)?;
-        Some(number)
+        let sought = SoughtBytes::new(self.dir, name);
+        self.by_name.remove(sought)
     }
 
     /// How many names there are.
@@ -121,25 +108,4 @@ impl Names {
         names.sort_unstable();
         Ok(names)
     }
-}
-
-/// The index of a name in the map of a directory: this one, where the name stands there, or else as it is
-/// found by its hash.
-fn index_of(
-    by_name: &IndexMap<NameBytes, u64, AsHashed>,
-    dir: u64,
-    name: Name<'_>,
-    index: usize,
-) -> Option<usize>
-    requires { AreHashed dir by_name.now.entries }
-    ensures some { IfSome result (λ i. StandsAt (hashed dir name.entry.bytes.now) i by_name.now.entries) }
-    ensures none { IfNone result (found_by (hashed dir name.entry.bytes.now) by_name.now.entries ≡ None) }
-{
-    if let Some((key, _)) = by_name.get_index(index)
-        && key.as_slice() == name.bytes()
-    {
-        return Some(index);
-    }
-    let (index, _, _) = by_name.get_full(SoughtBytes::new(dir, name))?;
-    Some(index)
 }

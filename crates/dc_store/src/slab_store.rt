@@ -1,4 +1,4 @@
-//! The store that the cache holds: inodes in a slab, and the names of each directory in a map.
+//! The store that the cache holds: inodes in a slab, and the names of each directory in an ordered map.
 
 ghost use Rattle.std.specs.Prelude.{◌≡◌, ◌<◌, [], None, Some, option_map, IfSome, IfNone, IfOk, OnOk, OnErr, IsTrue};
 ghost use Rattle.dc_plain.specs.Effects.{with_new, with_entry_for};
@@ -17,19 +17,21 @@ use crate::inodes::Inodes;
 use crate::laws::trees_keep_their_laws;
 use crate::names::Names;
 use crate::node::Node;
-use crate::place::Place;
 use crate::store::{New, Store};
 use dc_names::{Kind, Name, NoMemory};
 use dc_plain::Spot;
 use std::alloc::Global;
 use std::marker::Model;
 
-/// A store of inodes in a slab. Each directory has a map of its own names, found by a hash, and each inode
-/// counts the entries that lead to it, so that no call scans the tree.
+/// A store of inodes in a slab. Each directory has an ordered map of its own names, and each inode counts
+/// the entries that lead to it, so that no call scans the tree.
 #[derive(Drop)]
 pub struct SlabStore {
     inodes: Inodes,
     next: u64,
+    /// How many entries there are, and the most that it takes. No clause speaks of them.
+    entries: u64,
+    most_entries: u64,
 }
 
 impl Model for SlabStore {
@@ -41,8 +43,16 @@ impl Model for SlabStore {
 }
 
 impl SlabStore {
-    /// A store with the root directory alone.
+    /// A store with the root directory alone, which takes any number of entries.
     pub fn new(alloc: Global) -> Result<SlabStore, NoMemory>
+        ensures { IfOk result (λ store. store ≡ empty_tree) }
+    {
+        SlabStore::with_entries(alloc, u64::MAX)
+    }
+
+    /// A store with the root directory alone, which takes at most this many entries: one more is
+    /// `NoMemory`, as if memory had been refused.
+    pub fn with_entries(alloc: Global, most_entries: u64) -> Result<SlabStore, NoMemory>
         ensures { IfOk result (λ store. store ≡ empty_tree) }
     {
         let mut inodes = Inodes::new(alloc);
@@ -52,7 +62,12 @@ impl SlabStore {
             count: 0,
         };
         inodes.insert(1, root)?;
-        Ok(SlabStore { inodes, next: 2 })
+        Ok(SlabStore {
+            inodes,
+            next: 2,
+            entries: 0,
+            most_entries,
+        })
     }
 
     /// What is kept under a number.
@@ -66,7 +81,7 @@ impl SlabStore {
         self.inodes.get(number)
     }
 
-    /// Adds an inode under the next number, and an entry for it. The inode goes again where the entry
+    /// Adds an inode under the next number, and an entry for it. The inode goes again if the entry
     /// finds no memory.
     fn make(&mut self, alloc: Global, dir: u64, name: Name<'_>, node: Node) -> Result<u64, NoMemory>
         requires directory { IsTrue (is_live_directory self.old dir) }
@@ -79,6 +94,9 @@ impl SlabStore {
         ensures err { OnErr result (self.new ≡ self.old) }
     {
         trees_keep_their_laws();
+        if self.entries >= self.most_entries {
+            return Err(NoMemory);
+        }
         let number = self.next;
         let inode = Inode {
             node,
@@ -91,6 +109,7 @@ impl SlabStore {
             return Err(NoMemory);
         };
         self.next += 1;
+        self.entries = self.entries.saturating_add(1);
         Ok(number)
     }
 
@@ -104,8 +123,12 @@ impl SlabStore {
         ensures err { OnErr result (self.new ≡ self.old) }
     {
         trees_keep_their_laws();
+        if self.entries >= self.most_entries {
+            return Err(NoMemory);
+        }
         self.inodes.enter(alloc, dir, name, number)?;
         self.inodes.count_up(number);
+        self.entries = self.entries.saturating_add(1);
         Ok(())
     }
 
@@ -114,7 +137,6 @@ impl SlabStore {
         &mut self,
         alloc: Global,
         old: Spot<'_>,
-        place: Place,
         new: Spot<'_>,
         number: u64,
     ) -> Result<(), NoMemory>
@@ -126,8 +148,9 @@ impl SlabStore {
     {
         trees_keep_their_laws();
         let replaced = self.inodes.enter(alloc, new.dir, new.name, number)?;
+        self.entries = self.entries.saturating_sub(replaced.is_some() as u64);
         // A file under both names for a moment is never seen: nothing can fail from here on.
-        self.inodes.leave(old.dir, old.name, place);
+        self.inodes.leave(old.dir, old.name);
         self.inodes.lose(replaced);
         self.inodes.set_parent(number, new.dir);
         Ok(())
@@ -139,11 +162,6 @@ impl Store for SlabStore {
 
     fn find_hashed(&self, dir: u64, name: Name<'_>, hash: u64) -> Option<u64> {
         self.inodes.get(dir)?.names.get(dir, name, hash)
-    }
-
-    fn seek(&self, dir: u64, name: Name<'_>) -> Option<(u64, Place)> {
-        let (number, index) = self.inodes.get(dir)?.names.seek(name)?;
-        Some((number, Place { index }))
     }
 
     fn kind(&self, number: u64) -> Option<Kind> {
@@ -205,34 +223,27 @@ impl Store for SlabStore {
         }
     }
 
-    fn drop_entry(&mut self, dir: u64, name: Name<'_>, place: Place) {
+    fn drop_entry(&mut self, dir: u64, name: Name<'_>) {
         trees_keep_their_laws();
-        let lost = self.inodes.leave(dir, name, place);
+        let lost = self.inodes.leave(dir, name);
         self.inodes.lose(lost);
+        self.entries = self.entries.saturating_sub(1);
     }
 
     fn move_entry(
         &mut self,
         alloc: Global,
         old: Spot<'_>,
-        place: Place,
         new: Spot<'_>,
         number: u64,
     ) -> Result<(), NoMemory> {
-        self.relocate(alloc, old, place, new, number)
+        self.relocate(alloc, old, new, number)
     }
 
-    fn swap_entries(
-        &mut self,
-        a: Spot<'_>,
-        first: u64,
-        b: Spot<'_>,
-        second: u64,
-        places: (Place, Place),
-    ) {
+    fn swap_entries(&mut self, a: Spot<'_>, first: u64, b: Spot<'_>, second: u64) {
         trees_keep_their_laws();
-        self.inodes.redirect(a.dir, a.name, places.0, second);
-        self.inodes.redirect(b.dir, b.name, places.1, first);
+        self.inodes.redirect(a.dir, a.name, second);
+        self.inodes.redirect(b.dir, b.name, first);
         // A directory whose dot-dot still led to its old parent would not be found from there.
         self.inodes.set_parent(first, b.dir);
         self.inodes.set_parent(second, a.dir);

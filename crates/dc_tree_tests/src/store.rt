@@ -84,23 +84,9 @@ fn add_to<S: Store>(
 
 /// Drops an entry. Answers whether it may be dropped.
 fn drop_from<S: Store>(store: &mut S, dir: u64, name: Name<'_>) -> bool {
-    match store.seek(dir, name) {
-        Some((number, place)) if !is_full(store, number) => {
-            store.drop_entry(dir, name, place);
-            true
-        }
-        _ => false,
-    }
-}
-
-/// Drops an entry by the place of another. Answers whether it may be dropped.
-fn drop_by<S: Store>(store: &mut S, dir: u64, name: Name<'_>, other: Name<'_>) -> bool {
-    let Some((_, place)) = store.seek(dir, other) else {
-        return false;
-    };
     match store.find(dir, name) {
         Some(number) if !is_full(store, number) => {
-            store.drop_entry(dir, name, place);
+            store.drop_entry(dir, name);
             true
         }
         _ => false,
@@ -114,7 +100,7 @@ fn move_to<S: Store>(
     old: Spot<'_>,
     new: Spot<'_>,
 ) -> Result<bool, NoMemory> {
-    let Some((number, place)) = store.seek(old.dir, old.name) else {
+    let Some(number) = store.find(old.dir, old.name) else {
         return Ok(false);
     };
     let stands = matches!(store.kind(new.dir), Some(Kind::Dir));
@@ -124,7 +110,7 @@ fn move_to<S: Store>(
     {
         return Ok(false);
     }
-    store.move_entry(alloc, old, place, new, number)?;
+    store.move_entry(alloc, old, new, number)?;
     Ok(true)
 }
 
@@ -157,8 +143,6 @@ impl<'a> To<'a> {
 enum Step<'a> {
     Add(u64, &'a [u8], To<'a>, Option<u64>),
     Drop(u64, &'a [u8], bool),
-    /// An entry goes by the place of another.
-    DropBy(u64, &'a [u8], &'a [u8], bool),
     Move((u64, &'a [u8]), (u64, &'a [u8]), bool),
     /// A number's kind, parent and count.
     Seen(u64, Option<Kind>, Option<u64>, u64),
@@ -200,17 +184,6 @@ fn adds<S: Store>(
     Ok(add_to(store, alloc, dir, named(name)?, new)? == want)
 }
 
-/// Whether an entry goes so, by the place of another.
-fn drops_by<S: Store>(
-    store: &mut S,
-    dir: u64,
-    name: &[u8],
-    other: &[u8],
-    want: bool,
-) -> Result<bool, NoMemory> {
-    Ok(drop_by(store, dir, named(name)?, named(other)?) == want)
-}
-
 /// Whether an entry moves so.
 fn moves<S: Store>(
     store: &mut S,
@@ -227,7 +200,6 @@ fn answers<S: Store>(store: &mut S, alloc: Global, step: &Step<'_>) -> Result<bo
     match step {
         Step::Add(dir, name, new, want) => adds(store, alloc, *dir, name, *new, *want),
         Step::Drop(dir, name, want) => Ok(drop_from(store, *dir, named(name)?) == *want),
-        Step::DropBy(dir, name, other, want) => drops_by(store, *dir, name, other, *want),
         Step::Move(old, new, want) => moves(store, alloc, *old, *new, *want),
         read => tells(store, alloc, read),
     }
@@ -248,7 +220,7 @@ fn tells<S: Store>(store: &S, alloc: Global, step: &Step<'_>) -> Result<bool, No
         Step::Text(number, want) => Ok(store.text(*number) == *want),
         Step::List(dir, want) => holds(store, alloc, *dir, want),
         Step::Size(next, live) => Ok((store.next(), store.live()) == (*next, *live)),
-        Step::Add(..) | Step::Drop(..) | Step::DropBy(..) | Step::Move(..) => Ok(false),
+        Step::Add(..) | Step::Drop(..) | Step::Move(..) => Ok(false),
     }
 }
 
@@ -390,24 +362,6 @@ static FILES: [Step<'static>; 19] = [
 #[test]
 fn moves_files(rt: HostRuntime) -> Result<(), Fail> {
     assert!(rt; fails_at(rt.alloc(), &FILES)?.is_none());
-    Ok(())
-}
-
-static BY_ANOTHERS_PLACE: [Step<'static>; 9] = [
-    Step::Add(1, b"a", To::File, Some(2)),
-    Step::Add(1, b"b", To::File, Some(3)),
-    Step::Add(1, b"c", To::File, Some(4)),
-    Step::DropBy(1, b"a", b"c", true),
-    Step::List(1, &[b"b", b"c"]),
-    Step::DropBy(1, b"c", b"b", true),
-    Step::Find(1, b"b", Some(3)),
-    Step::DropBy(1, b"b", b"b", true),
-    Step::Size(5, 1),
-];
-
-#[test]
-fn drops_by_anothers_place(rt: HostRuntime) -> Result<(), Fail> {
-    assert!(rt; fails_at(rt.alloc(), &BY_ANOTHERS_PLACE)?.is_none());
     Ok(())
 }
 

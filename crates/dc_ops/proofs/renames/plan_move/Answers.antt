@@ -11,10 +11,10 @@ returns g c = let t = g.S.Store.tree c.args.store.now in record {
   does = search rules;
   can = (
     c.requires.source,
-    may_stand t c.args.to.dir c.args.to.name.bytes.now c.args.found.0 c.entry-there.result c.requires.held c.requires.lives c.is_inside.ensures c.in_ok-refuse-2.ensures.ok
+    may_stand t c.args.to.dir c.args.to.name.bytes.now c.args.moved c.entry-there.result c.requires.held c.requires.lives c.is_inside.ensures c.in_ok-refuse-2.ensures.ok
         (sym c.if-is_one.ensures) c.entry-there.ensures.target c.entry-there.ensures.lives c.in_ok-check_replaceable.ensures.ok,
   );
-  keys = renamed_keys t c.args.from.dir c.args.from.name.bytes.now c.args.to.dir c.args.to.name.bytes.now c.args.found.0
+  keys = renamed_keys t c.args.from.dir c.args.from.name.bytes.now c.args.to.dir c.args.to.name.bytes.now c.args.moved
       c.entry-there.result c.reparents.result c.lost_there.result c.requires.source c.requires.lives c.entry-there.ensures.target
       (sym c.if-is_one.ensures) c.reparents.ensures c.lost_there.ensures;
   loses = c.lost_there.ensures ∙ ap (λ o. with_number o (keys_gone t)) c.entry-there.ensures.target;
