@@ -212,7 +212,9 @@ int gb_try_readlink(struct gb_pass *pass, uint64_t base, const char *path, size_
 int gb_try_list(struct gb_pass *pass, uint64_t base, const char *path, size_t len, char *names, size_t room,
                 struct gb_found *found);
 
-/* The seven changes. Each takes the lock, and memory for what it makes or moves. A last link is never followed.
+/* The seven changes. Each looks the directory of its name up by rows, and then takes the lock, for the name alone if
+ * the rows answered: of gb_try_link the new name, of gb_try_rename the old one, and the new one too if the same bytes
+ * stand before it. It takes memory for what it makes or moves. A last link is never followed.
  * Proved of each: it takes effect at one moment, whole or not at all, and every look-up of any thread is on one side of
  * that moment. If it is out of memory, the tree is as it was. What `gone` says is true of the tree at that moment.
  * They answer 0, a refusal, GB_BUSY, GB_NO_MEMORY, GB_SPENT, GB_BAD_PASS. */

@@ -1,24 +1,30 @@
 -- A change that was made under the lock was made from before the lock was got, and what it took away was told.
-use Rattle.std.proofs.Common.{◌≡◌, ℕ, ◌++◌, ◌∷◌, [], List, true, Option, Result, Ok, Err, arith, ap, sym, subst, ◌∙◌}
+use Rattle.std.specs.Borrow.{MutBor}
+use Rattle.std.proofs.Common.{◌≡◌, ℕ, ◌++◌, ◌∷◌, [], List, true, Option, Bool, IsTrue, Result, Ok, Err, arith, refl, ap, sym, subst, ◌∙◌}
 use Rattle.dc_plain.specs.Requests.{Request, answer_of}
 use Rattle.dc_plain.specs.Runs.{alters, reply_of}
 use Rattle.dc_plain.specs.Trees.{Tree}
 use Rattle.dc_plain.specs.declared.call.Reply.{Reply}
 use Rattle.dc_plain.specs.declared.call.Stamped.{Stamped}
 use Rattle.dc_events.specs.Standing.{tree_of}
-use Rattle.dc_rows.specs.Outcomes.{Makes, RowsAfter}
+use Rattle.dc_rows.specs.Guards.{seat_of, kept_by, rows_of, IsStill}
+use Rattle.dc_rows.specs.Outcomes.{IsBack, Makes, RowsAfter}
 use Rattle.dc_rows.specs.declared.fault.ChangeFault.{ChangeFault}
+use Rattle.dc_rows.specs.declared.guard.Guard.{Guard}
 use Rattle.dc_table.specs.Changes.{NothingNew}
-use Rattle.dc_table.specs.Passes.{known, share, view}
+use Rattle.dc_table.specs.Holders.{Locked}
+use Rattle.dc_table.specs.Passes.{known, share, view, StaysOut}
 use Rattle.dc_table.specs.Passes as seats
 use Rattle.dc_table.specs.Plays.{Took, rows_as}
 use Rattle.dc_table.specs.RowStates.{RowState}
 use Rattle.dc_table.specs.Shares.{Known, Share, HadOnce, one_more}
 use Rattle.dc_table.specs.declared.table.Guarded.{Guarded}
+use Rattle.dc_walk.specs.Becomings.{nothing_again}
 use Rattle.dc_cache.specs.Answers.{Made}
-use Rattle.dc_cache.specs.Losses.{gone_of, if_made, parted, TakesAway}
+use Rattle.dc_cache.specs.Losses.{gone_of, if_made, parted, LeavesWarm, MakesOnce, TakesAway}
 use Rattle.dc_cache.specs.declared.cache.Pass.{Pass}
 use Rattle.dc_cache.specs.declared.gone.Gone.{Gone}
+use Rattle.dc_cache.proofs.Tellings.{nothing_took}
 
 -- the rows that a pass got are those that it has with what the lock guards
 pub rows_got : (k l : Known) (x : Guarded) → Took k l x → rows_as l.view.hold.history l.view.hold.words x ≡ l.got
@@ -66,11 +72,32 @@ made_by p q call (Err fault) m = m.fault
 pub once_since : (k m : Known) (back seat : seats.Pass) → seat ≡ back → m.past ≡ k.past → HadOnce m (known back) → HadOnce k (known seat)
 once_since k m back seat is same once = subst (λ (z : seats.Pass). HadOnce k (known z)) (sym is) (once ∙ ap (one_more (known back)) same)
 
--- a change was made, and this is told of the tree that it was made on
-pub takes_away : (p q : Pass) (call : Request) (made : Result (Reply × ℕ) ChangeFault) (result : Result Stamped ChangeFault) (told going : Option Gone) (t : Tree) → parted result ≡ made → told ≡ if_made result going → going ≡ gone_of t call → t ≡ tree_of (share p.seat).limit (known q.seat).got.history
-    → HadOnce (known p.seat) (known q.seat) → Makes (known q.seat).got p.seat q.seat call made → TakesAway p q call result told
-takes_away p q call made result told going t is kept goes tree once m = let makes : Makes (known q.seat).got p.seat q.seat call (parted result) = subst (λ (z : Result (Reply × ℕ) ChangeFault). Makes (known q.seat).got p.seat q.seat call z) (sym is) m in record {
-  made = made_by p q call result makes;
-  warm = record { once = once; makes = makes };
-  gone = kept ∙ ap (if_made result) (goes ∙ ap (λ (u : Tree). gone_of u call) tree);
-}
+-- a pass that walked by rows, and then got the lock, made a change under it
+pub makes_once : (telling : Bool) (p q : seats.Pass) (u : seats.Pass) (back : MutBor seats.Pass) (g h : Guard) (call : Request) (made : Result (Reply × ℕ) ChangeFault) (going : Option Gone) (t : Tree)
+    → StaysOut p u → NothingNew (view p) (view u) → Locked u g.holder (kept_by g) → IsStill g h → q ≡ back.now → IsBack h back
+    → Makes (rows_of h) (seat_of h) back.now call made → t ≡ (kept_by h).store → (IsTrue telling → going ≡ gone_of t call) → MakesOnce telling p q call made going
+makes_once telling p q u back g h call made going t out none locked still is came m tree goes =
+    let took = locked.took in
+    let same : known (seat_of h) ≡ known (seat_of g) = still.holder.same_known in
+    let nothing : NothingNew (view p) (view (seat_of h)) = nothing_again none (subst (λ (k : Known). NothingNew (view u) k.view) (sym same) (nothing_took (known u) (known (seat_of g)) (kept_by g) took)) in
+    let same_share : share (seat_of h) ≡ share p = ap (λ (k : Known). k.share) same ∙ locked.same.same_share ∙ out.same.same_share in
+    let rows : rows_of h ≡ (known back.now).got = (λ i. rows_as (same i).view.hold.history (same i).view.hold.words (still.kept i)) ∙ rows_got (known u) (known (seat_of g)) (kept_by g) took ∙ ap (λ (k : Known). k.got) (sym same) ∙ sym came.got in
+    let past : (known (seat_of h)).past ≡ (known p).past = ap (λ (k : Known). k.past) same ∙ ap (λ (k : Known). k.past) took.now ∙ out.untried.past in
+    let stood : t ≡ tree_of (share p).limit (known q).got.history =
+        tree ∙ ap (λ (x : Guarded). x.store) still.kept ∙ took.home.tree ∙ ap (λ (k : Known). tree_of k.share.limit k.view.hold.history) (sym same) ∙ ap (λ (z : Share). tree_of z.limit (view (seat_of h)).hold.history) same_share
+        ∙ ap (λ (s : RowState). tree_of (share p).limit s.history) (rows ∙ sym (ap (λ (z : seats.Pass). (known z).got) is)) in
+    record {
+      once = once_since (known p) (known (seat_of h)) back.now q is past came.once;
+      makes = makes_since (rows_of h) p (seat_of h) back.now q call made nothing same_share is rows m;
+      gone = λ asked. goes asked ∙ ap (λ (z : Tree). gone_of z call) stood;
+    }
+
+-- and what is told is what it took away
+pub takes_away : (p q : Pass) (call : Request) (made : Result (Reply × ℕ) ChangeFault) (result : Result Stamped ChangeFault) (told going : Option Gone) → parted result ≡ made → told ≡ if_made result going → MakesOnce true p.seat q.seat call made going → TakesAway p q call result told
+takes_away p q call made result told going is kept m =
+    let makes : Makes (known q.seat).got p.seat q.seat call (parted result) = subst (λ (z : Result (Reply × ℕ) ChangeFault). Makes (known q.seat).got p.seat q.seat call z) (sym is) m.makes in
+    record {
+      made = made_by p q call result makes;
+      warm = record { once = m.once; makes = makes };
+      gone = kept ∙ ap (if_made result) (m.gone refl);
+    }

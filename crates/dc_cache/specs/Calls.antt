@@ -8,6 +8,7 @@ use Rattle.dc_plain.specs.declared.call.Follow.{Follow}
 use Rattle.dc_plain.specs.declared.call.Reply.{Reply}
 use Rattle.dc_plain.specs.declared.call.Stamped as stamped
 use Rattle.dc_events.specs.Views as views
+use Rattle.dc_table.specs.Changes as changes
 
 -- a call, by its numbers and bytes alone
 abbrev pub Request : Type 0
@@ -67,3 +68,7 @@ Record = views.Record
 
 abbrev pub record_of : Request → Stamped → Bool → Record
 record_of call stamped altered = record { call = call; reply = answer_of stamped.reply; at = stamped.at; altered = altered }
+
+-- nothing is recorded, and what was seen is seen still
+abbrev pub NothingNew : views.View → views.View → Type 0
+NothingNew v w = changes.NothingNew v w

@@ -1,7 +1,8 @@
 -- What a change takes away: what stood at the name that goes, or that another inode gets.
-use Rattle.std.specs.Prelude.{◌≡◌, ℕ, ◌==◌, ◌||◌, List, Bool, Option, Some, None, option_map, if◌then◌else◌, Result, Ok, Err}
+use Rattle.std.specs.Prelude.{◌≡◌, ℕ, ◌==◌, ◌||◌, List, Bool, Option, Some, None, option_map, if◌then◌else◌, Result, Ok, Err, IsTrue}
 use Rattle.dc_names.specs.declared.refusal.Refusal.{Refusal}
 use Rattle.dc_plain.specs.Facts.{Target}
+use Rattle.dc_plain.specs.Facts.Label.{Entry}
 use Rattle.dc_plain.specs.IsWellFormed.{IsWellFormed}
 use Rattle.dc_plain.specs.Operations.{same_inode}
 use Rattle.dc_plain.specs.Refusals.{walk_on}
@@ -9,11 +10,15 @@ use Rattle.dc_plain.specs.Requests.{Request, Answer, answer_of}
 use Rattle.dc_plain.specs.Requests.Answer.{Found, Done, Nothing, Bytes, Names, Counted, Refused}
 use Rattle.dc_plain.specs.Requests.Request.{Look, Readlink, Stat, List_names, Mkdir, Create, Hard_link, Symlink, Unlink, Rmdir, Rename}
 use Rattle.dc_plain.specs.Resolution.{is_directory}
-use Rattle.dc_plain.specs.Trees.{Tree, names_of, target_at}
+use Rattle.dc_plain.specs.Trees.{Tree, entry_of, names_of, target_at}
 use Rattle.dc_plain.specs.declared.call.Follow.TheVariants as follow
 use Rattle.dc_plain.specs.declared.call.Reply.{Reply}
 use Rattle.dc_plain.specs.declared.call.Stamped.{Stamped}
 use Rattle.dc_events.specs.Standing.{tree_of}
+use Rattle.dc_ops.specs.Knowing.{IsKnownOn}
+use Rattle.dc_ops.specs.declared.known.Known.{Known}
+use Rattle.dc_table.specs.Passes as seats
+use Rattle.dc_table.specs.Passes.{Pass as Seat}
 use Rattle.dc_table.specs.Shares.{HadOnce}
 use Rattle.dc_rows.specs.Outcomes.{Makes}
 use Rattle.dc_rows.specs.declared.fault.ChangeFault.{ChangeFault}
@@ -30,6 +35,10 @@ found (Err refusal) = None
 -- what a path leads to, if anything; a last link isn't followed
 abbrev pub leads_to : Tree → ℕ → List ℕ → Option Target
 leads_to t base path = found (walk_on t base path follow.No)
+
+-- a path is a name in this known directory: where that name leads, it does
+abbrev pub IsNameIn : Known → ℕ → List ℕ → List ℕ → Type 0
+IsNameIn known base path name = (t : Tree) → IsKnownOn t known → leads_to t base path ≡ entry_of t known.dir (Entry name)
 
 -- what stands where an inode is moved to, unless it is that inode
 abbrev pub replaced : Option Target → Option Target → Option Target
@@ -77,6 +86,12 @@ if_made (Err fault) lost = None
 abbrev pub parted : Result Stamped ChangeFault → Result (Reply × ℕ) ChangeFault
 parted (Ok stamped) = Ok (stamped.reply, stamped.at)
 parted (Err fault) = Err fault
+
+-- under one hold of the lock a change was made, or wasn't; and this, if it is asked for, is what it takes away from the tree of that hold
+pub record MakesOnce (telling : Bool) (p q : Seat) (call : Request) (made : Result (Reply × ℕ) ChangeFault) (going : Option Gone) : Type 0 where
+  pub once : HadOnce (seats.known p) (seats.known q)
+  pub makes : Makes (seats.known q).got p q call made
+  pub gone : IsTrue telling → going ≡ gone_of (tree_of (seats.share p).limit (seats.known q).got.history) call
 
 -- under one hold of the lock a change was made, or wasn't, and the rows were left as after it: those of the keys that it touches tell what the tree has then, and all others are as they were
 pub record LeavesWarm (p q : Pass) (call : Request) (result : Result Stamped ChangeFault) : Type 0 where

@@ -62,8 +62,9 @@
 //! | `shrink` | waits, once | none | never |
 //!
 //! A `try_` call tries for the lock once. It answers `None` if another pass has it, and then nothing at
-//! all has changed; else it answers as the call that waits. `try_look` asks the tree for the whole path, so
-//! a caller asks the rows first, by `look_fast`, which takes no lock.
+//! all has changed; a change has then read rows, and may have seen a later clock, but records nothing. Else
+//! it answers as the call that waits. `try_look` asks the tree for the whole path, so a caller asks the rows
+//! first, by `look_fast`, which takes no lock.
 //!
 //! A call that waits takes `rt`, a runtime that can put a thread to sleep (the bound `Wait`); the type of
 //! a call without it says that it returns. A call that may take memory takes `alloc`, the allocator. If

@@ -5,7 +5,7 @@ ghost use Rattle.std.specs.Prelude.{◌≡◌, ◌≢◌, ◌≤◌, ◌+◌, []
 ghost use Rattle.dc_cache.specs.Answers.{Answered, IfFast, Made, Told};
 ghost use Rattle.dc_cache.specs.Holds.{FillsOnce, ReadsOnce};
 ghost use Rattle.dc_cache.specs.Losses.{if_made, parted, LeavesWarm, TakesAway};
-ghost use Rattle.dc_cache.specs.Passes.{buckets_of, known, view, share, Fits, FoundHeld, Shrinks};
+ghost use Rattle.dc_cache.specs.Passes.{buckets_of, known, view, share, Fits, FoundHeld, Shrinks, WalkedAndFoundHeld};
 ghost use Rattle.dc_events.specs.Rows.{most};
 ghost use Rattle.dc_names.specs.Paths.{fault_of};
 ghost use Rattle.dc_names.specs.declared.limits.TheConstants.{MOST_LOADS};
@@ -20,7 +20,7 @@ ghost use Rattle.dc_walk.specs.Looks.{outcome_by};
 ghost use Rattle.dc_walk.specs.Placing.{AreNoted};
 
 use crate::cache::{Cache, Pass};
-use crate::gone::{Gone, going};
+use crate::gone::Gone;
 use crate::under_lock;
 use dc_names::{NoMemory, PathText, TextFault, parse};
 use dc_plain::{Call, Follow, Reply, Stamped};
@@ -156,9 +156,11 @@ impl<W: Wakes> Cache<W> {
         }
     }
 
-    /// Makes a change. `Spent` if it would alter the tree for more than the 2^62nd time, `NoMemory` if
-    /// memory was refused: then the tree is as it was. A change that is refused, an `Unlink`, a `Rmdir` and
-    /// an exchange take no memory. `None` if another pass has the lock: then nothing at all has changed.
+    /// Makes a change. It looks the directory of the change's name up by rows, and then tries for the lock,
+    /// which it has for the name alone if the rows answered. `Spent` if it would alter the tree for more
+    /// than the 2^62nd time, `NoMemory` if memory was refused: then the tree is as it was. A change that is
+    /// refused, an `Unlink`, a `Rmdir` and an exchange take no memory. `None` if another pass has the lock:
+    /// then the tree is as it was, and nothing is recorded.
     #[must_use]
     pub fn try_change(
         &self,
@@ -172,19 +174,20 @@ impl<W: Wakes> Cache<W> {
         ensures made { IfSome result (Made pass.old pass.new (request_of call.now)) }
         ensures rows { IfSome result (LeavesWarm pass.old pass.new (request_of call.now)) }
         ensures within { IfSome result (λ _. (view pass.new).book.seen ≤ most) }
-        ensures held { IfNone result (FoundHeld pass.old pass.new) }
+        ensures held { IfNone result (WalkedAndFoundHeld pass.old pass.new) }
     {
-        match Guard::try_lock(&self.shared, &mut pass.seat) {
-            Ok(guard) => {
-                let (back, made) = guard.change::<W>(alloc, call);
-                let _seat = back;
-                Some(match made {
-                    Ok((reply, at)) => Ok(Stamped { reply, at }),
-                    Err(fault) => Err(fault),
-                })
-            }
-            Err(_seat) => None,
-        }
+        let (made, _) = under_lock::change_trying::<W>(
+            &self.shared,
+            alloc,
+            &mut pass.seat,
+            &mut pass.room,
+            call,
+            false,
+        )?;
+        Some(match made {
+            Ok((reply, at)) => Ok(Stamped { reply, at }),
+            Err(fault) => Err(fault),
+        })
     }
 
     /// Makes a change, as `try_change`, and answers besides what its name lost, as it stood under the same
@@ -204,17 +207,17 @@ impl<W: Wakes> Cache<W> {
         ensures made { IfSome result (λ r.
             TakesAway pass.old pass.new (request_of call.now) r.0 r.1) }
         ensures within { IfSome result (λ _. (view pass.new).book.seen ≤ most) }
-        ensures held { IfNone result (FoundHeld pass.old pass.new) }
+        ensures held { IfNone result (WalkedAndFoundHeld pass.old pass.new) }
     {
-        match Guard::try_lock(&self.shared, &mut pass.seat) {
-            Ok(guard) => {
-                let gone = going(guard.store(), call);
-                let (back, made) = guard.change::<W>(alloc, call);
-                let _seat = back;
-                Some(told(made, gone))
-            }
-            Err(_seat) => None,
-        }
+        let (made, gone) = under_lock::change_trying::<W>(
+            &self.shared,
+            alloc,
+            &mut pass.seat,
+            &mut pass.room,
+            call,
+            true,
+        )?;
+        Some(told(made, gone))
     }
 
     /// Empties up to `most` of the unpinned rows, the least recently used first, and answers how many. A

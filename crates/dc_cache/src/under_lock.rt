@@ -1,8 +1,10 @@
 //! What is done under one hold of the lock: a guard comes in, and the pass is handed back, without the lock.
 
-ghost use Rattle.std.specs.Prelude.{ℕ, IfSome};
+ghost use Rattle.std.specs.Prelude.{ℕ, IfSome, IfNone};
 ghost use Rattle.dc_cache.specs.Holds.{FillsOnce, KeepsPins, KeepsRows, Records, RecordsOne, TellsOne};
-ghost use Rattle.dc_ops.specs.Asked.{IsSought, IsToldAtLength};
+ghost use Rattle.dc_cache.specs.Losses.{MakesOnce};
+ghost use Rattle.dc_cache.specs.Passes.{TriedAfterWalk};
+ghost use Rattle.dc_ops.specs.Asked.{IsChange, IsSought, IsToldAtLength};
 ghost use Rattle.dc_ops.specs.Settled.{DeclinesCall};
 ghost use Rattle.dc_plain.specs.Requests.{request_of};
 ghost use Rattle.dc_rows.specs.Guards.{seat_of, kept_by};
@@ -14,12 +16,13 @@ ghost use Rattle.dc_walk.specs.Looks.{look_shown};
 ghost use Rattle.dc_walk.specs.Placing.{AreNoted};
 
 use crate::filler::{Filler, NoRoom};
+use crate::gone::{Gone, going};
 use dc_names::NoMemory;
 use dc_ops::look_by;
 use dc_plain::{Call, Reply, Stamped};
-use dc_rows::Guard;
+use dc_rows::{ChangeFault, Guard};
 use dc_table::{Pass as Seat, Shared, Sleepers, Wakes};
-use dc_walk::{Room, are_as_noted};
+use dc_walk::{Room, are_as_noted, find_front, still_known};
 use std::alloc::Global;
 use std::sync::Wait;
 
@@ -127,4 +130,34 @@ pub(crate) fn look_up_waiting<R: Wait>(
     // For the proof: the seat is back as it is bound.
     let _seat = back;
     found
+}
+
+/// Makes a change, under a hold of the lock that it tries for once, and tells what goes by it if it is made,
+/// if that is asked for. It looks the directory of the change's name up by rows before. `None` if another
+/// pass has the lock.
+pub(crate) fn change_trying<W: Wakes>(
+    shared: &Shared,
+    alloc: Global,
+    seat: &mut Seat,
+    room: &mut Room,
+    call: &Call<'_>,
+    telling: bool,
+) -> Option<(Result<(Reply, u64), ChangeFault>, Option<Gone>)>
+    requires can { CanWalk shared.now seat.old × IsChange call.now }
+    ensures same { IsSamePass seat.old seat.new × IsIdle seat.new }
+    ensures made { IfSome result (λ r.
+        MakesOnce telling seat.old seat.new (request_of call.now) r.0 r.1) }
+    ensures held { IfNone result (TriedAfterWalk (known seat.old) (known seat.new)) }
+{
+    let found = find_front(shared.reader(), seat, room, call);
+    match Guard::try_lock(shared, seat) {
+        Ok(mut guard) => {
+            let known = still_known(&mut guard, room, found);
+            let gone = going(guard.store(), known, call, telling);
+            let (back, made) = guard.change_knowing::<W>(alloc, call, known);
+            let _seat = back;
+            Some((made, gone))
+        }
+        Err(_back) => None,
+    }
 }

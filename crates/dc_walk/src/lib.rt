@@ -34,7 +34,7 @@ pub use dc_names::{MOST_LOADS, MOST_USED};
 use dc_names::{MOST_USED_BYTES, ROW_WORDS};
 pub use locked::walk_locked;
 pub use look::Look;
-pub use placing::{are_as_noted, change_by_rows};
+pub use placing::{are_as_noted, change_by_rows, find_front, still_known};
 pub use question::key_of;
 pub use unlocked::{walk_briefly, walk_fast};
 pub use used::Room;

@@ -5,8 +5,8 @@ ghost use Rattle.dc_ops.specs.Asked.{IsChange};
 ghost use Rattle.dc_ops.specs.Knowing.{IsKnownOn};
 ghost use Rattle.dc_plain.specs.Requests.{request_of};
 ghost use Rattle.dc_rows.specs.Guards.{seat_of, kept_by, IsStill};
-ghost use Rattle.dc_rows.specs.Outcomes.{IsBack, MakesAlone, MakesHeld};
-ghost use Rattle.dc_table.specs.Changes.{IsTaken, NothingNew};
+ghost use Rattle.dc_rows.specs.Outcomes.{MakesAlone};
+ghost use Rattle.dc_table.specs.Changes.{NothingNew};
 ghost use Rattle.dc_table.specs.Holders.{table_of};
 ghost use Rattle.dc_table.specs.Passes.{known, view, share, IsIdle, IsSamePass, StaysOut};
 ghost use Rattle.dc_table.specs.Shares.{HadOnce};
@@ -55,9 +55,9 @@ fn path_of<'a>(call: &Call<'a>) -> (u64, &'a [u8]) {
 
 /// Where all components of a call's path but the last lead, by the rows of a table alone. It takes no
 /// lock and no memory, never waits, and records nothing. `None` if there are none, if they lead to
-/// no directory, or if the rows don't tell. What was found is known of the tree once `is_known` says
-/// so under the lock.
-fn find_front<'a>(
+/// no directory, or if the rows don't tell. What was found is known of the tree if `still_known` says so
+/// under the lock, with the room as it is then.
+pub fn find_front<'a>(
     reader: Reader<'_>,
     pass: &mut Pass,
     room: &mut Room,
@@ -114,27 +114,22 @@ fn is_known(guard: &mut Guard<'_>, room: &Room, known: Known<'_>) -> bool
     are_as_noted(guard, room)
 }
 
-/// Makes a change under the lock, by what was found before.
-fn change_under_lock<'t>(
-    mut guard: Guard<'t>,
-    alloc: Global,
+/// What was found before, if it still holds, for the pass that has got the lock since. Then the path leads
+/// there on the tree.
+#[must_use]
+pub fn still_known<'a>(
+    guard: &mut Guard<'_>,
     room: &Room,
-    call: &Call<'_>,
-    found: Option<Known<'_>>,
-) -> (&'t mut Pass, Result<(Reply, u64), ChangeFault>)
-    requires taken { IsTaken (view (seat_of guard)) × IsChange call.now }
-    requires found { IfSome found
-        (let p = seat_of guard in IsFoundBy (view p) (share p).rows room.now) }
-    ensures back { IsBack guard.entry result.0 }
-    ensures made { MakesHeld guard.entry result.0.now (request_of call.now) result.1 }
+    found: Option<Known<'a>>,
+) -> Option<Known<'a>>
+    requires found { IfSome found (let p = seat_of guard.old in
+        IsFoundBy (view p) (share p).rows room.now) }
+    ensures same { IsStill guard.old guard.new }
+    ensures known { IfSome result (IsKnownOn (kept_by guard.old).store) }
 {
-    let Some(front) = found else {
-        return guard.change::<Sleepers>(alloc, call);
-    };
-    if is_known(&mut guard, room, front) {
-        guard.change_knowing::<Sleepers>(alloc, call, found)
-    } else {
-        guard.change::<Sleepers>(alloc, call)
+    match found {
+        Some(front) if is_known(guard, room, front) => found,
+        _ => None,
     }
 }
 
@@ -154,8 +149,9 @@ pub fn change_by_rows<R: Wait>(
     ensures made { MakesAlone pass.old pass.new (request_of call.now) result }
 {
     let found = find_front(shared.reader(), pass, room, call);
-    let guard = Guard::lock(shared, rt, pass);
-    let (back, made) = change_under_lock(guard, alloc, room, call, found);
+    let mut guard = Guard::lock(shared, rt, pass);
+    let known = still_known(&mut guard, room, found);
+    let (back, made) = guard.change_knowing::<Sleepers>(alloc, call, known);
     // For the proof: the pass is back as it is bound.
     let _pass = back;
     made

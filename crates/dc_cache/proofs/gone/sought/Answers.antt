@@ -2,8 +2,8 @@ use Rattle.std.proofs.Common.{◌∙◌, ap, sym}
 use Rattle.dc_plain.specs.Requests.{answer_of}
 use Rattle.dc_plain.specs.declared.call.Reply.{Reply}
 use Rattle.dc_cache.proofs.Taken.{found_in, found_by, not_found}
-use Rattle.dc_cache.proofs.gone.stands.Goals.{in-Found, in_default}
-use Rattle.dc_cache.proofs.gone.stands.Goals as goal
+use Rattle.dc_cache.proofs.gone.sought.Goals.{in-Found, in_default}
+use Rattle.dc_cache.proofs.gone.sought.Goals as goal
 
 pub returns : goal.returns
 returns c = let sought = found_by c.args.store.now c.args.base c.args.path.now (answer_of c.seek.result) (c.seek.ensures 0).operation in elim c.match-seek.branch [

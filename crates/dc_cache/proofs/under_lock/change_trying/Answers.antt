@@ -1,0 +1,10 @@
+use Rattle.std.proofs.Common.{◌∙◌, sym}
+use Rattle.dc_plain.specs.Requests.{request_of}
+use Rattle.dc_cache.proofs.Takes.{makes_once}
+use Rattle.dc_cache.proofs.under_lock.change_trying.Goals as goal
+
+pub returns-in-Ok-clause-made : goal.returns-in-Ok-clause-made
+returns-in-Ok-clause-made g c = let found = c.find_front-found in let got = c.in-Ok.ensures.got in let still = c.still_known-known in let back = c.change_knowing-back in
+    makes_once c.args.telling c.args.seat.now _ found.new.pass back.result.0 c.in-Ok.guard still.new.guard (request_of c.args.call.now) back.result.1 c.going-gone.result c.store.result.now
+    found.ensures.same found.ensures.nothing got.1 still.ensures.same (c.seat-1.given.1 (sym (back.ensures.back.same_reference ∙ still.ensures.same.holder.held.same_reference ∙ got.0))) back.ensures.back
+    back.ensures.made c.store.ensures c.going-gone.ensures
