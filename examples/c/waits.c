@@ -18,7 +18,7 @@
 #include <time.h>
 #include <unistd.h>
 
-enum { HOGS = 3, BUCKETS = 256, INODES = 1048576, NAMES = 20000, SECONDS = 5, MOST = 1000000, REST = 200, MOST_LISTS = 60 };
+enum { HOGS = 3, BUCKETS = 256, INODES = 1048576, NAMES = 20000, SECONDS = 5, MOST = 1000000, REST = 200, MOST_LISTS = 12 };
 
 struct caller {
     pthread_t thread;

@@ -103,6 +103,8 @@ int main(int count, char **words)
         return 2;
     status = serve(session, &options);
     fuse_session_destroy(session);
+    fuse_opt_free_args(&arguments);
+    free(options.mountpoint);
     tree_end();
     tell();
     return status;
