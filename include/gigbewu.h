@@ -255,7 +255,8 @@ int gb_try_rename(struct gb_pass *pass, uint64_t base, const char *old_path, siz
 int gb_learn(struct gb_pass *pass, uint64_t at, uint64_t *clock);
 
 /* Empties up to `most` rows, the least recently used first, and writes to `emptied` how many, if the answer is 0. No
- * answer depends on it. Takes the lock, some 0.8 microseconds a row, and no memory.
+ * answer depends on it. Takes the lock, some 0.8 microseconds a row, and no memory. All others wait meanwhile, so ask in
+ * portions, as gb_shrink does.
  * Proved: `emptied` is at most `most`, and no answer is recorded.
  * Answers 0, GB_BUSY, GB_BAD_PASS. */
 int gb_try_shrink(struct gb_pass *pass, uint64_t most, uint64_t *emptied);
@@ -312,6 +313,9 @@ struct gb_gate {
  * of GB_FIRST_PAUSES instructions, and the next ones double: a try takes the lock's cache line from its holder, who
  * then waits for it. GB_PATIENCE milliseconds after its first yield or sleep a thread takes a ticket. */
 enum { GB_PAUSES = 20, GB_YIELDS = 16, GB_FIRST_PAUSES = 64, GB_DOUBLINGS = 5, GB_PATIENCE = 4 };
+
+/* How many rows gb_shrink empties under one hold of the lock. */
+enum { GB_PORTION = 1024 };
 
 static inline void gb_pause(void)
 {
@@ -656,10 +660,24 @@ static inline int gb_rename(struct gb_gate *gate, struct gb_pass *pass, uint64_t
     GB_BLOCKING(gate, gb_try_rename(pass, base, old_path, old_len, path, len, flags, found, gone));
 }
 
-/* gb_try_shrink. */
-static inline int gb_shrink(struct gb_gate *gate, struct gb_pass *pass, uint64_t most, uint64_t *emptied)
+static inline int gb_shrink_once(struct gb_gate *gate, struct gb_pass *pass, uint64_t most, uint64_t *emptied)
 {
     GB_BLOCKING(gate, gb_try_shrink(pass, most, emptied));
+}
+
+/* gb_try_shrink, GB_PORTION rows at a time, so that nobody waits for all of them. `emptied` is their sum. */
+static inline int gb_shrink(struct gb_gate *gate, struct gb_pass *pass, uint64_t most, uint64_t *emptied)
+{
+    uint64_t sum = 0, portion;
+    do {
+        portion = most - sum < GB_PORTION ? most - sum : (uint64_t)GB_PORTION;
+        int answer = gb_shrink_once(gate, pass, portion, emptied);
+        if (answer != 0)
+            return answer;
+        sum += *emptied;
+    } while (*emptied == portion && sum < most);
+    *emptied = sum;
+    return 0;
 }
 
 #undef GB_BLOCKING

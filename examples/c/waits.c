@@ -4,8 +4,9 @@
  *
  * One, two and three threads list a directory of NAMES names (20,000 unless given) in a loop, which holds the lock for
  * some milliseconds a time. Beside them one thread makes changes, and another looks up names that no row has. Prints the
- * median and the longest wait of both, each for SECONDS (5 unless given): as the header hands the lock to a thread that
- * was passed over, and as it would be without that.
+ * median and the longest wait of both, each for SECONDS (5 unless given), and how many lists ended within one wait at
+ * most: as the header hands the lock to a thread that was passed over, and as it would be without that. It ends with 1
+ * if with tickets more than MOST_LISTS ended within one wait.
  */
 #define _GNU_SOURCE
 #include <gigbewu.h>
@@ -17,18 +18,20 @@
 #include <time.h>
 #include <unistd.h>
 
-enum { HOGS = 3, BUCKETS = 256, INODES = 1048576, NAMES = 20000, SECONDS = 5, MOST = 1000000, REST = 200 };
+enum { HOGS = 3, BUCKETS = 256, INODES = 1048576, NAMES = 20000, SECONDS = 5, MOST = 1000000, REST = 200, MOST_LISTS = 12 };
 
 struct caller {
     pthread_t thread;
     struct gb_pass pass;
     double *waited; /* in milliseconds */
     long calls;
+    long passed; /* the most lists that ended within one wait */
 };
 
 static struct gb_gate gate;
 static struct gb_pass pass;
 static atomic_int ended;
+static atomic_long lists;
 
 static double now(void)
 {
@@ -53,14 +56,28 @@ static void *list(void *given)
     while (!atomic_load(&ended)) {
         must(gb_list(&gate, &caller->pass, GB_ROOT, "/long", 5, none, 0, &found) == 0, "list");
         caller->calls++;
+        atomic_fetch_add(&lists, 1);
     }
     return NULL;
 }
 
-static void add(struct caller *caller, double began)
+struct wait {
+    double began;
+    long lists;
+};
+
+static struct wait begin_wait(void)
 {
+    struct wait wait = {now(), atomic_load(&lists)};
+    return wait;
+}
+
+static void end_wait(struct caller *caller, struct wait wait)
+{
+    long passed = atomic_load(&lists) - wait.lists;
+    caller->passed = passed > caller->passed ? passed : caller->passed;
     if (caller->calls < MOST)
-        caller->waited[caller->calls++] = now() - began;
+        caller->waited[caller->calls++] = now() - wait.began;
     usleep(REST);
 }
 
@@ -70,12 +87,12 @@ static void *change(void *given)
     struct gb_found found;
     struct gb_gone gone;
     while (!atomic_load(&ended)) {
-        double began = now();
+        struct wait wait = begin_wait();
         must(gb_create(&gate, &caller->pass, GB_ROOT, "/made", 5, &found) == 0, "create");
-        add(caller, began);
-        began = now();
+        end_wait(caller, wait);
+        wait = begin_wait();
         must(gb_unlink(&gate, &caller->pass, GB_ROOT, "/made", 5, &found, &gone) == 0, "unlink");
-        add(caller, began);
+        end_wait(caller, wait);
     }
     return NULL;
 }
@@ -87,9 +104,9 @@ static void *miss(void *given)
     char path[32];
     for (long i = 0; !atomic_load(&ended); i++) {
         int len = snprintf(path, sizeof path, "/never%ld", i);
-        double began = now();
+        struct wait wait = begin_wait();
         gb_look(&gate, &caller->pass, GB_ROOT, path, (size_t)len, GB_FOLLOW, &found);
-        add(caller, began);
+        end_wait(caller, wait);
     }
     return NULL;
 }
@@ -117,10 +134,12 @@ static void end(struct caller *caller)
 
 static void tell(const char *what, const struct caller *caller)
 {
-    printf("  %s %8.3f %8.1f", what, caller->waited[caller->calls / 2], caller->waited[caller->calls - 1]);
+    printf("  %s %8.3f %8.1f %4ld", what, caller->waited[caller->calls / 2], caller->waited[caller->calls - 1],
+           caller->passed);
 }
 
-static void measure(int hogs, unsigned seconds)
+/* Answers how many lists ended within one wait at most. */
+static long measure(int hogs, unsigned seconds)
 {
     struct caller listers[HOGS], changer, looker;
     atomic_store(&ended, 0);
@@ -143,6 +162,7 @@ static void measure(int hogs, unsigned seconds)
     printf("\n");
     free(changer.waited);
     free(looker.waited);
+    return changer.passed > looker.passed ? changer.passed : looker.passed;
 }
 
 int main(int count, char **words)
@@ -155,12 +175,14 @@ int main(int count, char **words)
     must(gb_cache_new(BUCKETS, INODES, &pass) == 0 && gb_mkdir(&gate, &pass, GB_ROOT, "/long", 5, &found) == 0, "a cache");
     for (long i = 0; i < names; i++)
         must(gb_create(&gate, &pass, GB_ROOT, path, (size_t)sprintf(path, "/long/%ld", i), &found) == 0, "a name");
-    printf("milliseconds waited, median and longest, beside threads that list %ld names:\n", names);
+    printf("milliseconds waited, median and longest, and lists at most, beside threads that list %ld names:\n", names);
+    long passed = 0;
     for (int hogs = 1; hogs <= HOGS; hogs++) {
         gate.now = gb_milliseconds;
-        measure(hogs, seconds);
+        long now_passed = measure(hogs, seconds);
+        passed = now_passed > passed ? now_passed : passed;
         gate.now = NULL;
         measure(hogs, seconds);
     }
-    return gb_close(&pass);
+    return gb_close(&pass) != 0 || passed > MOST_LISTS;
 }

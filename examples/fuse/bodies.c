@@ -1,10 +1,8 @@
 /* Bodies of inodes, on shelves by their numbers. No call of the library is made here. */
 #include "bodies.h"
-#include <errno.h>
 #include <sched.h>
 #include <stdatomic.h>
 #include <stdlib.h>
-#include <string.h>
 
 enum { SHELVES = 4096 };
 
@@ -55,7 +53,8 @@ struct body *body_new(mode_t mode, uid_t owner, gid_t group)
 void body_free(struct body *body)
 {
     pthread_mutex_destroy(&body->lock);
-    free(body->bytes);
+    pages_cut(&body->pages, 0);
+    free(body->name);
     free(body);
     atomic_fetch_sub(&bodies, 1);
 }
@@ -111,13 +110,22 @@ struct body *body_of(uint64_t number)
     }
 }
 
-void body_let_go(struct body *body, bool gone)
+void body_keep(struct body *body)
+{
+    struct shelf *shelf = shelf_of(body->number);
+    pthread_mutex_lock(&shelf->lock);
+    body->users++;
+    pthread_mutex_unlock(&shelf->lock);
+}
+
+void body_let_go(struct body *body, uint64_t uses, bool gone)
 {
     struct shelf *shelf = shelf_of(body->number);
     struct body **at = &shelf->first;
     pthread_mutex_lock(&shelf->lock);
     body->gone |= gone;
-    bool ended = --body->users == 0 && body->gone;
+    body->users -= uses;
+    bool ended = body->users == 0 && body->gone;
     while (ended && *at != body)
         at = &(*at)->next;
     if (ended)
@@ -127,36 +135,10 @@ void body_let_go(struct body *body, bool gone)
         body_free(body);
 }
 
-/* Of bytes cut off that are more than half of the room. */
-static void body_give_back(struct body *body, size_t size)
+void body_resize(struct body *body, uint64_t size)
 {
-    if (size == 0) {
-        free(body->bytes);
-        body->bytes = NULL;
-        body->room = 0;
-    } else if (size < body->room / 2) {
-        char *bytes = realloc(body->bytes, size);
-        if (bytes) {
-            body->bytes = bytes;
-            body->room = size;
-        }
-    }
-}
-
-int body_resize(struct body *body, size_t size)
-{
-    if (size > body->room) {
-        char *bytes = realloc(body->bytes, size + size / 2);
-        if (!bytes)
-            return -ENOSPC;
-        body->bytes = bytes;
-        body->room = size + size / 2;
-    }
-    if (size > body->size)
-        memset(body->bytes + body->size, 0, size - body->size);
     if (size < body->size)
-        body_give_back(body, size);
+        pages_cut(&body->pages, size);
     body->size = size;
     body->written = now();
-    return 0;
 }

@@ -3,18 +3,18 @@
  */
 #ifndef BODIES_H
 #define BODIES_H
-#define _GNU_SOURCE
+#include "pages.h"
 #include <pthread.h>
 #include <stdbool.h>
 #include <stdint.h>
 #include <sys/stat.h>
 #include <time.h>
 
-/* A lock of this file guards what stands before `lock`, that what stands behind. */
+/* A lock of the other file guards what stands before `lock`, that what stands behind. */
 struct body {
     struct body *next;
     uint64_t number;
-    unsigned users; /* calls at work on it, and open files: it stays as long as there are any */
+    uint64_t users; /* calls at work on it, open files, and what the kernel was told of: it stays as long as there are any */
     bool gone;      /* its last name is */
     pthread_mutex_t lock;
     mode_t mode;
@@ -22,8 +22,10 @@ struct body {
     gid_t group;
     nlink_t names;
     struct timespec read, written, changed;
-    char *bytes;
-    size_t size, room;
+    struct pages pages;
+    uint64_t size;
+    uint64_t parent; /* where it was found last, and by which name; NULL if it wasn't yet */
+    char *name;
 };
 
 /* Once, before all else. */
@@ -50,10 +52,13 @@ void making_end(void);
 /* The body of a number that a call told, for the caller to let go; NULL if it has gone since. */
 struct body *body_of(uint64_t number);
 
-/* Ends a use of it. `gone`: its last name was taken away. The last to let go of what has gone ends it. */
-void body_let_go(struct body *body, bool gone);
+/* One use more of a body that the caller has. */
+void body_keep(struct body *body);
 
-/* Of a body that is locked. New bytes are zeros. Answers 0 or an error, as libfuse wants it. */
-int body_resize(struct body *body, size_t size);
+/* Ends so many uses of it. `gone`: its last name was taken away. The last to let go of what has gone ends it. */
+void body_let_go(struct body *body, uint64_t uses, bool gone);
+
+/* Of a body that is locked. What it grows by are zeros, which take no memory. */
+void body_resize(struct body *body, uint64_t size);
 
 #endif

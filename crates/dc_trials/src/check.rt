@@ -1,5 +1,6 @@
 //! Records that are read and judged. The verdicts on records of lines alone are in examples/records.
 
+mod large;
 mod slow;
 
 use crate::answers::Want;
