@@ -1,19 +1,20 @@
 /* Calls each blocking form of the header with good and bad arguments, by one thread, and looks at all that it writes:
- * what it should, or nothing. Prints each answer that is not as it should be, and last how many were.
+ * what it should, or nothing. Prints each answer that is not as it should be, and last how many were. How a form waits is
+ * seen by busy.c, waits.c and gate.c.
  */
 #include <errno.h>
 #include <gigbewu.h>
 #include <stdio.h>
 #include <string.h>
 
-enum { BUCKETS = 256, INODES = 8, ROOM = 8, MARK = 77 };
+enum { BUCKETS = 256, INODES = 8, ROOM = 8, MARK = 77, LONGEST_NAME = 255, NOBODY = 99 };
 
 static struct gb_gate gate;
 static struct gb_pass pass, blank;
 static struct gb_found found;
 static struct gb_gone gone;
 static char bytes[ROOM];
-static uint64_t emptied;
+static uint64_t emptied, base = GB_ROOT;
 static int wrong;
 
 static void is(const char *what, const char *detail, int64_t got, int64_t want)
@@ -27,62 +28,62 @@ static void is(const char *what, const char *detail, int64_t got, int64_t want)
 /* Each form on a path, which is the second one if it has two. */
 static int look(struct gb_pass *with, const char *path, size_t len)
 {
-    return gb_look(&gate, with, GB_ROOT, path, len, GB_FOLLOW, &found);
+    return gb_look(&gate, with, base, path, len, GB_FOLLOW, &found);
 }
 
 static int look_missed(struct gb_pass *with, const char *path, size_t len)
 {
-    return gb_look_missed(&gate, with, GB_ROOT, path, len, GB_FOLLOW, &found);
+    return gb_look_missed(&gate, with, base, path, len, GB_FOLLOW, &found);
 }
 
 static int count(struct gb_pass *with, const char *path, size_t len)
 {
-    return gb_stat(&gate, with, GB_ROOT, path, len, &found);
+    return gb_stat(&gate, with, base, path, len, &found);
 }
 
 static int read_link(struct gb_pass *with, const char *path, size_t len)
 {
-    return gb_readlink(&gate, with, GB_ROOT, path, len, bytes, ROOM, &found);
+    return gb_readlink(&gate, with, base, path, len, bytes, ROOM, &found);
 }
 
 static int list(struct gb_pass *with, const char *path, size_t len)
 {
-    return gb_list(&gate, with, GB_ROOT, path, len, bytes, ROOM, &found);
+    return gb_list(&gate, with, base, path, len, bytes, ROOM, &found);
 }
 
 static int make_directory(struct gb_pass *with, const char *path, size_t len)
 {
-    return gb_mkdir(&gate, with, GB_ROOT, path, len, &found);
+    return gb_mkdir(&gate, with, base, path, len, &found);
 }
 
 static int create(struct gb_pass *with, const char *path, size_t len)
 {
-    return gb_create(&gate, with, GB_ROOT, path, len, &found);
+    return gb_create(&gate, with, base, path, len, &found);
 }
 
 static int make_link(struct gb_pass *with, const char *path, size_t len)
 {
-    return gb_symlink(&gate, with, GB_ROOT, "d/f", 3, path, len, &found);
+    return gb_symlink(&gate, with, base, "d/f", 3, path, len, &found);
 }
 
 static int give_name(struct gb_pass *with, const char *path, size_t len)
 {
-    return gb_link(&gate, with, GB_ROOT, "/d/f", 4, path, len, &found);
+    return gb_link(&gate, with, base, "/d/f", 4, path, len, &found);
 }
 
 static int take_name(struct gb_pass *with, const char *path, size_t len)
 {
-    return gb_unlink(&gate, with, GB_ROOT, path, len, &found, &gone);
+    return gb_unlink(&gate, with, base, path, len, &found, &gone);
 }
 
 static int take_directory(struct gb_pass *with, const char *path, size_t len)
 {
-    return gb_rmdir(&gate, with, GB_ROOT, path, len, &found, &gone);
+    return gb_rmdir(&gate, with, base, path, len, &found, &gone);
 }
 
 static int move(struct gb_pass *with, const char *path, size_t len)
 {
-    return gb_rename(&gate, with, GB_ROOT, "/h", 2, path, len, 0, &found, &gone);
+    return gb_rename(&gate, with, base, "/h", 2, path, len, 0, &found, &gone);
 }
 
 static int shrink(struct gb_pass *with, const char *path, size_t len)
@@ -134,6 +135,7 @@ static int is_marked(const char *what, const char *detail)
 static void try_bad(int i)
 {
     const char *name = forms[i].name;
+    char longest[LONGEST_NAME + 1];
     mark();
     is(name, "a blank pass", forms[i].call(&blank, forms[i].good, strlen(forms[i].good)), GB_BAD_PASS);
     is_marked(name, "a blank pass writes nothing");
@@ -146,6 +148,20 @@ static void try_bad(int i)
     if (gone.number != MARK)
         is(name, "a zero byte: gone", (int64_t)(gone.number + gone.kind + gone.last), 0);
     is(name, "beneath a missing name", forms[i].call(&pass, "/no/x", 5), ENOENT);
+    is(name, "no bytes", forms[i].call(&pass, "", 0), ENOENT);
+    memset(longest, 'n', sizeof longest);
+    is(name, "a name of 256", forms[i].call(&pass, longest, sizeof longest), ENAMETOOLONG);
+    base = NOBODY;
+    is(name, "from no directory", forms[i].call(&pass, "x", 1), ENOENT);
+    base = GB_ROOT;
+}
+
+/* The same pass, once it is closed. */
+static void try_closed(int i)
+{
+    mark();
+    is(forms[i].name, "a closed pass", forms[i].call(&pass, forms[i].good, strlen(forms[i].good)), GB_BAD_PASS);
+    is_marked(forms[i].name, "a closed pass writes nothing");
 }
 
 static void try_good(int i)
@@ -184,6 +200,8 @@ int main(void)
     try_arguments();
     is("sleepers", "at the end", gate.sleepers, 0);
     is("close", "", gb_close(&pass), 0);
+    for (int i = 0; i < FORMS; i++)
+        try_closed(i);
     printf("%d answers of blocking forms are not as they should be\n", wrong);
     return wrong != 0;
 }

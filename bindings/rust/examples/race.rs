@@ -10,8 +10,8 @@ const LOOKS: usize = 100_000;
 const ENOENT: i32 = 2;
 
 fn look(pass: &mut Pass) -> bool {
-    let found = match pass.look_fast(ROOT, b"/p/d/f", Follow::Yes) {
-        Err(Error::Again(_)) => pass.look(ROOT, b"/p/d/f", Follow::Yes),
+    let found = match pass.look_fast(ROOT, "/p/d/f", Follow::Yes) {
+        Err(Error::Again(_)) => pass.look(ROOT, "/p/d/f", Follow::Yes),
         found => found,
     };
     found.map_err(|why| why.errno()) != Err(Some(ENOENT))
@@ -24,18 +24,18 @@ fn look_often(mut pass: Pass, looking: &AtomicUsize) -> usize {
 }
 
 fn rename_to_and_fro(pass: &mut Pass) -> Result<(), Error> {
-    pass.rename(ROOT, b"/p", b"/q", Replace::Yes)?;
-    pass.create(ROOT, b"/q/d/f")?;
-    pass.unlink(ROOT, b"/q/d/f")?;
-    pass.rename(ROOT, b"/q", b"/p", Replace::Yes)?;
+    pass.rename(ROOT, "/p", "/q", Replace::Yes)?;
+    pass.create(ROOT, "/q/d/f")?;
+    pass.unlink(ROOT, "/q/d/f")?;
+    pass.rename(ROOT, "/q", "/p", Replace::Yes)?;
     Ok(())
 }
 
 fn main() -> Result<(), Box<dyn std::error::Error>> {
     let cache = Cache::new(1_024, 1_000)?;
     let mut renamer = cache.pass()?;
-    renamer.mkdir(ROOT, b"/p")?;
-    renamer.mkdir(ROOT, b"/p/d")?;
+    renamer.mkdir(ROOT, "/p")?;
+    renamer.mkdir(ROOT, "/p/d")?;
     let passes = (0..LOOKERS)
         .map(|_| cache.pass())
         .collect::<Result<Vec<_>, _>>()?;

@@ -1,18 +1,27 @@
 //! What calls answer.
 
 use crate::raw;
-use std::{error, fmt, io};
 
 /// What an inode number names.
-#[derive(Clone, Copy, Debug, PartialEq, Eq)]
+///
+/// ```
+/// # use gigbewu::{Cache, Follow, Kind, ROOT};
+/// # let mut pass = Cache::new(64, 100)?.pass()?;
+/// assert_eq!(pass.look(ROOT, "/", Follow::Yes)?.kind, Kind::Dir);
+/// # Ok::<(), gigbewu::Error>(())
+/// ```
+#[derive(Clone, Copy, Debug, PartialEq, Eq, Hash)]
 pub enum Kind {
+    /// A directory.
     Dir,
+    /// A file.
     File,
+    /// A symbolic link.
     Link,
 }
 
 impl Kind {
-    pub(crate) fn of(code: u32) -> Kind {
+    fn of(code: u32) -> Kind {
         match code {
             1 => Kind::Dir,
             2 => Kind::File,
@@ -21,16 +30,28 @@ impl Kind {
     }
 }
 
-/// What a path leads to. `at`: this many changes came before the moment of this answer.
-#[derive(Clone, Copy, Debug, PartialEq, Eq)]
+/// What a path leads to.
+///
+/// ```
+/// # use gigbewu::{Cache, Found, Follow, Kind, ROOT};
+/// # let mut pass = Cache::new(64, 100)?.pass()?;
+/// pass.create(ROOT, "/f")?;
+/// let found = Found { number: 2, kind: Kind::File, at: 1 };
+/// assert_eq!(pass.look(ROOT, "/f", Follow::Yes), Ok(found));
+/// # Ok::<(), gigbewu::Error>(())
+/// ```
+#[derive(Clone, Copy, Debug, PartialEq, Eq, Hash)]
 pub struct Found {
+    /// Its inode number. Numbers are never used again.
     pub number: u64,
+    /// What that number names.
     pub kind: Kind,
+    /// How many changes came before the moment of this answer.
     pub at: u64,
 }
 
-impl From<raw::Found> for Found {
-    fn from(found: raw::Found) -> Found {
+impl Found {
+    pub(crate) fn of(found: raw::Found) -> Found {
         Found {
             number: found.number,
             kind: Kind::of(found.kind),
@@ -39,107 +60,114 @@ impl From<raw::Found> for Found {
     }
 }
 
-/// What a change took away: what stood at the name, and whether that name was its last. Numbers are never used again.
-#[derive(Clone, Copy, Debug, PartialEq, Eq)]
-pub struct Gone {
+/// What a path leads to, and how many names that has.
+///
+/// ```
+/// # use gigbewu::{Cache, Stat, Kind, ROOT};
+/// # let mut pass = Cache::new(64, 100)?.pass()?;
+/// pass.create(ROOT, "/f")?;
+/// pass.link(ROOT, "/f", "/g")?;
+/// let two_names = Stat { number: 2, kind: Kind::File, count: 2, at: 2 };
+/// assert_eq!(pass.stat(ROOT, "/g"), Ok(two_names));
+/// # Ok::<(), gigbewu::Error>(())
+/// ```
+#[derive(Clone, Copy, Debug, PartialEq, Eq, Hash)]
+pub struct Stat {
+    /// Its inode number.
     pub number: u64,
+    /// What that number names.
     pub kind: Kind,
-    pub last: bool,
+    /// How many names it has, or of a directory how many entries.
+    pub count: u64,
+    /// How many changes came before the moment of this answer.
+    pub at: u64,
 }
 
-impl Gone {
-    pub(crate) fn of(gone: raw::Gone) -> Option<Gone> {
+impl Stat {
+    pub(crate) fn of(found: raw::Found) -> Stat {
+        Stat {
+            number: found.number,
+            kind: Kind::of(found.kind),
+            count: found.count,
+            at: found.at,
+        }
+    }
+}
+
+/// A change that made an inode, or gave one a further name.
+///
+/// ```
+/// # use gigbewu::{Cache, Made, ROOT};
+/// # let mut pass = Cache::new(64, 100)?.pass()?;
+/// assert_eq!(pass.mkdir(ROOT, "/d"), Ok(Made { number: 2, at: 0 }));
+/// # Ok::<(), gigbewu::Error>(())
+/// ```
+#[derive(Clone, Copy, Debug, PartialEq, Eq, Hash)]
+pub struct Made {
+    /// The inode's number.
+    pub number: u64,
+    /// How many changes came before this one.
+    pub at: u64,
+}
+
+impl Made {
+    pub(crate) fn of(found: raw::Found) -> Made {
+        Made {
+            number: found.number,
+            at: found.at,
+        }
+    }
+}
+
+/// A change that took a name away, or gave what it named another one.
+///
+/// ```
+/// # use gigbewu::{Cache, Done, Replace, ROOT};
+/// # let mut pass = Cache::new(64, 100)?.pass()?;
+/// pass.mkdir(ROOT, "/d")?;
+/// let moved = pass.rename(ROOT, "/d", "/e", Replace::Yes);
+/// assert_eq!(moved, Ok(Done { at: 1, gone: None }));
+/// # Ok::<(), gigbewu::Error>(())
+/// ```
+#[derive(Clone, Copy, Debug, PartialEq, Eq, Hash)]
+pub struct Done {
+    /// How many changes came before this one.
+    pub at: u64,
+    /// What went. A rename takes nothing away if nothing stood at the new name, if it exchanges two names, and if both
+    /// name one inode.
+    pub gone: Option<Gone>,
+}
+
+impl Done {
+    pub(crate) fn of(found: raw::Found, gone: raw::Gone) -> Done {
         let told = Gone {
             number: gone.number,
             kind: Kind::of(gone.kind),
             last: gone.last != 0,
         };
-        (gone.number != 0).then_some(told)
-    }
-}
-
-/// Why [`Pass::look_fast`](crate::Pass::look_fast) has no answer.
-#[derive(Clone, Copy, Debug, PartialEq, Eq)]
-pub enum Why {
-    /// No row tells of a name that is asked for.
-    Miss,
-    /// A row was being changed.
-    Busy,
-    /// A row that was used has changed since.
-    Changed,
-    /// More rows would be used than can be noted.
-    Long,
-    /// No row has the text of a link.
-    Link,
-}
-
-/// Why a call did not do what it was asked for.
-#[derive(Clone, Copy, Debug, PartialEq, Eq)]
-pub enum Error {
-    /// The tree refuses it, by Linux's number of an error (`ENOENT` is 2), at a moment as [`Found`] has it.
-    Refused { errno: i32, at: u64 },
-    /// The rows don't answer; [`Pass::look`](crate::Pass::look) does.
-    Again(Why),
-    /// Out of memory. The tree is as it was.
-    NoMemory,
-    /// No more changes can be made.
-    Spent,
-    /// Not those numbers of buckets or inodes.
-    BadSize,
-    /// Fewer changes have been made: this many.
-    NotYet(u64),
-    /// An answer that this crate's types leave no way to.
-    Other(i32),
-}
-
-impl Error {
-    pub(crate) fn of(answer: i32, found: &raw::Found) -> Error {
-        match answer {
-            1.. => Error::Refused {
-                errno: answer,
-                at: found.at,
-            },
-            -2 => Error::Again(
-                [
-                    Why::Busy,
-                    Why::Miss,
-                    Why::Busy,
-                    Why::Changed,
-                    Why::Long,
-                    Why::Link,
-                ][found.why.min(5) as usize],
-            ),
-            -3 => Error::NoMemory,
-            -4 => Error::Spent,
-            -5 => Error::BadSize,
-            _ => Error::Other(answer),
-        }
-    }
-
-    /// The number of a refusal.
-    pub fn errno(&self) -> Option<i32> {
-        match self {
-            Error::Refused { errno, .. } => Some(*errno),
-            _ => None,
+        Done {
+            at: found.at,
+            gone: (gone.number != 0).then_some(told),
         }
     }
 }
 
-impl fmt::Display for Error {
-    fn fmt(&self, f: &mut fmt::Formatter<'_>) -> fmt::Result {
-        match self {
-            Error::Refused { errno, .. } => write!(f, "{}", io::Error::from_raw_os_error(*errno)),
-            Error::Again(why) => write!(f, "the rows don't answer: {why:?}"),
-            Error::NoMemory => write!(f, "no memory"),
-            Error::Spent => write!(f, "no more changes can be made"),
-            Error::BadSize => write!(
-                f,
-                "buckets are a power of two up to 1,048,576, inodes 1 to 1,048,576"
-            ),
-            Error::NotYet(clock) => write!(f, "only {clock} changes were made"),
-            Error::Other(answer) => write!(f, "answer {answer}"),
-        }
-    }
+/// What a change took away, so that the caller can let go of what it keeps by inode number.
+///
+/// ```
+/// # use gigbewu::{Cache, Gone, Kind, ROOT};
+/// # let mut pass = Cache::new(64, 100)?.pass()?;
+/// pass.create(ROOT, "/f")?;
+/// let gone = pass.unlink(ROOT, "/f")?.gone;
+/// assert_eq!(gone, Some(Gone { number: 2, kind: Kind::File, last: true }));
+/// # Ok::<(), gigbewu::Error>(())
+/// ```
+#[derive(Clone, Copy, Debug, PartialEq, Eq, Hash)]
+pub struct Gone {
+    /// The number of what stood at the name.
+    pub number: u64,
+    /// What that number named.
+    pub kind: Kind,
+    /// Whether that name was its last one. Numbers are never used again.
+    pub last: bool,
 }
-
-impl error::Error for Error {}

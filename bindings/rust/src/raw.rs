@@ -1,7 +1,14 @@
-//! The functions of `gigbewu.h` that are called here.
+//! The functions and numbers of `gigbewu.h`.
 
 use std::ffi::c_void;
 use std::os::raw::{c_char, c_int};
+
+pub const BUSY: c_int = -1;
+pub const AGAIN: c_int = -2;
+pub const NO_MEMORY: c_int = -3;
+pub const SPENT: c_int = -4;
+pub const BAD_SIZE: c_int = -5;
+pub const NOT_YET: c_int = -8;
 
 #[repr(C)]
 pub struct Pass {

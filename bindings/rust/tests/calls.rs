@@ -1,60 +1,42 @@
-//! Each call once, and refusals as errors.
+//! Each call once, refusals as errors, and what may stand for a path.
 
 use gigbewu::{Cache, Error, Follow, Gone, Kind, Replace, Why, ROOT};
-use std::thread;
+use std::borrow::Cow;
+use std::ffi::{OsStr, OsString};
+use std::io;
+use std::os::unix::ffi::OsStrExt;
+use std::path::{Path, PathBuf};
 
 #[test]
 fn each_call() -> Result<(), Error> {
     let cache = Cache::new(256, 100)?;
     let mut pass = cache.pass()?;
-    assert_eq!(pass.mkdir(ROOT, b"/d")?.number, 2);
-    assert_eq!(pass.create(2, b"f")?.number, 3);
-    assert_eq!(pass.symlink(ROOT, b"d/f", b"/l")?.number, 4);
-    assert_eq!(pass.link(ROOT, b"/d/f", b"/h")?.number, 3);
-    assert_eq!(pass.look(ROOT, b"/l", Follow::No)?.kind, Kind::Link);
-    assert_eq!(pass.stat(ROOT, b"/l")?.1, 2);
-    assert_eq!(pass.readlink(ROOT, b"/l")?, b"d/f");
-    assert_eq!(pass.readlink_fast(ROOT, b"/l")?.kind, Kind::Link);
-    pass.look(ROOT, b"/d/f", Follow::Yes)?;
-    let refused = pass.readlink_fast(ROOT, b"/d/f").unwrap_err();
-    assert_eq!(
-        (refused.errno(), pass.readlink(ROOT, b"/d/f")),
-        (Some(22), Err(refused))
-    );
+    assert_eq!(pass.mkdir(ROOT, "/d")?.number, 2);
+    assert_eq!(pass.create(2, "f")?.number, 3);
+    assert_eq!(pass.symlink(ROOT, "d/f", "/l")?.number, 4);
+    assert_eq!(pass.link(ROOT, "/d/f", "/h")?.number, 3);
+    assert_eq!(pass.look(ROOT, "/l", Follow::No)?.kind, Kind::Link);
+    assert_eq!(pass.stat(ROOT, "/l")?.count, 2);
+    assert_eq!(pass.readlink(ROOT, "/l")?, Path::new("d/f"));
+    assert_eq!(pass.readlink_fast(ROOT, "/l")?.kind, Kind::Link);
+    pass.look(ROOT, "/d/f", Follow::Yes)?;
+    let refused = pass.readlink_fast(ROOT, "/d/f").unwrap_err();
+    assert_eq!(refused.errno(), Some(22));
+    assert_eq!(pass.readlink(ROOT, "/d/f"), Err(refused));
     assert_eq!(pass.evictions()?, 0);
-    let mut names = pass.list(ROOT, b"/")?;
+    let mut names: Vec<_> = pass.read_dir(ROOT, "/")?.collect();
     names.sort();
-    assert_eq!(names, [&b"d"[..], b"h", b"l"]);
-    let file = Gone {
-        number: 3,
-        kind: Kind::File,
-        last: false,
-    };
-    assert_eq!(pass.unlink(ROOT, b"/h")?.gone, Some(file));
-    assert_eq!(
-        pass.rename(ROOT, b"/l", b"/d/f", Replace::Exchange)?.gone,
-        None
-    );
-    assert_eq!(
-        pass.rename(ROOT, b"/l", b"/d/f", Replace::Yes)?.gone,
-        Some(Gone {
-            number: 4,
-            kind: Kind::Link,
-            last: true
-        })
-    );
-    assert_eq!(
-        pass.unlink(ROOT, b"/d/f")?.gone,
-        Some(Gone { last: true, ..file })
-    );
-    assert_eq!(
-        pass.rmdir(ROOT, b"/d")?.gone,
-        Some(Gone {
-            number: 2,
-            kind: Kind::Dir,
-            last: true
-        })
-    );
+    assert_eq!(names, ["d", "h", "l"]);
+    let gone = |number, kind, last| Some(Gone { number, kind, last });
+    let file = gone(3, Kind::File, false);
+    assert_eq!(pass.unlink(ROOT, "/h")?.gone, file);
+    let mut rename = |replace| pass.rename(ROOT, "/l", "/d/f", replace);
+    assert_eq!(rename(Replace::Exchange)?.gone, None);
+    assert_eq!(rename(Replace::Yes)?.gone, gone(4, Kind::Link, true));
+    let last = gone(3, Kind::File, true);
+    assert_eq!(pass.unlink(ROOT, "/d/f")?.gone, last);
+    let directory = gone(2, Kind::Dir, true);
+    assert_eq!(pass.rmdir(ROOT, "/d")?.gone, directory);
     assert_eq!(pass.learn(9)?, 9);
     assert_eq!(pass.learn(10), Err(Error::NotYet(9)));
     assert!(pass.shrink(u64::MAX)? <= 4 * 256);
@@ -65,62 +47,105 @@ fn each_call() -> Result<(), Error> {
 fn long_lists() -> Result<(), Error> {
     let cache = Cache::new(1_024, 1_001)?;
     let mut pass = cache.pass()?;
-    let made: Vec<_> = (0..1_000)
-        .map(|number| format!("name_{number:04}").into_bytes())
-        .collect();
+    let made: Vec<_> = (0..1_000).map(|it| format!("name_{it:04}")).collect();
     for name in &made {
         pass.create(ROOT, name)?;
     }
-    let mut names = pass.list(ROOT, b"/")?;
-    names.sort();
-    assert_eq!(names, made);
+    let names = pass.list(ROOT, "/")?;
+    let mut told: Vec<_> = names.iter().collect();
+    told.sort_unstable();
+    assert!(told.iter().copied().eq(made.iter().map(String::as_bytes)));
+    assert_eq!((names.at(), names.is_empty()), (1_000, false));
+    let mut owned: Vec<_> = pass.read_dir(ROOT, "/")?.collect();
+    owned.sort();
+    assert!(owned
+        .iter()
+        .eq(&made.iter().map(OsString::from).collect::<Vec<_>>()));
     Ok(())
 }
 
-/// A joined pass ends; one of another cache is given back, and is as it was.
+/// The lists of an empty directory end at once, and stay at their end.
 #[test]
-fn passes_are_joined() -> Result<(), Error> {
-    let cache = Cache::new(1, 2)?;
-    let mut pass = cache.pass()?;
-    let mut foreign = Cache::new(1, 1)?.pass()?;
-    assert!(pass.join(cache.pass()?).is_ok());
-    foreign = pass.join(foreign).err().expect("a pass of another cache");
-    assert_eq!(foreign.look(ROOT, b"/", Follow::Yes)?.number, ROOT);
+fn no_names() -> Result<(), Error> {
+    let mut pass = Cache::new(1, 1)?.pass()?;
+    let names = pass.list(ROOT, "/")?;
+    assert!(names.is_empty());
+    assert_eq!(names.iter().next(), None);
+    let mut owned = pass.read_dir(ROOT, "/")?;
+    assert_eq!((owned.next(), owned.next()), (None, None));
+    Ok(())
+}
+
+#[test]
+fn what_stands_for_a_path() -> Result<(), Error> {
+    let mut pass = Cache::new(64, 100)?.pass()?;
+    let bytes = b"/\xffname";
+    let made = pass.create(ROOT, bytes)?.number;
+    let text = OsStr::from_bytes(bytes);
+    let mut numbers = vec![
+        pass.look(ROOT, &bytes[..], Follow::Yes)?.number,
+        pass.look(ROOT, bytes.to_vec(), Follow::Yes)?.number,
+        pass.look(ROOT, text, Follow::Yes)?.number,
+        pass.look(ROOT, OsString::from(text), Follow::Yes)?.number,
+        pass.look(ROOT, Path::new(text), Follow::Yes)?.number,
+        pass.look(ROOT, PathBuf::from(text), Follow::Yes)?.number,
+        pass.look(ROOT, Cow::Borrowed(Path::new(text)), Follow::Yes)?
+            .number,
+    ];
+    numbers.dedup();
+    assert_eq!(numbers, [made]);
+    assert_eq!(
+        pass.read_dir(ROOT, "/")?.next(),
+        Some(OsStr::from_bytes(&bytes[1..]).into())
+    );
+    let link = pass.symlink(ROOT, text, String::from("/l"))?.number;
+    assert_eq!(pass.readlink(ROOT, "/l")?, Path::new(text));
+    assert_eq!(pass.look(ROOT, "l", Follow::No)?.number, link);
     Ok(())
 }
 
 #[test]
 fn refusals() -> Result<(), Error> {
     assert_eq!(Cache::new(3, 1).err(), Some(Error::BadSize));
+    assert_eq!(Cache::new(1, 0).err(), Some(Error::BadSize));
     let mut pass = Cache::new(1, 1)?.pass()?;
-    let refused = pass.create(ROOT, b"/f").unwrap_err();
+    let refused = pass.create(ROOT, "/f").unwrap_err();
     assert_eq!(refused, Error::Refused { errno: 28, at: 0 });
     assert!(refused.to_string().contains("No space left"));
-    assert_eq!(
-        pass.look(ROOT, b"", Follow::Yes).unwrap_err().errno(),
-        Some(2)
-    );
-    assert_eq!(
-        pass.look(ROOT, b"a\0", Follow::Yes).unwrap_err().errno(),
-        Some(22)
-    );
-    assert_eq!(
-        pass.look(ROOT, &[b'n'; 256], Follow::Yes)
-            .unwrap_err()
-            .errno(),
-        Some(36)
-    );
-    assert_eq!(
-        pass.look_fast(ROOT, &[b'n'; 255], Follow::Yes),
-        Err(Error::Again(Why::Miss))
-    );
+    let mut refusal = |path: &[u8]| pass.look(ROOT, path, Follow::Yes).unwrap_err().errno();
+    assert_eq!(refusal(b""), Some(2));
+    assert_eq!(refusal(b"a\0"), Some(22));
+    assert_eq!(refusal(&[b'n'; 256]), Some(36));
+    let miss = Err(Error::Again(Why::Miss));
+    assert_eq!(pass.look_fast(ROOT, [b'n'; 255], Follow::Yes), miss);
     Ok(())
+}
+
+#[test]
+fn errors_of_the_standard_library() {
+    let kinds = [
+        (Error::Refused { errno: 2, at: 7 }, io::ErrorKind::NotFound),
+        (
+            Error::Refused { errno: 17, at: 0 },
+            io::ErrorKind::AlreadyExists,
+        ),
+        (Error::Again(Why::Changed), io::ErrorKind::WouldBlock),
+        (Error::NotYet(3), io::ErrorKind::WouldBlock),
+        (Error::NoMemory, io::ErrorKind::OutOfMemory),
+        (Error::BadSize, io::ErrorKind::InvalidInput),
+        (Error::Spent, io::ErrorKind::Other),
+    ];
+    for (error, kind) in kinds {
+        assert_eq!(io::Error::from(error).kind(), kind, "{error}");
+    }
+    let refused = io::Error::from(Error::Refused { errno: 39, at: 0 });
+    assert_eq!(refused.raw_os_error(), Some(39));
 }
 
 #[test]
 fn one_name_more_than_can_be_noted() -> Result<(), Error> {
     let mut pass = Cache::new(1_024, 300)?.pass()?;
-    let path = b"/a".repeat(257);
+    let path = "/a".repeat(257);
     for names in 1..=257 {
         pass.mkdir(ROOT, &path[..2 * names])?;
     }
@@ -130,25 +155,5 @@ fn one_name_more_than_can_be_noted() -> Result<(), Error> {
     let deep = &path[..2 * 256];
     pass.look(ROOT, deep, Follow::Yes)?;
     assert_eq!(pass.look_fast(ROOT, deep, Follow::Yes)?.kind, Kind::Dir);
-    Ok(())
-}
-
-/// Threads that take the lock at once get all their changes done.
-#[test]
-fn four_threads_change() -> Result<(), Error> {
-    let cache = Cache::new(256, 100)?;
-    thread::scope(|threads| {
-        for thread in 0..4 {
-            let mut pass = cache.pass().unwrap();
-            threads.spawn(move || {
-                let name = [b'a' + thread];
-                for _ in 0..5_000 {
-                    pass.create(ROOT, &name).unwrap();
-                    pass.unlink(ROOT, &name).unwrap();
-                }
-            });
-        }
-    });
-    assert_eq!(cache.pass()?.learn(0)?, 40_000);
     Ok(())
 }

@@ -1,0 +1,103 @@
+//! A cache, of which threads get their passes.
+
+use crate::error::Error;
+use crate::pass::{done, Pass, Shared};
+use crate::raw;
+use std::ffi::c_void;
+use std::sync::atomic::{AtomicPtr, Ordering::SeqCst};
+use std::sync::Arc;
+use std::{fmt, mem, ptr};
+
+/// A cache, which threads share. It ends with its last pass, or with itself if that comes later.
+///
+/// ```
+/// use gigbewu::{Cache, ROOT};
+/// use std::thread;
+///
+/// let cache = Cache::new(256, 65_536)?;
+/// thread::scope(|threads| {
+///     for name in ["a", "b"] {
+///         let cache = &cache;
+///         threads.spawn(move || cache.pass()?.mkdir(ROOT, name));
+///     }
+/// });
+/// assert_eq!(cache.pass()?.read_dir(ROOT, "/")?.count(), 2);
+/// # Ok::<(), gigbewu::Error>(())
+/// ```
+pub struct Cache {
+    /// The pass that others are split off, which makes no calls. Null while a thread has taken it out to split it.
+    first: AtomicPtr<c_void>,
+    shared: Arc<Shared>,
+}
+
+impl Cache {
+    /// `buckets`, of four rows each, is a power of two from 1 to 1,048,576. `inodes` is how many may live at once, the root
+    /// among them, from 1 to 1,048,576. A name that is looked up takes a row: have two to four times as many rows as names.
+    ///
+    /// ```
+    /// use gigbewu::{Cache, Error};
+    ///
+    /// assert!(Cache::new(1_024, 1_000).is_ok());
+    /// assert_eq!(Cache::new(1_000, 1_000).unwrap_err(), Error::BadSize);
+    /// ```
+    pub fn new(buckets: u64, inodes: u64) -> Result<Cache, Error> {
+        let mut first = raw::Pass {
+            at: ptr::null_mut(),
+        };
+        // SAFETY: the pass is blank, and no other thread has its address.
+        let answer = unsafe { raw::gb_cache_new(buckets, inodes, &mut first) };
+        done(answer, raw::Found::default())?;
+        Ok(Cache {
+            first: AtomicPtr::new(first.at),
+            shared: Arc::default(),
+        })
+    }
+
+    /// A pass for one thread. Any number of threads may ask at once, and none takes the cache's lock: each takes the
+    /// cache's own pass out by an atomic exchange and puts it back, and one that finds it out tries again. A thread that
+    /// has a pass can [split](Pass::split) that instead, beside all others.
+    ///
+    /// ```
+    /// use gigbewu::Cache;
+    ///
+    /// fn share<T: Send + Sync>(_: &T) {}
+    ///
+    /// let cache = Cache::new(64, 100)?;
+    /// share(&cache);
+    /// let pass = cache.pass()?;
+    /// std::thread::spawn(move || drop(pass));
+    /// # Ok::<(), gigbewu::Error>(())
+    /// ```
+    pub fn pass(&self) -> Result<Pass, Error> {
+        let mut other = Pass::blank(&self.shared);
+        let answer = self.shared.gate.answer(|| {
+            let mut first = raw::Pass {
+                at: self.first.swap(ptr::null_mut(), SeqCst),
+            };
+            if first.at.is_null() {
+                return raw::BUSY;
+            }
+            // SAFETY: no other thread has this pass until it is put back, both by seq_cst steps; the other one is blank.
+            let answer = unsafe { raw::gb_pass_split(&mut first, other.raw()) };
+            self.first.store(first.at, SeqCst);
+            answer
+        });
+        done(answer, raw::Found::default())?;
+        Ok(other)
+    }
+}
+
+impl fmt::Debug for Cache {
+    fn fmt(&self, f: &mut fmt::Formatter<'_>) -> fmt::Result {
+        f.debug_struct("Cache").finish_non_exhaustive()
+    }
+}
+
+impl Drop for Cache {
+    /// Its own pass is closed as every other one is.
+    fn drop(&mut self) {
+        let at = mem::replace(self.first.get_mut(), ptr::null_mut());
+        let mut first = Pass::blank(&self.shared);
+        first.raw().at = at;
+    }
+}

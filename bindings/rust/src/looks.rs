@@ -1,0 +1,202 @@
+//! The calls that look.
+
+use crate::answer::{Found, Stat};
+use crate::error::Error;
+use crate::names::{Names, ReadDir};
+use crate::pass::{text, Pass};
+use crate::path::AsPathBytes;
+use crate::raw;
+use std::ffi::OsString;
+use std::os::raw::c_char;
+use std::os::unix::ffi::OsStringExt;
+use std::path::PathBuf;
+
+const LONGEST_TEXT: usize = 4_095;
+const FIRST_ROOM: usize = 4_096;
+
+/// What becomes of a symbolic link at a path's end. Links before the end are always followed.
+///
+/// ```
+/// # use gigbewu::{Cache, Follow, Kind, ROOT};
+/// # let mut pass = Cache::new(64, 100)?.pass()?;
+/// pass.create(ROOT, "/f")?;
+/// pass.symlink(ROOT, "f", "/l")?;
+/// assert_eq!(pass.look(ROOT, "/l", Follow::Yes)?.kind, Kind::File);
+/// assert_eq!(pass.look(ROOT, "/l", Follow::No)?.kind, Kind::Link);
+/// const ENOTDIR: i32 = 20;
+/// let refused = pass.look(ROOT, "/l", Follow::Directory).unwrap_err();
+/// assert_eq!(refused.errno(), Some(ENOTDIR));
+/// # Ok::<(), gigbewu::Error>(())
+/// ```
+#[derive(Clone, Copy, Debug, PartialEq, Eq, Hash)]
+pub enum Follow {
+    /// It is followed.
+    Yes = 0,
+    /// It is kept, unless a slash is behind it.
+    No = 1,
+    /// It is followed, and has to lead to a directory.
+    Directory = 2,
+}
+
+// SAFETY of each call below: the pass is open and borrowed alone, as `ask` and `ask_once` say, and each other pointer leads
+// to as many bytes as is said, which nobody else writes meanwhile: they are borrowed, or this function's.
+impl Pass {
+    /// Looks a path up by the rows alone, without a lock and without memory, and never waits. If it answers
+    /// [`Error::Again`], [`Pass::look`] answers.
+    ///
+    /// ```
+    /// # use gigbewu::{Cache, Error, Follow, Why, ROOT};
+    /// # let mut pass = Cache::new(64, 100)?.pass()?;
+    /// let miss = Err(Error::Again(Why::Miss));
+    /// assert_eq!(pass.look_fast(ROOT, "/a", Follow::Yes), miss);
+    /// let refused = pass.look(ROOT, "/a", Follow::Yes); // which fills rows
+    /// assert_eq!(pass.look_fast(ROOT, "/a", Follow::Yes), refused);
+    /// # Ok::<(), gigbewu::Error>(())
+    /// ```
+    pub fn look_fast<P: AsPathBytes>(
+        &mut self,
+        base: u64,
+        path: P,
+        follow: Follow,
+    ) -> Result<Found, Error> {
+        let path = path.as_path_bytes();
+        self.ask_once(|pass, found| unsafe {
+            raw::gb_look_fast(pass, base, text(path), path.len(), follow as u32, found)
+        })
+        .map(Found::of)
+    }
+
+    /// Looks a path up: by the rows, or if these don't answer under the lock, which fills them.
+    ///
+    /// ```
+    /// # use gigbewu::{Cache, Follow, ROOT};
+    /// # let mut pass = Cache::new(64, 100)?.pass()?;
+    /// let directory = pass.mkdir(ROOT, "/a")?.number;
+    /// assert_eq!(pass.look(ROOT, "/a/..", Follow::Yes)?.number, ROOT);
+    /// assert_eq!(pass.look(directory, ".", Follow::Yes)?.number, directory);
+    /// # Ok::<(), gigbewu::Error>(())
+    /// ```
+    pub fn look<P: AsPathBytes>(
+        &mut self,
+        base: u64,
+        path: P,
+        follow: Follow,
+    ) -> Result<Found, Error> {
+        let path = path.as_path_bytes();
+        match self.look_fast(base, path, follow) {
+            Err(Error::Again(_)) => {}
+            answered => return answered,
+        }
+        self.ask(|pass, found| unsafe {
+            raw::gb_try_look(pass, base, text(path), path.len(), follow as u32, found)
+        })
+        .map(Found::of)
+    }
+
+    /// What a path leads to, a last link followed, and how many names it has, or a directory entries.
+    ///
+    /// ```
+    /// # use gigbewu::{Cache, ROOT};
+    /// # let mut pass = Cache::new(64, 100)?.pass()?;
+    /// pass.mkdir(ROOT, "/a")?;
+    /// pass.mkdir(ROOT, "/a/b")?;
+    /// assert_eq!(pass.stat(ROOT, "/a")?.count, 1);
+    /// # Ok::<(), gigbewu::Error>(())
+    /// ```
+    pub fn stat<P: AsPathBytes>(&mut self, base: u64, path: P) -> Result<Stat, Error> {
+        let path = path.as_path_bytes();
+        self.ask(|pass, found| unsafe {
+            raw::gb_try_stat(pass, base, text(path), path.len(), found)
+        })
+        .map(Stat::of)
+    }
+
+    /// What the rows alone tell of a [`readlink`](Pass::readlink), without a lock and without memory: its refusal, or the
+    /// link that the path leads to.
+    ///
+    /// ```
+    /// # use gigbewu::{Cache, Follow, ROOT};
+    /// # let mut pass = Cache::new(64, 100)?.pass()?;
+    /// pass.create(ROOT, "/f")?;
+    /// pass.look(ROOT, "/f", Follow::Yes)?;
+    /// const EINVAL: i32 = 22;
+    /// let no_link = pass.readlink_fast(ROOT, "/f").unwrap_err();
+    /// assert_eq!(no_link.errno(), Some(EINVAL));
+    /// # Ok::<(), gigbewu::Error>(())
+    /// ```
+    pub fn readlink_fast<P: AsPathBytes>(&mut self, base: u64, path: P) -> Result<Found, Error> {
+        let path = path.as_path_bytes();
+        self.ask_once(|pass, found| unsafe {
+            raw::gb_readlink_fast(pass, base, text(path), path.len(), found)
+        })
+        .map(Found::of)
+    }
+
+    /// The text of a symbolic link. If the path leads to none, the rows may tell, without the lock.
+    ///
+    /// ```
+    /// # use gigbewu::{Cache, ROOT};
+    /// # use std::path::Path;
+    /// # let mut pass = Cache::new(64, 100)?.pass()?;
+    /// pass.symlink(ROOT, "../a", "/l")?;
+    /// assert_eq!(pass.readlink(ROOT, "/l")?, Path::new("../a"));
+    /// # Ok::<(), gigbewu::Error>(())
+    /// ```
+    pub fn readlink<P: AsPathBytes>(&mut self, base: u64, path: P) -> Result<PathBuf, Error> {
+        let path = path.as_path_bytes();
+        match self.readlink_fast(base, path) {
+            Ok(_) | Err(Error::Again(_)) => {}
+            Err(refused) => return Err(refused),
+        }
+        let mut read = vec![0; LONGEST_TEXT];
+        let to: *mut c_char = read.as_mut_ptr().cast();
+        let found = self.ask(|pass, found| unsafe {
+            raw::gb_try_readlink(pass, base, text(path), path.len(), to, LONGEST_TEXT, found)
+        })?;
+        read.truncate(found.count as usize);
+        read.shrink_to_fit();
+        Ok(OsString::from_vec(read).into())
+    }
+
+    /// The names in a directory at one moment, in no promised order, without dot and dot-dot, as bytes.
+    ///
+    /// ```
+    /// # use gigbewu::{Cache, ROOT};
+    /// # let mut pass = Cache::new(64, 100)?.pass()?;
+    /// pass.create(ROOT, b"/\xff")?;
+    /// assert_eq!(pass.list(ROOT, "/")?.iter().next(), Some(&b"\xff"[..]));
+    /// # Ok::<(), gigbewu::Error>(())
+    /// ```
+    pub fn list<P: AsPathBytes>(&mut self, base: u64, path: P) -> Result<Names, Error> {
+        let path = path.as_path_bytes();
+        let mut names = vec![0; FIRST_ROOM];
+        loop {
+            let (to, room): (*mut c_char, _) = (names.as_mut_ptr().cast(), names.len());
+            let found = self.ask(|pass, found| unsafe {
+                raw::gb_try_list(pass, base, text(path), path.len(), to, room, found)
+            })?;
+            let size = found.count as usize;
+            if size <= room {
+                names.truncate(size);
+                return Ok(Names::new(names, found.at));
+            }
+            // Names may come meanwhile, so there is room for more.
+            names.resize(2 * size, 0);
+        }
+    }
+
+    /// The same, each name owned, as what it is called with elsewhere.
+    ///
+    /// ```
+    /// # use gigbewu::{Cache, ROOT};
+    /// # let mut pass = Cache::new(64, 100)?.pass()?;
+    /// pass.mkdir(ROOT, "/a")?;
+    /// pass.create(ROOT, "/a/f")?;
+    /// let names: Vec<_> = pass.read_dir(ROOT, "/a")?.collect();
+    /// assert_eq!(names, ["f"]);
+    /// # Ok::<(), gigbewu::Error>(())
+    /// ```
+    pub fn read_dir<P: AsPathBytes>(&mut self, base: u64, path: P) -> Result<ReadDir, Error> {
+        self.list(base, path).map(ReadDir::new)
+    }
+}

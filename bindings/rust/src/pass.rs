@@ -1,0 +1,236 @@
+//! A thread's way into a cache: how it begins, what it learns, and how it ends.
+
+use crate::answer::{Done, Made};
+use crate::error::Error;
+use crate::gate::Gate;
+use crate::raw;
+use std::os::raw::{c_char, c_int};
+use std::sync::{Arc, Mutex, PoisonError};
+use std::{fmt, ptr};
+
+/// What the passes of a cache share.
+#[derive(Default)]
+pub(crate) struct Shared {
+    pub(crate) gate: Gate,
+    closing: Mutex<()>,
+}
+
+/// A thread's way into a cache. It may move to another thread. It ends as it is dropped.
+///
+/// Making one takes 43 KB and 20 to 70 microseconds: keep one for each thread.
+///
+/// # How it ends
+///
+/// The last pass that ends takes the cache with it, and frees the tree and all memory. What other threads did with the
+/// cache has to come before that, also if nobody waits for these threads. It does: a thread drops a pass behind its calls
+/// with it, and the passes of one cache are closed one after the other, by a lock that only closing takes. So before the
+/// last one is closed, all others have been, and all their calls have returned. A pass that is [joined](Pass::join) ends
+/// before the pass that takes it in does.
+///
+/// ```
+/// use gigbewu::{Cache, ROOT};
+/// use std::thread;
+///
+/// let cache = Cache::new(64, 100)?;
+/// for name in ["a", "b", "c"] {
+///     let mut pass = cache.pass()?;
+///     thread::spawn(move || pass.create(ROOT, name)); // drops its pass at any time, maybe as the last
+/// }
+/// drop(cache);
+/// # Ok::<(), gigbewu::Error>(())
+/// ```
+pub struct Pass {
+    raw: raw::Pass,
+    shared: Arc<Shared>,
+}
+
+// SAFETY: any thread may call with an open pass, one at a time, which `&mut` says, and a move hands it over by what threads
+// hand values over by. The rest is `Send` by itself.
+unsafe impl Send for Pass {}
+
+pub(crate) fn text(bytes: &[u8]) -> *const c_char {
+    bytes.as_ptr().cast()
+}
+
+pub(crate) fn done(answer: c_int, found: raw::Found) -> Result<raw::Found, Error> {
+    if answer == 0 {
+        Ok(found)
+    } else {
+        Err(Error::of(answer, &found))
+    }
+}
+
+impl Pass {
+    pub(crate) fn blank(shared: &Arc<Shared>) -> Pass {
+        Pass {
+            raw: raw::Pass {
+                at: ptr::null_mut(),
+            },
+            shared: shared.clone(),
+        }
+    }
+
+    pub(crate) fn raw(&mut self) -> &mut raw::Pass {
+        &mut self.raw
+    }
+
+    /// Makes a call once. `call` hands pointers on that are good for its length.
+    pub(crate) fn ask_once(
+        &mut self,
+        call: impl FnOnce(*mut raw::Pass, *mut raw::Found) -> c_int,
+    ) -> Result<raw::Found, Error> {
+        let mut found = raw::Found::default();
+        let answer = call(&mut self.raw, &mut found);
+        done(answer, found)
+    }
+
+    /// Makes a call until the lock doesn't keep it off. `call` hands pointers on that are good for its length.
+    pub(crate) fn ask(
+        &mut self,
+        mut call: impl FnMut(*mut raw::Pass, *mut raw::Found) -> c_int,
+    ) -> Result<raw::Found, Error> {
+        let mut found = raw::Found::default();
+        let answer = self.shared.gate.answer(|| call(&mut self.raw, &mut found));
+        done(answer, found)
+    }
+
+    /// A change that makes or links.
+    pub(crate) fn make(
+        &mut self,
+        call: impl FnMut(*mut raw::Pass, *mut raw::Found) -> c_int,
+    ) -> Result<Made, Error> {
+        self.ask(call).map(Made::of)
+    }
+
+    /// A change that takes away.
+    pub(crate) fn take(
+        &mut self,
+        mut call: impl FnMut(*mut raw::Pass, *mut raw::Found, *mut raw::Gone) -> c_int,
+    ) -> Result<Done, Error> {
+        let mut gone = raw::Gone::default();
+        let found = self.ask(|pass, found| call(pass, found, &mut gone))?;
+        Ok(Done::of(found, gone))
+    }
+
+    /// Another pass of this cache, for another thread. It has seen what this one has, and gets no older answer. Takes no
+    /// lock.
+    ///
+    /// ```
+    /// # use gigbewu::{Cache, Follow, ROOT};
+    /// let mut pass = Cache::new(64, 100)?.pass()?;
+    /// pass.mkdir(ROOT, "/a")?;
+    /// let mut other = pass.split()?;
+    /// let looked = std::thread::spawn(move || other.look(ROOT, "/a", Follow::Yes));
+    /// assert_eq!(looked.join().unwrap()?.number, 2);
+    /// # Ok::<(), gigbewu::Error>(())
+    /// ```
+    pub fn split(&mut self) -> Result<Pass, Error> {
+        let mut other = Pass::blank(&self.shared);
+        // SAFETY: this pass is open and the other one blank; both are borrowed alone.
+        let answer = unsafe { raw::gb_pass_split(&mut self.raw, &mut other.raw) };
+        done(answer, raw::Found::default())?;
+        Ok(other)
+    }
+
+    /// Ends another pass of this cache: this one has then seen what either has seen. A pass of another cache is given back
+    /// and is as it was, unless passes of that cache are being joined in another thread at that moment: then it may end all
+    /// the same.
+    ///
+    /// ```
+    /// # use gigbewu::{Cache, Follow, ROOT};
+    /// let cache = Cache::new(64, 100)?;
+    /// let (mut pass, mut other) = (cache.pass()?, cache.pass()?);
+    /// other.mkdir(ROOT, "/a")?;
+    /// assert!(pass.join(other).is_ok());
+    /// assert!(pass.look(ROOT, "/a", Follow::Yes).is_ok());
+    ///
+    /// let foreign = Cache::new(64, 100)?.pass()?;
+    /// assert!(pass.join(foreign).is_err());
+    /// # Ok::<(), gigbewu::Error>(())
+    /// ```
+    pub fn join(&mut self, mut other: Pass) -> Result<(), Pass> {
+        // SAFETY: both passes are open and borrowed alone.
+        match unsafe { raw::gb_pass_join(&mut self.raw, &mut other.raw) } {
+            0 => Ok(()),
+            _ => Err(other),
+        }
+    }
+
+    /// How many changes were made, if at least `at` were. No later answer of this pass is older. So a thread that is told
+    /// of a change made at `at` learns `at + 1`, and then sees it. Takes no lock, and never waits.
+    ///
+    /// ```
+    /// # use gigbewu::{Cache, Error, ROOT};
+    /// let cache = Cache::new(64, 100)?;
+    /// let made = cache.pass()?.mkdir(ROOT, "/a")?;
+    /// let mut pass = cache.pass()?;
+    /// assert_eq!(pass.learn(made.at + 1), Ok(1));
+    /// assert_eq!(pass.learn(2), Err(Error::NotYet(1)));
+    /// # Ok::<(), gigbewu::Error>(())
+    /// ```
+    pub fn learn(&mut self, at: u64) -> Result<u64, Error> {
+        let mut clock = 0;
+        // SAFETY: the pass is open and borrowed alone, and the clock is this function's.
+        match unsafe { raw::gb_learn(&mut self.raw, at, &mut clock) } {
+            0 => Ok(clock),
+            raw::NOT_YET => Err(Error::NotYet(clock)),
+            answer => Err(Error::Other(answer)),
+        }
+    }
+
+    /// Empties up to `most` rows, the least recently used first, and answers how many. No later answer depends on it.
+    ///
+    /// ```
+    /// # use gigbewu::{Cache, Follow, ROOT};
+    /// # let mut pass = Cache::new(64, 100)?.pass()?;
+    /// pass.mkdir(ROOT, "/a")?;
+    /// pass.look(ROOT, "/a", Follow::Yes)?;
+    /// assert_eq!(pass.shrink(100)?, 1); // the row of "a" in the root
+    /// # Ok::<(), gigbewu::Error>(())
+    /// ```
+    pub fn shrink(&mut self, most: u64) -> Result<u64, Error> {
+        let mut emptied = 0;
+        // SAFETY: the pass is open and borrowed alone, and the number is this function's.
+        self.ask(|pass, _| unsafe { raw::gb_try_shrink(pass, most, &mut emptied) })?;
+        Ok(emptied)
+    }
+
+    /// How many rows have lost their name to another one since the cache was made, [shrinking](Pass::shrink) aside. If the
+    /// number keeps growing, the cache has too few buckets.
+    ///
+    /// ```
+    /// # use gigbewu::{Cache, Follow, ROOT};
+    /// let mut pass = Cache::new(1, 100)?.pass()?; // four rows
+    /// for name in ["a", "b", "c", "d", "e"] {
+    ///     assert!(pass.look(ROOT, name, Follow::Yes).is_err());
+    /// }
+    /// assert_eq!(pass.evictions()?, 1);
+    /// # Ok::<(), gigbewu::Error>(())
+    /// ```
+    pub fn evictions(&mut self) -> Result<u64, Error> {
+        let mut evictions = 0;
+        // SAFETY: the pass is open and borrowed alone, and the number is this function's.
+        let answer = unsafe { raw::gb_counts(&mut self.raw, &mut evictions) };
+        done(answer, raw::Found::default()).map(|_| evictions)
+    }
+}
+
+impl fmt::Debug for Pass {
+    fn fmt(&self, f: &mut fmt::Formatter<'_>) -> fmt::Result {
+        f.debug_struct("Pass").finish_non_exhaustive()
+    }
+}
+
+impl Drop for Pass {
+    /// The header wants all that other threads did with the cache to come before the close that frees it. Under this lock
+    /// each close comes before the next one, and each thread's calls come before its own close.
+    fn drop(&mut self) {
+        let _one_by_one = self
+            .shared
+            .closing
+            .lock()
+            .unwrap_or_else(PoisonError::into_inner);
+        // SAFETY: nobody else has the pass. A blank one is refused.
+        unsafe { raw::gb_close(&mut self.raw) };
+    }
+}
