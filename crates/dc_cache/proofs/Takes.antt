@@ -84,8 +84,8 @@ makes_once telling p q u back g h call made going t out none locked still is cam
     let rows : rows_of h ≡ (known back.now).got = (λ i. rows_as (same i).view.hold.history (same i).view.hold.words (still.kept i)) ∙ rows_got (known u) (known (seat_of g)) (kept_by g) took ∙ ap (λ (k : Known). k.got) (sym same) ∙ sym came.got in
     let past : (known (seat_of h)).past ≡ (known p).past = ap (λ (k : Known). k.past) same ∙ ap (λ (k : Known). k.past) took.now ∙ out.untried.past in
     let stood : t ≡ tree_of (share p).limit (known q).got.history =
-        tree ∙ ap (λ (x : Guarded). x.store) still.kept ∙ took.home.tree ∙ ap (λ (k : Known). tree_of k.share.limit k.view.hold.history) (sym same) ∙ ap (λ (z : Share). tree_of z.limit (view (seat_of h)).hold.history) same_share
-        ∙ ap (λ (s : RowState). tree_of (share p).limit s.history) (rows ∙ sym (ap (λ (z : seats.Pass). (known z).got) is)) in
+    tree ∙ ap (λ (x : Guarded). x.store) still.kept ∙ took.home.tree ∙ ap (λ (k : Known). tree_of k.share.limit k.view.hold.history) (sym same) ∙ ap (λ (z : Share). tree_of z.limit (view (seat_of h)).hold.history) same_share
+    ∙ ap (λ (s : RowState). tree_of (share p).limit s.history) (rows ∙ sym (ap (λ (z : seats.Pass). (known z).got) is)) in
     record {
       once = once_since (known p) (known (seat_of h)) back.now q is past came.once;
       makes = makes_since (rows_of h) p (seat_of h) back.now q call made nothing same_share is rows m;

@@ -22,7 +22,7 @@ look_there base text = Look base text follow.No
 abbrev pub ReadsAs : ℕ → List ℕ → Answer → Answer → Type 0
 ReadsAs base text looked read = (limit : ℕ) (history : List Request) → reply_of limit (tree_of limit history) (look_there base text) ≡ looked → reply_of limit (tree_of limit history) (Readlink base text) ≡ read
 
--- what is told of a readlink where that look-up is so answered: its reply, or that it finds a link
+-- what is told of a readlink if that look-up is so answered: its reply, or that it finds a link
 abbrev pub TellsOf : ℕ → List ℕ → Stamped → rust_link.FastLink → Type 0
 TellsOf base text found (links.Refused stamped) = (stamped.at ≡ found.at) × ReadsAs base text (answer_of found.reply) (answer_of stamped.reply)
 TellsOf base text found (links.Link stamped) = (stamped ≡ found) × ((number : ℕ) × (answer_of found.reply ≡ Found number kinds.Link))

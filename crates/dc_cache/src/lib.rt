@@ -88,7 +88,7 @@
 //! that altered the tree ends one above its `at`. What a pass has seen is past for it: none of its later
 //! calls takes effect before that. To see what another thread did, learn its point p by any means, and
 //! call `learn(pass, p + 1)`: then every later call of this pass comes after that change. `learn` answers
-//! `NotYet` for a number that the cache hasn't come to.
+//! `NotYet` for a number that the cache has not come to.
 //!
 //! `Follow` says what becomes of a link that a path ends in, as AT_SYMLINK_NOFOLLOW and O_DIRECTORY do.
 //!

@@ -28,7 +28,7 @@ pub enum FastLink {
 }
 
 impl<W: Wakes> Cache<W> {
-    /// What a `readlink` is answered by the rows of the cache alone, where the path leads to no link: it
+    /// What a `readlink` is answered by the rows of the cache alone, if the path leads to no link: it
     /// takes no lock and no memory, never waits, and makes at most `MOST_LOADS` loads. It looks the path
     /// up without following a last link, and what is recorded is that look-up: a readlink on the tree of
     /// its point would have had this reply (EINVAL for what is no link, as POSIX.1-2017 has it).

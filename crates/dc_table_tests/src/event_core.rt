@@ -142,7 +142,7 @@ fn goes(core: &mut Core, alloc: Global, it: &Step) -> bool {
     }
 }
 
-/// Takes the steps, and fails where one goes otherwise.
+/// Takes the steps, and fails if one goes otherwise.
 fn play(core: &mut Core, alloc: Global, steps: &[Step]) -> Result<(), Fail> {
     for (i, it) in steps.iter().enumerate() {
         if !goes(core, alloc, it) {

@@ -13,7 +13,7 @@ use dc_plain::{Key, Label};
 use std::alloc::Global;
 use std::test::*;
 
-// The calls that take memory are made once more where it was refused, if nothing changed by that.
+// The calls that take memory are made once more after it was refused, if nothing changed by that.
 // So the test passes whichever allocation `rt try --test --fail-alloc N` refuses.
 
 fn new_index_again(alloc: Global, buckets: u64) -> Result<Index, NoMemory>
@@ -81,7 +81,7 @@ fn keys_stand_in_their_bucket(rt: HostRuntime) -> Result<(), Fail> {
     Ok(())
 }
 
-/// Whether the longest name has the rows of its bucket among so many, by its hash too.
+/// Whether the longest name has the rows of its bucket among this many, by its hash too.
 fn has_rows(alloc: Global, buckets: u64, name: Name<'_>) -> Result<bool, NoMemory>
     requires { (0 < buckets) × (buckets ≤ MOST_TABLE_BUCKETS) }
 {

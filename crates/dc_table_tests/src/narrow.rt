@@ -6,7 +6,7 @@ ghost use Rattle.dc_names.specs.declared.limits.TheConstants.{NAME_MAX};
 use dc_names::NAME_MAX;
 use dc_row::{Row, RowText, encode, told_words, widened};
 
-/// How many words tell the row of a link whose text has so many bytes, and whether with zeros past them
+/// How many words tell the row of a link whose text has this many bytes, and whether with zeros past them
 /// they are the row.
 fn told(bytes: usize) -> Option<(usize, bool)>
     requires { bytes ≤ NAME_MAX }

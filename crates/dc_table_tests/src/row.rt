@@ -326,7 +326,7 @@ fn letters(seed: u64, used: u64) -> u64 {
     }
 }
 
-/// Words such as a row has, where the text is now and then longer than its length.
+/// Words such as a row has, if the text is now and then longer than its length.
 fn likely(seed: u64) -> [u64; ROW_WORDS] {
     let len = seed % 300;
     let mut left = len + seed / 40500 % 2;

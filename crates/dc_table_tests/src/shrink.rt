@@ -10,7 +10,7 @@ use dc_shrink::{PinFault, Shrinker};
 use std::alloc::{AllocError, Global};
 use std::test::*;
 
-// The calls that take memory are made once more where it was refused, if nothing changed by that.
+// The calls that take memory are made once more after it was refused, if nothing changed by that.
 // So the tests of rows pass whichever allocation `rt try --test --fail-alloc N` refuses.
 
 pub(crate) fn new_again(alloc: Global, rows: u64) -> Result<Shrinker, NoMemory>

@@ -14,7 +14,7 @@ static BAD_SIZES: [(u64, u64); 5] = [(0, 16), (3, 16), (2048, 16), (1, 0), (1, 1
 
 static GOOD_SIZES: [(u64, u64); 2] = [(1, 1), (1024, 1_048_576)];
 
-/// Whether a table is made of so many buckets and inodes. `None` where memory is refused.
+/// Whether a table is made of this many buckets and inodes. `None` if memory is refused.
 fn is_made(alloc: Global, buckets: u64, max_inodes: u64) -> Option<bool> {
     match Shared::new(alloc, buckets, max_inodes) {
         Ok(_) => Some(true),
@@ -44,7 +44,7 @@ static BAD_BUCKETS: [(u64, u64); 5] = [
 
 static BUCKETS: [u64; 3] = [1, 2048, 65_536];
 
-/// How many buckets a table has that is made of so many.
+/// How many buckets a table has that is made of this many.
 fn buckets_of(alloc: Global, buckets: u64, max_inodes: u64) -> Result<u64, MakeFault> {
     let (shared, _pass) = Shared::with_names(alloc, buckets, max_inodes, u64::MAX)?;
     Ok(shared.buckets())
@@ -61,7 +61,7 @@ fn a_table_is_as_large_as_the_work(rt: HostRuntime) {
     }
 }
 
-/// Whether another pass has the lock. It is given back where it is got.
+/// Whether another pass has the lock. It is given back if it is got.
 fn is_held(shared: &Shared, pass: &mut Pass) -> bool
     requires { Fits shared.now pass.old × IsIdle pass.old }
 {

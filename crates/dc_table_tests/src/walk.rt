@@ -21,7 +21,7 @@ use std::sync::Wait;
 use std::test::Fail;
 use steps::{Act, Step, Want, play_anew};
 
-/// The question of a path from the root, or `None` where the text is no path.
+/// The question of a path from the root, or `None` if the text is no path.
 fn from_root(text: &[u8]) -> Option<Look<'_>> {
     Some(Look {
         base: 1,
@@ -30,7 +30,7 @@ fn from_root(text: &[u8]) -> Option<Look<'_>> {
     })
 }
 
-/// What the fast walk of a path from the root comes to, or `None` where the text is no path.
+/// What the fast walk of a path from the root comes to, or `None` if the text is no path.
 fn look(shared: &Shared, pass: &mut Pass, text: &[u8]) -> Option<Fast>
     requires { CanWalk shared.now pass.old }
     ensures { CanWalk shared.now pass.new }
@@ -38,7 +38,7 @@ fn look(shared: &Shared, pass: &mut Pass, text: &[u8]) -> Option<Fast>
     Some(walk_fast(shared.reader(), pass, &mut Room::new(), from_root(text)?))
 }
 
-/// What the walk that fills and pins rows comes to for a path from the root, or `None` where the text
+/// What the walk that fills and pins rows comes to for a path from the root, or `None` if the text
 /// is no path.
 fn count<R: Wait>(
     rt: &R,
@@ -68,7 +68,7 @@ fn change<R: Wait>(
     change_by_rows(shared, rt, alloc, pass, &mut Room::new(), call).ok()
 }
 
-/// Whether a path was answered so after so many changes.
+/// Whether a path was answered so after this many changes.
 fn is_answered(found: &Option<Fast>, reply: &Reply, at: u64) -> bool {
     match found {
         Some(Fast::Done(stamped)) => stamped.at == at && stamped.reply == *reply,
@@ -76,7 +76,7 @@ fn is_answered(found: &Option<Fast>, reply: &Reply, at: u64) -> bool {
     }
 }
 
-/// Whether a path led to the root after so many changes.
+/// Whether a path led to the root after this many changes.
 fn is_root_at(found: &Option<Fast>, at: u64) -> bool {
     is_answered(found, &Reply::Found(1, Kind::Dir), at)
 }

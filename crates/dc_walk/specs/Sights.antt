@@ -19,13 +19,13 @@ use Rattle.dc_walk.specs.declared.row.Seen as rust_seen
 use Rattle.dc_walk.specs.declared.row.Seen.TheVariants as sights
 
 module _ (f : Rows) (key : Key) (g : Rows) where
-  -- nothing new is used, and so many rows were looked at
+  -- nothing new is used, and this many rows were looked at
   pub record Fails (k : ℕ) : Type 0 where
     pub finding : IsFinding g k
     pub used : g.used.now.items ≡ f.used.now.items
     pub spent : g.used.now.spent ≡ f.used.now.spent
 
-  -- this row tells of the key and is used, as the last, after so many looks that found none
+  -- this row tells of the key and is used, as the last, after this many looks that found none
   pub record Answers (row earlier at : ℕ) : Type 0 where
     pub finding : IsFinding g earlier
     pub standing : StandsAt g.used.now.items key at

@@ -63,11 +63,7 @@ fn take_short(
         top.count, top.head, top.number, value, words[0], words[1], words[2], words[3],
     ];
     room.put(&first);
-    Some(room.keep(
-        noted.row,
-        noted.place,
-        TEXT_START + text.len().div_ceil(8),
-    ))
+    Some(room.keep(noted.row, noted.place, TEXT_START + text.len().div_ceil(8)))
 }
 
 /// Reads the rest of a row whose top was read into a room, and keeps it there if it tells of a key.

@@ -27,11 +27,7 @@ impl Lane {
     pub(crate) fn head(self) -> Option<u64>
         ensures { IsHead self result }
     {
-        if self.len > 0 {
-            Some(self.first)
-        } else {
-            None
-        }
+        if self.len > 0 { Some(self.first) } else { None }
     }
 }
 

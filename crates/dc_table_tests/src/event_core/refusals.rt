@@ -1,4 +1,4 @@
-//! Each act refused for each of its reasons, and by the first of them where several hold. The reasons
+//! Each act refused for each of its reasons, and by the first of them if several hold. The reasons
 //! of the last count and the last clock are left out, since no list of events comes so far.
 use super::{A_IS_2, LOOK_A, MAKE_A, fill};
 use dc_core::{Act, Core, Event, Refused};
@@ -222,7 +222,7 @@ fn afterwards() -> [&'static [Case]; 3] {
     [&REFILLED, &READ_WHOLE, &CHANGED]
 }
 
-/// Takes the lists one after the other, and fails where a case goes otherwise.
+/// Takes the lists one after the other, and fails if a case goes otherwise.
 fn take(core: &mut Core, alloc: Global, lists: &[&[Case]]) -> Result<(), Fail> {
     for (i, cases) in lists.iter().enumerate() {
         let found = first_other(core, alloc, cases);

@@ -120,7 +120,7 @@ fn push_note(plan: &mut Plan, row: u64) -> Result<(), NoMemory> {
     Ok(())
 }
 
-/// The walk of a look-up over four rows, and what comes after it where nobody answers.
+/// The walk of a look-up over four rows, and what comes after it if nobody answers.
 fn push_walk(plan: &mut Plan) -> Result<(), NoMemory> {
     plan.extend_from_slice(&ANSWER)?;
     for row in 0..4 {
@@ -345,7 +345,7 @@ fn play(alloc: Global, three: &mut Three) -> Result<(), Fail> {
     Ok(())
 }
 
-/// Fails where the records of a point are not the slow machine's replies.
+/// Fails if the records of a point are not the slow machine's replies.
 fn compare(alloc: Global, core: &Core) -> Result<(), Fail> {
     let clock = core.clock();
     let mut tree = PlainTree::new(alloc, 16)?;

@@ -73,7 +73,7 @@ fn open_with(holder: &mut Holder<'_>, row: u64, words: &[u64; ROW_WORDS])
     holder.open_row(row);
 }
 
-/// Shuts a row, has another pass look up, writes the row's words and opens it. `false` where that was
+/// Shuts a row, has another pass look up, writes the row's words and opens it. `false` if that was
 /// its last opening: then it is empty.
 fn rewrite(
     holder: &mut Holder<'_>,
@@ -197,7 +197,7 @@ fn evict_under_lock(
     met
 }
 
-/// Where no other row tells of the key, the walk gives up; where one does, it answers.
+/// If no other row tells of the key, the walk gives up; if one does, it answers.
 #[test]
 fn a_row_that_is_written_is_busy(rt: HostRuntime) -> Result<(), Fail> {
     let (shared, mut p) = Shared::new(rt.alloc(), 1, 16).expect(&rt, "memory");

@@ -8,7 +8,7 @@ use dc_table::Shared;
 use dc_walk::{Fast, Why};
 use std::test::Fail;
 
-/// The first bytes of a text, so many at most.
+/// The first bytes of a text, this many at most.
 fn front(text: &[u8], most: usize) -> &[u8] {
     if most < text.len() {
         &text[..most]

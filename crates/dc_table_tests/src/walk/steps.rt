@@ -83,7 +83,7 @@ pub(super) enum Step {
     Pin(&'static [u8], u64),
     /// A pin is taken from each of these rows.
     Unpin(&'static [u64]),
-    /// So many rows are to be emptied at most, and so many are.
+    /// This many rows are to be emptied at most, and this many are.
     Shrink(u64, u64),
     /// The pass learns of this point.
     Learn(u64),
@@ -160,7 +160,7 @@ fn is_so<R: Wait>(rt: &R, alloc: Global, shared: &Shared, pass: &mut Pass, step:
 }
 
 /// Takes the steps one after the other. It tells which one, counted from 0, came to something else,
-/// or `None` where each came to what it should.
+/// or `None` if each came to what it should.
 pub(super) fn play<R: Wait>(
     rt: &R,
     alloc: Global,
@@ -179,7 +179,7 @@ pub(super) fn play<R: Wait>(
     None
 }
 
-/// Takes the steps as `play` does, over a new table of so many buckets. Without memory for the table the
+/// Takes the steps as `play` does, over a new table of this many buckets. Without memory for the table the
 /// first step fails.
 pub(super) fn play_anew<R: Wait>(
     rt: &R,
