@@ -15,15 +15,13 @@ use Rattle.dc_rows.proofs.Stages.{then_only}
 use Rattle.dc_rows.proofs.guard.Guard.alter.Goals as goal
 
 pub shut_keys-rows-requires-clause-stage : goal.shut_keys-rows-requires-clause-stage
-shut_keys-rows-requires-clause-stage c = let p = c.args.self.now.holder.pass.now in let x = c.deref_mut-kept.result.now in let home = home_is p c.deref_mut-kept.ensures.value c.args.self.now.rests in
-    from_rest _ _ _ _ _ _ (rest_of p x home)
+shut_keys-rows-requires-clause-stage c = let p = c.args.self.now.holder.pass.now in let x = c.deref_mut-kept.result.now in let home = home_is p c.deref_mut-kept.ensures.value c.args.self.now.rests in from_rest _ _ _ _ _ _ (rest_of p x home)
 
 pub commit-requires : goal.commit-requires
-commit-requires c = let shown = ap (map key_shown) c.as_slice-keys.ensures.value ∙ c.keys-keys.ensures in
-    record {
+commit-requires c = let shown = ap (map key_shown) c.as_slice-keys.ensures.value ∙ c.keys-keys.ensures in record {
       can = can_commit c.args.self.now.holder.pass.now c.shut_keys-rows.new.holder.pass.now c.shut_keys-rows.ensures.pass (request_of c.args.call.now) c.shut_keys-rows.new.kept (map key_shown c.as_slice-keys.result.now) _ (sym (length-map c.as_slice-keys.result.now key_shown)) (shown ∙ c.requires.plans.keys)
           c.words_have_the_fact_they_spell.ensures c.calls_touch_the_listed_keys.ensures.keys c.requires.well c.requires.plans.alters c.requires.early c.shut_keys-rows.ensures.stage;
-    }
+}
 
 pub refill_keys-requires-clause-store : goal.refill_keys-requires-clause-store
 refill_keys-requires-clause-store c = let home = home_is c.args.self.now.holder.pass.now c.deref_mut-kept.ensures.value c.args.self.now.rests in store_after c.args.self.now.holder.pass.now c.shut_keys-rows.new.holder.pass.now c.commit.new.self.pass.now c.shut_keys-rows.ensures.pass (request_of c.args.call.now) c.commit.ensures.same c.commit.ensures.view
