@@ -85,7 +85,7 @@ enum {
     GB_AGAIN = -2,        /* the rows don't answer; `why` says why not */
     GB_NO_MEMORY = -3,    /* malloc refused what the call needed */
     GB_SPENT = -4,        /* 2^62 changes were made, and no more can be; look-ups go on */
-    GB_BAD_SIZE = -5,     /* gb_cache_new: not those numbers of buckets or inodes */
+    GB_BAD_SIZE = -5,     /* gb_cache_new, gb_cache_with_names: not those numbers of buckets or inodes */
     GB_BAD_PASS = -6,     /* a blank pass for an open one, an open one for a blank one, or one of another cache */
     GB_BAD_ARGUMENT = -7, /* `follow` or `flags` is none of the numbers below */
     GB_NOT_YET = -8       /* gb_learn: not that many changes have been made */
@@ -125,8 +125,8 @@ struct gb_found {
 
 /* What a change took away, so that you can let go of what you keep by inode number: the number and kind of what stood
  * at the name, and 1 if that was its last name (numbers are never used again). It is read under the same hold of the
- * lock. All 0 if nothing went, so also with a refusal and with GB_BUSY; as it was with GB_BAD_PASS and
- * GB_BAD_ARGUMENT. */
+ * lock, from the tree that the change was then made on. All 0 if nothing went, so also with a refusal and with
+ * GB_BUSY; as it was with GB_BAD_PASS and GB_BAD_ARGUMENT. */
 struct gb_gone {
     uint64_t number;
     uint32_t kind;
@@ -136,11 +136,19 @@ struct gb_gone {
 /* Makes a cache and opens its first pass. `buckets`, of four rows each, is a power of two from 1 to 1,048,576. `inodes`
  * is how many may live at once, the root among them, from 1 to 1,048,576. A name that is looked up takes a row: with
  * twice as many rows as such names 4 look-ups in 100 miss, with four times as many 4 in 1,000. A row weighs 380 bytes,
- * and 64 more once it is filled; a name of 32 bytes or more some 45 besides its bytes.
+ * and 64 more once it is filled; a name of 32 bytes or more some 45 besides its bytes. There may be twice as many names
+ * as inodes, in all directories together.
  * The pass must be blank, and no other thread may have its address yet.
  * Proved: the cache is of these sizes, and `blank` is its first pass then.
  * Answers 0, GB_NO_MEMORY, GB_BAD_PASS if the pass is open, GB_BAD_SIZE exactly if the sizes are others. */
 int gb_cache_new(uint64_t buckets, uint64_t inodes, struct gb_pass *blank);
+
+/* Makes a cache as gb_cache_new does, in which there may be at most `names` names: a make or a gb_link past that
+ * answers GB_NO_MEMORY and changes nothing. A file may have 65,000 names, so without this limit a few inodes could take
+ * any amount of memory: 65 inodes with all their names take over 1 GB. UINT64_MAX sets no limit.
+ * Proved: what is proved of gb_cache_new. That the limit is kept is tested.
+ * Answers as gb_cache_new does. */
+int gb_cache_with_names(uint64_t buckets, uint64_t inodes, uint64_t names, struct gb_pass *blank);
 
 /* Opens one more pass of the cache of `pass`, for any thread. It has seen what `pass` has seen, and gets no older
  * answer. The thread that has `pass` makes the call, and hands the new one over. Takes no lock.
@@ -206,7 +214,7 @@ int gb_try_list(struct gb_pass *pass, uint64_t base, const char *path, size_t le
 
 /* The seven changes. Each takes the lock, and memory for what it makes or moves. A last link is never followed.
  * Proved of each: it takes effect at one moment, whole or not at all, and every look-up of any thread is on one side of
- * that moment. If it is out of memory, the tree is as it was. What `gone` says is true of the same moment.
+ * that moment. If it is out of memory, the tree is as it was. What `gone` says is true of the tree at that moment.
  * They answer 0, a refusal, GB_BUSY, GB_NO_MEMORY, GB_SPENT, GB_BAD_PASS. */
 
 /* Makes an empty directory. Its number is found. */

@@ -165,6 +165,29 @@ static void try_sizes(void)
     is("close", "the least", gb_close(&pass), 0);
 }
 
+/* At most two names: a third finds no memory, until one is gone. A rename over a name leaves one fewer. */
+static void try_names(void)
+{
+    struct gb_gone gone;
+    is("cache_with_names", "of a wrong size", gb_cache_with_names(3, 1, 1, &pass), GB_BAD_SIZE);
+    is("cache_with_names", "", gb_cache_with_names(1, 8, 2, &pass), 0);
+    is("cache_with_names", "into an open pass", gb_cache_with_names(1, 1, 1, &pass), GB_BAD_PASS);
+    is("create", "the first name", create(&pass, "/a", 2), 0);
+    is("link", "the second name", gb_try_link(&pass, ROOT, "/a", 2, "/b", 2, &found), 0);
+    is("link", "past the limit", gb_try_link(&pass, ROOT, "/a", 2, "/c", 2, &found), GB_NO_MEMORY);
+    is("mkdir", "past the limit", mkdir(&pass, "/d", 2), GB_NO_MEMORY);
+    is("mkdir", "there", mkdir(&pass, "/a", 2), EEXIST);
+    is("rename", "at the limit", gb_try_rename(&pass, ROOT, "/b", 2, "/c", 2, 0, &found, &gone), 0);
+    is("unlink", "", gb_try_unlink(&pass, ROOT, "/c", 2, &found, &gone), 0);
+    is("create", "a second name again", create(&pass, "/d", 2), 0);
+    is("rename", "over a name", gb_try_rename(&pass, ROOT, "/a", 2, "/d", 2, 0, &found, &gone), 0);
+    is("mkdir", "a second name once more", mkdir(&pass, "/e", 2), 0);
+    is("mkdir", "past the limit again", mkdir(&pass, "/f", 2), GB_NO_MEMORY);
+    is("rmdir", "", gb_try_rmdir(&pass, ROOT, "/e", 2, &found, &gone), 0);
+    is("mkdir", "a second name at last", mkdir(&pass, "/f", 2), 0);
+    is("close", "", gb_close(&pass), 0);
+}
+
 static void is_found(const char *what, int answer, uint64_t number, uint32_t kind, uint64_t at)
 {
     is(what, "answer", answer, 0);
@@ -382,6 +405,7 @@ static void try_texts_and_passes(void)
 int main(void)
 {
     try_sizes();
+    try_names();
     try_texts_and_passes();
     try_a_deep_path();
     make_all();

@@ -12,11 +12,11 @@ use dc_hold::{Hold, Status};
 use std::alloc::Global;
 
 /// A cache with its first hold, in a box.
-fn begun(alloc: Global, buckets: u64, inodes: u64) -> Result<Box<Hold, Global>, Status>
+fn begun(alloc: Global, buckets: u64, inodes: u64, names: u64) -> Result<Box<Hold, Global>, Status>
     ensures first { IfOk result (λ hold. IsFirst buckets inodes hold.value.pass) }
     ensures fault { IfErr result (λ status. status ≡ status_of_sizes buckets inodes) }
 {
-    let hold = Hold::new(alloc, buckets, inodes)?;
+    let hold = Hold::new(alloc, buckets, inodes, names)?;
     match Box::new(alloc, hold) {
         Ok(hold) => Ok(hold),
         Err(_) => Err(Status::NoMemory),
@@ -55,15 +55,31 @@ fn opened(blank: &mut Handle, made: Result<Box<Hold, Global>, Status>) -> i32
     }
 }
 
-/// Makes a cache with its first pass. `BadSize` if a cache may not have these sizes.
+/// Makes a cache with its first pass, which takes twice as many names as inodes. `BadSize` if a cache may not
+/// have these sizes.
 #[unsafe(no_mangle)]
 pub extern "C" fn gb_cache_new(alloc: Global, buckets: u64, inodes: u64, blank: &mut Handle) -> i32
+    ensures begins { Begins buckets inodes blank.old blank.new result }
+{
+    gb_cache_with_names(alloc, buckets, inodes, inodes.saturating_mul(2), blank)
+}
+
+/// Makes a cache with its first pass, which takes this many names. `BadSize` if a cache may not have these
+/// sizes.
+#[unsafe(no_mangle)]
+pub extern "C" fn gb_cache_with_names(
+    alloc: Global,
+    buckets: u64,
+    inodes: u64,
+    names: u64,
+    blank: &mut Handle,
+) -> i32
     ensures begins { Begins buckets inodes blank.old blank.new result }
 {
     if blank.is_open() {
         return Status::BadPass.number();
     }
-    opened(blank, begun(alloc, buckets, inodes))
+    opened(blank, begun(alloc, buckets, inodes, names))
 }
 
 /// Another pass of the same cache, for another thread.

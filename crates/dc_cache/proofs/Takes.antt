@@ -13,7 +13,7 @@ use Rattle.dc_table.specs.Passes.{known, share, view}
 use Rattle.dc_table.specs.Passes as seats
 use Rattle.dc_table.specs.Plays.{Took, rows_as}
 use Rattle.dc_table.specs.RowStates.{RowState}
-use Rattle.dc_table.specs.Shares.{Known, Share}
+use Rattle.dc_table.specs.Shares.{Known, Share, HadOnce, one_more}
 use Rattle.dc_table.specs.declared.table.Guarded.{Guarded}
 use Rattle.dc_cache.specs.Answers.{Made}
 use Rattle.dc_cache.specs.Losses.{gone_of, if_made, parted, TakesAway}
@@ -21,11 +21,11 @@ use Rattle.dc_cache.specs.declared.cache.Pass.{Pass}
 use Rattle.dc_cache.specs.declared.gone.Gone.{Gone}
 
 -- the rows that a pass got are those that it has with what the lock guards
-pub rows_got : (k l : Known) (x : Guarded) → Took k l x → rows_as l.view.hold.words x ≡ l.got
-rows_got k l x took = ap (λ (m : Known). rows_as m.view.hold.words x) took.now ∙ sym (ap (λ (m : Known). m.got) took.now)
+pub rows_got : (k l : Known) (x : Guarded) → Took k l x → rows_as l.view.hold.history l.view.hold.words x ≡ l.got
+rows_got k l x took = ap (λ (m : Known). rows_as m.view.hold.history m.view.hold.words x) took.now ∙ sym (ap (λ (m : Known). m.got) took.now)
 
-since : (history : List Request) (s : RowState) (p u q : seats.Pass) (call : Request) (made : Result (Reply × ℕ) ChangeFault) → NothingNew (view p) (view u) → share u ≡ share p → Makes history s u q call made → Makes history s p q call made
-since history s p u q call (Ok made) none same m = record {
+since : (s : RowState) (p u q : seats.Pass) (call : Request) (made : Result (Reply × ℕ) ChangeFault) → NothingNew (view p) (view u) → share u ≡ share p → Makes s u q call made → Makes s p q call made
+since s p u q call (Ok made) none same m = record {
   done = record {
     altered = m.done.altered;
     own = m.done.own ∙ ap (λ own. own ++ record { call = call; reply = answer_of made.0; at = made.1; altered = m.done.altered } ∷ []) none.own;
@@ -37,38 +37,40 @@ since history s p u q call (Ok made) none same m = record {
   fault = tt;
   within = m.within;
   at = m.at;
-  replied = subst (λ (z : Share). answer_of made.0 ≡ reply_of z.limit (tree_of z.limit history) call) same m.replied;
-  rows = subst (λ (z : Share). RowsAfter z.limit history s (known q).left call (Ok made)) same m.rows;
+  replied = subst (λ (z : Share). answer_of made.0 ≡ reply_of z.limit (tree_of z.limit s.history) call) same m.replied;
+  rows = subst (λ (z : Share). RowsAfter z.limit s (known q).left call (Ok made)) same m.rows;
 }
-since history s p u q call (Err fault) none same m = record {
+since s p u q call (Err fault) none same m = record {
   done = tt;
   fault = record {
     nothing = record { own = m.fault.nothing.own ∙ none.own; joined = m.fault.nothing.joined ∙ none.joined; later = omega (arith, none.later, m.fault.nothing.later) };
-    history = m.fault.history;
     seen = m.fault.seen;
-    altering = subst (λ (z : Share). alters z.limit (tree_of z.limit m.fault.history) call ≡ true) same m.fault.altering;
+    altering = subst (λ (z : Share). alters z.limit (tree_of z.limit s.history) call ≡ true) same m.fault.altering;
     cause = m.fault.cause;
   };
   within = m.within;
   at = tt;
   replied = tt;
-  rows = subst (λ (z : Share). RowsAfter z.limit history s (known q).left call (Err fault)) same m.rows;
+  rows = subst (λ (z : Share). RowsAfter z.limit s (known q).left call (Err fault)) same m.rows;
 }
 
 -- by the pass that is back, whose rows are those that it got
-pub makes_since : (history : List Request) (s : RowState) (p u back seat : seats.Pass) (call : Request) (made : Result (Reply × ℕ) ChangeFault) → NothingNew (view p) (view u) → share u ≡ share p → seat ≡ back → s ≡ (known back).got → Makes history s u back call made → Makes history (known seat).got p seat call made
-makes_since history s p u back seat call made none same is rows m = subst (λ (z : seats.Pass). Makes history (known z).got p z call made) (sym is) (subst (λ (z : RowState). Makes history z p back call made) rows (since history s p u back call made none same m))
+pub makes_since : (s : RowState) (p u back seat : seats.Pass) (call : Request) (made : Result (Reply × ℕ) ChangeFault) → NothingNew (view p) (view u) → share u ≡ share p → seat ≡ back → s ≡ (known back).got → Makes s u back call made → Makes (known seat).got p seat call made
+makes_since s p u back seat call made none same is rows m = subst (λ (z : seats.Pass). Makes (known z).got p z call made) (sym is) (subst (λ (z : RowState). Makes z p back call made) rows (since s p u back call made none same m))
 
-made_by : (history : List Request) (s : RowState) (p q : Pass) (call : Request) (result : Result Stamped ChangeFault) → Makes history s p.seat q.seat call (parted result) → Made p q call result
-made_by history s p q call (Ok stamped) m = m.done
-made_by history s p q call (Err fault) m = m.fault
+made_by : (p q : Pass) (call : Request) (result : Result Stamped ChangeFault) → Makes (known q.seat).got p.seat q.seat call (parted result) → Made p q call result
+made_by p q call (Ok stamped) m = m.done
+made_by p q call (Err fault) m = m.fault
+
+-- the pass that is back had the lock once since before it got it
+pub once_since : (k m : Known) (back seat : seats.Pass) → seat ≡ back → m.past ≡ k.past → HadOnce m (known back) → HadOnce k (known seat)
+once_since k m back seat is same once = subst (λ (z : seats.Pass). HadOnce k (known z)) (sym is) (once ∙ ap (one_more (known back)) same)
 
 -- a change was made, and this is told of the tree that it was made on
-pub takes_away : (history : List Request) (p q : Pass) (call : Request) (made : Result (Reply × ℕ) ChangeFault) (result : Result Stamped ChangeFault) (told going : Option Gone) (t : Tree) → parted result ≡ made → told ≡ if_made result going → going ≡ gone_of t call → t ≡ tree_of (share p.seat).limit history
-    → Makes history (known q.seat).got p.seat q.seat call made → TakesAway p q call result told
-takes_away history p q call made result told going t is kept goes tree m = let makes : Makes history (known q.seat).got p.seat q.seat call (parted result) = subst (λ (z : Result (Reply × ℕ) ChangeFault). Makes history (known q.seat).got p.seat q.seat call z) (sym is) m in record {
-  made = made_by history (known q.seat).got p q call result makes;
-  history = history;
-  makes = makes;
+pub takes_away : (p q : Pass) (call : Request) (made : Result (Reply × ℕ) ChangeFault) (result : Result Stamped ChangeFault) (told going : Option Gone) (t : Tree) → parted result ≡ made → told ≡ if_made result going → going ≡ gone_of t call → t ≡ tree_of (share p.seat).limit (known q.seat).got.history
+    → HadOnce (known p.seat) (known q.seat) → Makes (known q.seat).got p.seat q.seat call made → TakesAway p q call result told
+takes_away p q call made result told going t is kept goes tree once m = let makes : Makes (known q.seat).got p.seat q.seat call (parted result) = subst (λ (z : Result (Reply × ℕ) ChangeFault). Makes (known q.seat).got p.seat q.seat call z) (sym is) m in record {
+  made = made_by p q call result makes;
+  warm = record { once = once; makes = makes };
   gone = kept ∙ ap (if_made result) (goes ∙ ap (λ (u : Tree). gone_of u call) tree);
 }

@@ -12,7 +12,7 @@ use Rattle.dc_rows.specs.declared.fault.ChangeFault.{ChangeFault}
 use Rattle.dc_table.specs.Changes.{NothingNew, Recorded}
 use Rattle.dc_walk.specs.declared.answer.Fast.{Fast}
 use Rattle.dc_walk.specs.declared.answer.Fast.TheVariants as fasts
-use Rattle.dc_cache.specs.Passes.{share, view}
+use Rattle.dc_cache.specs.Passes.{known, share, view}
 use Rattle.dc_cache.specs.declared.cache.Pass.{Pass}
 
 -- the pass recorded this call alone, with this reply at this point
@@ -31,22 +31,21 @@ pub record Loaded (v w : View) : Type 0 where
   pub now : w ≡ pivoted (quit v) clock
   pub seen : w.book.seen ≡ clock
 
--- nothing is recorded, and the reply would be no refusal: after some changes, as many as were seen, it is a text or names
-pub record Starved (limit : ℕ) (v w : View) (call : Request) : Type 0 where
+-- nothing is recorded, and the reply would be no refusal: after this history, of as many changes as were seen, it is a text or names
+pub record Starved (limit : ℕ) (history : List Request) (v w : View) (call : Request) : Type 0 where
   pub nothing : NothingNew v w
-  pub history : List Request
   pub seen : w.book.seen ≡ length history
   pub long : IsAtLength (reply_of limit (tree_of limit history) call)
 
--- a read whose answer takes memory was answered, or memory was refused for it
-abbrev pub ToldTo : {E : Type 0} → ℕ → View → View → Request → Result Stamped E → Type 0
-ToldTo limit v w call (Ok stamped) = Recorded v w call (answer_of stamped.reply) stamped.at
-ToldTo limit v w call (Err fault) = Starved limit v w call
+-- a read whose answer takes memory was answered, or memory was refused for it on the tree after this history
+abbrev pub ToldTo : {E : Type 0} → ℕ → List Request → View → View → Request → Result Stamped E → Type 0
+ToldTo limit history v w call (Ok stamped) = Recorded v w call (answer_of stamped.reply) stamped.at
+ToldTo limit history v w call (Err fault) = Starved limit history v w call
 
 abbrev pub Told : {E : Type 0} → Pass → Pass → Request → Result Stamped E → Type 0
-Told p q call told = ToldTo (share p).limit (view p) (view q) call told
+Told p q call told = ToldTo (share p).limit (known q).got.history (view p) (view q) call told
 
 -- a change was answered, or it failed
 abbrev pub Made : Pass → Pass → Request → Result Stamped ChangeFault → Type 0
 Made p q call (Ok stamped) = Answered p q call stamped
-Made p q call (Err fault) = Failed (share p).limit (view p) (view q) call fault
+Made p q call (Err fault) = Failed (share p).limit (known q).got.history (view p) (view q) call fault

@@ -28,7 +28,7 @@ RecordsOne g back call stamped = Records (seat_of g) back.now call stamped
 
 -- so it did, or memory for the answer was refused
 abbrev pub TellsOne : {E : Type 0} → Guard → MutBor Pass → Request → Result Stamped E → Type 0
-TellsOne g back call told = ToldTo (share (seat_of g)).limit (view (seat_of g)) (view back.now) call told
+TellsOne g back call told = ToldTo (share (seat_of g)).limit (rows_of g).history (view (seat_of g)) (view back.now) call told
 
 -- there was one hold of the lock, under which the rows stayed as they were
 pub record ReadsOnce (k l : Known) : Type 0 where

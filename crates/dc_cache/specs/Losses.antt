@@ -78,18 +78,16 @@ abbrev pub parted : Result Stamped ChangeFault → Result (Reply × ℕ) ChangeF
 parted (Ok stamped) = Ok (stamped.reply, stamped.at)
 parted (Err fault) = Err fault
 
--- under one hold of the lock a change was made after some history, or wasn't, and the rows were left as after it: those of the keys that it touches tell what the tree has then, and all others are as they were
+-- under one hold of the lock a change was made, or wasn't, and the rows were left as after it: those of the keys that it touches tell what the tree has then, and all others are as they were
 pub record LeavesWarm (p q : Pass) (call : Request) (result : Result Stamped ChangeFault) : Type 0 where
   pub once : HadOnce (known p) (known q)
-  pub history : List Request
-  pub makes : Makes history (known q).got p.seat q.seat call (parted result)
+  pub makes : Makes (known q).got p.seat q.seat call (parted result)
 
--- a change was made after some history, or wasn't, and what is told is what it took away from the tree of that history
+-- so it was, and what is told is what it took away from the tree after the history of that hold
 pub record TakesAway (p q : Pass) (call : Request) (result : Result Stamped ChangeFault) (told : Option Gone) : Type 0 where
   pub made : Made p q call result
-  pub history : List Request
-  pub makes : Makes history (known q).got p.seat q.seat call (parted result)
-  pub gone : told ≡ if_made result (gone_of (tree_of (share p).limit history) call)
+  pub warm : LeavesWarm p q call result
+  pub gone : told ≡ if_made result (gone_of (tree_of (share p).limit (known q).got.history) call)
 
 -- in a tree that calls can make, this inode lives and is of that kind
 abbrev pub LivesIfWell : Tree → Target → Type 0

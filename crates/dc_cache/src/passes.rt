@@ -39,7 +39,7 @@ impl<W: Wakes> Cache<W> {
     /// power of two from 1 to 1,048,576. As a name stands in one of four rows, some 4 look-ups in 100
     /// miss if there are twice as many rows as names, and 4 in 1,000 if there are four times as many. A
     /// row takes 380 bytes, and 64 more once it is filled; with a name of 32 bytes or more it takes some 45
-    /// more and those of the name.
+    /// more and those of the name. There may be twice as many names as inodes, as `with_names` says.
     pub fn with_buckets(
         alloc: Global,
         buckets: u64,
@@ -49,7 +49,23 @@ impl<W: Wakes> Cache<W> {
             × (known r.1 ≡ first_known max_inodes (BUCKET_ROWS * buckets))) }
         ensures size { (result ≡ Err BadSize) ↔ (fit_a_table buckets max_inodes ≡ false) }
     {
-        let (shared, seat) = Shared::with_buckets(alloc, buckets, max_inodes)?;
+        Cache::with_names(alloc, buckets, max_inodes, max_inodes.saturating_mul(2))
+    }
+
+    /// A cache as `with_buckets` makes it, with at most `max_names` names in all directories together: a
+    /// make or a link past that finds no memory. An inode may have 65,000 names, so a limit of inodes alone
+    /// bounds no memory. `new` sets no limit of names.
+    pub fn with_names(
+        alloc: Global,
+        buckets: u64,
+        max_inodes: u64,
+        max_names: u64,
+    ) -> Result<(Cache<W>, Pass), MakeFault>
+        ensures made { IfOk result (λ r. Fits r.0 r.1
+            × (known r.1 ≡ first_known max_inodes (BUCKET_ROWS * buckets))) }
+        ensures size { (result ≡ Err BadSize) ↔ (fit_a_table buckets max_inodes ≡ false) }
+    {
+        let (shared, seat) = Shared::with_names(alloc, buckets, max_inodes, max_names)?;
         let cache = Cache {
             shared,
             wakes: PhantomData,

@@ -228,8 +228,8 @@ impl Cache<Sleepers> {
         requires change { IsChange call.now }
         ensures same { Fits self.now pass.new × (share pass.new ≡ share pass.old) }
         ensures done { IfOk result (Answered pass.old pass.new (request_of call.now)) }
-        ensures fault { IfErr result (Failed (share pass.old).limit (view pass.old) (view pass.new)
-            (request_of call.now)) }
+        ensures fault { IfErr result (Failed (share pass.old).limit (known pass.new).got.history
+            (view pass.old) (view pass.new) (request_of call.now)) }
         ensures within { (view pass.new).book.seen ≤ most }
         ensures rows { LeavesWarm pass.old pass.new (request_of call.now) result }
     {

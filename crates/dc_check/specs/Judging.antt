@@ -20,7 +20,7 @@ pub record IsByPoint (stamps sorted : List Stamp) : Type 0 where
   pub rises : Rises 0 sorted
   pub stable : (at : ℕ) → filter (λ stamp. stamp.at == at) sorted ≡ filter (λ stamp. stamp.at == at) stamps
 
--- the tree after so many changes, and of the stamps with this point the one that alters it, once it is met
+-- the tree after this many changes, and of the stamps with this point the one that alters it, once it is met
 pub record Judge : Type 0 where
   pub limit : ℕ
   pub tree : Tree

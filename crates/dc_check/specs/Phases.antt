@@ -10,7 +10,7 @@ pub record Phased : Type 0 where
   pub phase : ℕ
   pub stamp : Stamp
 
--- stamps with the numbers of their phases, 0 where there is none
+-- stamps with the numbers of their phases, 0 if there is none
 abbrev pub with_phases : List ℕ → List Stamp → List Phased
 with_phases phases [] = []
 with_phases [] (stamp ∷ stamps) = record { phase = 0; stamp = stamp } ∷ with_phases [] stamps
@@ -30,7 +30,7 @@ unfoldable pub tree_at : ℕ → List Stamp → ℕ → Tree
 tree_at limit stamps zero = empty_tree
 tree_at limit stamps (suc at) = tree_led limit (tree_at limit stamps at) (change_at limit (tree_at limit stamps at) at stamps)
 
--- where a stamped call took effect: it ends behind its point exactly where it altered the tree there
+-- where a stamped call took effect: it ends behind its point exactly if it altered the tree there
 abbrev pub span_at : ℕ → List Stamp → Phased → Span
 span_at limit stamps phased = record {
   phase = phased.phase;

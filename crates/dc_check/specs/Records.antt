@@ -83,7 +83,7 @@ abbrev pub from_input : InputFault → RecordFault
 from_input (inputs.BadLine n) = BadLine n
 from_input inputs.NoMemory = NoMemory
 
--- the output isn't read from a line on, which is counted on behind so many
+-- the output isn't read from a line on, which is counted on from this many
 abbrev pub IsOutputFault : ℕ → List (List ℕ) → RecordFault → Type 0
 IsOutputFault before lines (BadLine n) = (line : ℕ) × IsFirstUnread Tells line lines × (n ≡ before + line)
 IsOutputFault before lines Unpaired = ⊥

@@ -14,7 +14,7 @@ use Rattle.dc_check.specs.declared.stamp.Stamp as rust_stamp
 abbrev pub AreExplained : ℕ → List ℕ → List rust_stamp.Stamp → Type 0
 AreExplained limit phases stamps = IsLegal limit (stamps_of stamps) × InPhases (spans_of limit phases (stamps_of stamps))
 
--- legal stamps, with calls that keep the order of the phases exactly where those of the stamps do
+-- legal stamps, with calls that keep the order of the phases exactly if those of the stamps do
 pub record IsLegalAs (limit : ℕ) (phases : List ℕ) (stamps : List Stamp) (Kept : Type 0) : Type 0 where
   pub is : IsLegal limit stamps
   pub phased : Kept ↔ InPhases (spans_of limit phases stamps)

@@ -55,7 +55,7 @@ fn verdict_of(fault: Fault, stamps: &[Stamp]) -> Result<Verdict, NoMemory>
     }
 }
 
-/// Judges stamps with the numbers of their phases, 0 where there is none.
+/// Judges stamps with the numbers of their phases, 0 if there is none.
 fn judge_stamps(
     alloc: Global,
     max_inodes: u64,
@@ -95,7 +95,7 @@ pub fn check(alloc: Global, max_inodes: u64, stamps: &[Stamp]) -> Result<Verdict
 
 /// Whether one plain tree explains all of the stamps, as `check` says it, and no call took effect before
 /// one of an earlier phase. The call of the n-th stamp was made in the phase that the n-th of `phases`
-/// numbers. A call that altered the tree comes before all those of a later phase only where their
+/// numbers. A call that altered the tree comes before all those of a later phase only if their
 /// points are higher than its own.
 pub fn check_phases(
     alloc: Global,

@@ -45,7 +45,7 @@ fn due_among(
 }
 
 /// What the tree gives the call of one of the stamps at its point: at each point below it, the stamp that
-/// altered the tree there led on. `None` where the stamps with lower points are at fault themselves.
+/// altered the tree there led on. `None` if the stamps with lower points are at fault themselves.
 pub fn reply_due(
     alloc: Global,
     max_inodes: u64,

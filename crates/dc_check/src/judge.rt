@@ -15,7 +15,7 @@ use dc_names::NoMemory;
 use dc_plain::Reply;
 use std::alloc::Global;
 
-/// The tree after so many changes, and of the stamps with this point the one that alters it, once it
+/// The tree after this many changes, and of the stamps with this point the one that alters it, once it
 /// is met.
 #[derive(Drop)]
 pub struct Judge<'a> {
@@ -146,7 +146,7 @@ impl<'a> Judge<'a> {
         self.meet(alloc, numbered)
     }
 
-    /// What the tree gives the call of a stamp at its point, where the judge gets there.
+    /// What the tree gives the call of a stamp at its point, if the judge gets there.
     pub fn due(&mut self, alloc: Global, stamp: &Stamp) -> Result<Reply, Fault>
         ensures ok { OnOk result (Reaches (judge_of self.old) stamp.now.at) }
         ensures reply { IfOk result (λ reply. let judge = reached (judge_of self.old) stamp.now.at in

@@ -26,7 +26,7 @@ pub fn first_falling(alloc: Global, stamps: &[Stamp]) -> Result<Option<u64>, NoM
     Ok(None)
 }
 
-/// The number at a place, 0 where there is none.
+/// The number at a place, 0 if there is none.
 fn phase_at(phases: &[u64], i: usize) -> u64
     ensures { result ≡ slice_index phases.now i }
 {
@@ -70,7 +70,7 @@ pub fn by_point<'a>(
     Ok(sorted)
 }
 
-/// The line of the first stamp with a point above this one, where there is one.
+/// The line of the first stamp with a point above this one, if there is one.
 pub fn first_above(stamps: &[Stamp], point: u64) -> u64 {
     match stamps.iter().position(|stamp| stamp.at > point) {
         Some(i) => i as u64 + 1,

@@ -8,7 +8,7 @@ ghost use Rattle.dc_check.specs.Reaches.{IsByPhase, with_mark};
 use crate::stamp::Mark;
 use dc_names::NoMemory;
 
-/// The least point of a call that comes after this one: one above its own where it altered the tree.
+/// The least point of a call that comes after this one: one above its own if it altered the tree.
 fn end_of(mark: &Mark) -> u128
     ensures { result ≡ end_of mark.now }
 {
@@ -44,7 +44,7 @@ impl Reach {
     }
 }
 
-/// The first line, where the calls stand by their phases.
+/// The first line, if the calls stand by their phases.
 fn first_reached(marks: &[Mark]) -> Option<u64>
     requires { IsByPhase marks.now }
     ensures { (result ≡ None) ↔ InPhases (all_spans marks.now) }

@@ -26,7 +26,7 @@ pub enum RecordFault {
     /// This line is none of the grammar. Lines are counted from 1 through the input and then on through
     /// the output.
     BadLine(u64),
-    /// The output hasn't, by phase, session and line, one reply of its session for each command, and
+    /// The output doesn't have, by phase, session and line, one reply of its session for each command, and
     /// nothing else.
     Unpaired,
     /// Memory was refused.
@@ -80,7 +80,7 @@ impl From<InputFault> for RecordFault {
     }
 }
 
-/// The replies of an output, whose lines are counted on behind so many.
+/// The replies of an output, whose lines are counted on from this many.
 fn read_output(
     alloc: Global,
     before: u64,
@@ -152,7 +152,7 @@ fn stamps_in(
 pub fn record_of(alloc: Global, input: &[u8], output: &[u8]) -> Result<Vec<Stamp>, RecordFault>
     // Exactly the stamps of the commands with their replies.
     ensures ok { IfOk result (λ stamps. IsRecord input.now output.now (stamps_of stamps.items)) }
-    // What each fault says of the texts: each comes only where none of the others is due.
+    // What each fault says of the texts: each comes only if none of the others is due.
     ensures err { IfErr result (IsRecordFault input.now output.now) }
 {
     let lines = read_lines(alloc, input)?;

@@ -14,7 +14,7 @@ use dc_store::SlabStore;
 use std::alloc::Global;
 use std::marker::Model;
 
-/// A plain tree in which so many inodes may live, held as the cache holds its own: no call goes over all
+/// A plain tree in which this many inodes may live, held as the cache holds its own: no call goes over all
 /// of it.
 #[derive(Drop)]
 pub struct QuickTree {

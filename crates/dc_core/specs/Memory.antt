@@ -1,4 +1,4 @@
--- Where an event may be answered by want of memory, and what it is answered at all.
+-- Which events may be answered with out of memory, and what an event is answered at all.
 use Rattle.std.specs.Prelude.{◌≡◌, Bool, true, false, Option, Some, None, Result, Ok, Err}
 use Rattle.dc_core.specs.Machine.{Act, State, Event}
 use Rattle.dc_core.specs.Machine.Act.{Begin, Commit, Give, Note, Read, Pivot, Check}
@@ -26,11 +26,11 @@ gives_way (Touched row) = true
 gives_way Alters = true
 gives_way _ = false
 
--- want of memory, of an act that takes some, stands in the place of one of these, or comes last
+-- out of memory, of an act that takes some, stands in the place of one of these, or comes last
 abbrev pub MayLackMemory : State → Event → Type 0
 MayLackMemory s e = (takes_memory e.act ≡ true) × ((why : Refusal) → Answers s e (Some why) → gives_way why ≡ true)
 
--- a refusal as some tests have it, or want of memory where it may be
+-- a refusal as some tests have it, or out of memory if it may be
 abbrev pub RefusedBy : (Option Refusal → Type 0) → Type 0 → Option Refusal → Type 0
 RefusedBy Tests MayLack None = MayLack
 RefusedBy Tests MayLack (Some why) = Tests (Some why)

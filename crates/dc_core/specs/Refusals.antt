@@ -39,7 +39,7 @@ pub data Refusal : Type 0 where
 abbrev pub Unless : Type 0 → Refusal → (Option Refusal → Type 0) → Option Refusal → Type 0
 Unless test reason next o = (test × (o ≡ Some reason)) ⊎ ((test → ⊥) × next o)
 
--- what an event needs, with the name of its refusal where it isn't so
+-- what an event needs, with the name of its refusal if it isn't so
 abbrev pub Needs : Type 0 → Refusal → (Option Refusal → Type 0) → Option Refusal → Type 0
 Needs condition reason next o = ((condition → ⊥) × (o ≡ Some reason)) ⊎ (condition × next o)
 
@@ -112,6 +112,6 @@ refused s a (Check i) = let x = note_of a.walk i in
 refused s a Again = Unless (a.walk.busy ≡ false) NoCall Passes
 refused s a Quit = Unless (a.walk.busy ≡ false) NoCall Passes
 
--- what the event is refused as, or None where it is done
+-- what the event is refused as, or None if it is done
 abbrev pub Answers : State → Event → Option Refusal → Type 0
 Answers s e = Unless (length s.actors ≤ e.actor) Actor (refused s (actor_at s e.actor) e.act)

@@ -88,7 +88,7 @@ act_shown acts.Quit = Quit
 abbrev pub event_shown : rust_event.Event → Event
 event_shown e = record { actor = e.actor; act = act_shown e.act }
 
--- want of memory is no refusal of the table
+-- running out of memory is no refusal of the table
 abbrev pub refusal_shown : rust_refused.Refused → Option Refusal
 refusal_shown refusals.Actor = Some Refusal.Actor
 refusal_shown refusals.Holder = Some Refusal.Holder

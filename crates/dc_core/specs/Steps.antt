@@ -4,7 +4,7 @@ use Rattle.dc_core.specs.Machine.{State, Event, after}
 use Rattle.dc_core.specs.Memory.{AnsweredAs}
 use Rattle.dc_core.specs.declared.refused.Refused as rust_refused
 
--- refused exactly as the tests say, or for want of memory where that may be, and then the state is as it was; else the event is done
+-- refused exactly as the tests say, or out of memory if that may be, and then the state is as it was; else the event is done
 pub record Steps {A : Type 0} (old : State) (e : Event) (result : Result A rust_refused.Refused) (new : State) : Type 0 where
   pub refused : AnsweredAs old e result
   pub done : OnOk result (new ≡ after old e)

@@ -1,4 +1,4 @@
-//! What each event makes of the core, where it isn't refused. What may fail for want of memory comes
+//! What each event makes of the core, if it isn't refused. What may run out of memory comes
 //! first, so that the core is then as it was.
 
 ghost use Rattle.std.specs.Prelude.{◌≡◌, ◌<◌, ◌≤◌, ◌++◌, None, true, false, length, OnOk, OnErr, IfOk, option_map, vec_len, vec_capacity};

@@ -26,7 +26,7 @@ pub enum Act<'a> {
     Open(u64),
     /// The actor's call alters the tree and is recorded; the clock grows by one.
     Commit,
-    /// The lock is given back, and where this is true the actor's call, which alters nothing, is
+    /// The lock is given back, and if this is true the actor's call, which alters nothing, is
     /// recorded.
     Give(bool),
     /// The count of a row is noted.

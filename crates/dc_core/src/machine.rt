@@ -52,7 +52,7 @@ impl Core {
         Ok(Core { state })
     }
 
-    /// Does an event, or refuses it: exactly where its tests say, by the first that holds. After a
+    /// Does an event, or refuses it: exactly if its tests say so, by the first that holds. After a
     /// refusal the core is as it was. Want of memory is an answer to `Begin`, `Commit`, `Give(true)`,
     /// `Note`, `Read`, `Pivot` and `Check` alone; it may stand in the place of `Unaltered`, `Full`,
     /// `Touched` or `Alters`, and else comes after all tests.
@@ -114,7 +114,7 @@ impl Core {
         self.state.rows
     }
 
-    /// The count of a row, or 0 where there is no such row.
+    /// The count of a row, or 0 if there is no such row.
     pub fn count(&self, row: u64) -> u64
         ensures { result ≡ count self.now.words row }
     {

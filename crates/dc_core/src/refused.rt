@@ -107,7 +107,7 @@ impl fmt::Display for Refused {
 
 impl Error for Refused {}
 
-/// Refuses as this where a test holds.
+/// Refuses as this if a test holds.
 pub(crate) fn refuse(test: bool, because: Refused) -> Result<(), Refused>
     ensures { MatchResult result (λ _. test ≡ false) (λ r. (test ≡ true) × (r ≡ because)) }
 {

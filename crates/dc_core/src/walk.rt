@@ -235,7 +235,7 @@ impl Actor {
             option_map answer_of reply ≡ answer_in (actor_shown self.new).walk) }
         ensures err { OnErr result (actor_shown self.new ≡ actor_shown self.old) }
     {
-        // The note counts as checked while the answer is sought, and no longer where that fails: its
+        // The note counts as checked while the answer is sought, and no longer if that fails: its
         // row may be another when it is checked again.
         let loads = self.next_load()?;
         self.mark(i, true);

@@ -44,13 +44,13 @@ fn sent<T: Send>(value: T) -> T
 }
 
 impl Hold {
-    /// A cache with its first hold, or why there is none: `BadSize` if `Sleepless::with_buckets` says so, else
+    /// A cache with its first hold, or why there is none: `BadSize` if `Sleepless::with_names` says so, else
     /// `NoMemory`.
-    pub fn new(alloc: Global, buckets: u64, max_inodes: u64) -> Result<Hold, Status>
+    pub fn new(alloc: Global, buckets: u64, max_inodes: u64, max_names: u64) -> Result<Hold, Status>
         ensures first { IfOk result (λ hold. IsFirst buckets max_inodes hold.pass) }
         ensures fault { IfErr result (λ status. status ≡ status_of_sizes buckets max_inodes) }
     {
-        let (cache, pass) = match Sleepless::with_buckets(alloc, buckets, max_inodes) {
+        let (cache, pass) = match Sleepless::with_names(alloc, buckets, max_inodes, max_names) {
             Ok(made) => made,
             Err(fault) => return Err(Status::of_make(fault)),
         };

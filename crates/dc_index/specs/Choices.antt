@@ -18,7 +18,7 @@ first_free slots bucket = option_map (λ place. BUCKET_ROWS * bucket + place) (p
 abbrev pub choice : List Slot → Listing → Key → Option ℕ
 choice slots used key = option_or (first_free slots (bucket_in slots key)) (last_of (filter (in_bucket (bucket_in slots key)) used.listed))
 
--- in a bucket each row has a key exactly where it is in use
+-- in a bucket each row has a key exactly if it is in use
 abbrev pub AgreeIn : ℕ → List Slot → Listing → Type 0
 AgreeIn bucket slots used = (row : ℕ) → row / BUCKET_ROWS ≡ bucket → has_key (slot_of slots row) ≡ is_used used row
 

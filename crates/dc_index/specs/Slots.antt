@@ -54,7 +54,7 @@ cleared (Holds key) = Free
 abbrev pub key_hash : Key → ℕ
 key_hash key = hash_of key.number (label_bytes key.label)
 
--- the bucket of a key, of so many
+-- the bucket of a key, of this many
 abbrev pub bucket_of : Key → ℕ → ℕ
 bucket_of key buckets = key_hash key % buckets
 
@@ -62,7 +62,7 @@ bucket_of key buckets = key_hash key % buckets
 abbrev pub bucket_in : List Slot → Key → ℕ
 bucket_in slots key = bucket_of key (length slots / BUCKET_ROWS)
 
--- the row that has a key, or none where no row has it
+-- the row that has a key, or none if no row has it
 abbrev pub IsRowOf : List Slot → Key → Option ℕ → Type 0
 IsRowOf slots key found = (row : ℕ) → (found ≡ Some row) ↔ (slot_of slots row ≡ Holds key)
 

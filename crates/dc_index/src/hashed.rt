@@ -30,7 +30,7 @@ impl<'a> HashedKey<'a> {
         }
     }
 
-    /// The bucket of the key among so many, at least one.
+    /// The bucket of the key among this many, at least one.
     #[must_use]
     pub fn bucket(&self, buckets: u64) -> u64
         requires { 0 < buckets }

@@ -121,7 +121,7 @@ impl Index {
     }
 
     /// How many bytes the text of a row has at most, by its key: those of a name or of dot-dot, `NAME_MAX`
-    /// for a link's text, which the index doesn't know, and none where the row has no key.
+    /// for a link's text, which the index doesn't know, and none if the row has no key.
     #[must_use]
     pub fn most_text(&self, row: u64) -> usize
         requires { row < length self.now }

@@ -74,12 +74,12 @@ abbrev pub first_is_flags : List (List ℕ) → Bool
 first_is_flags [] = false
 first_is_flags (word ∷ words) = is_some (flags_in word)
 
--- the first word is flags, where the verb takes them
+-- the first word is flags, if the verb takes them
 abbrev pub flags_stand : Verb → List (List ℕ) → Bool
 flags_stand verbs.Rename2 words = first_is_flags words
 flags_stand _ words = true
 
--- sessions are those below SESSIONS, and each verb has its number of words, flags among them where it takes them
+-- sessions are those below SESSIONS, and each verb has its number of words, flags among them if it takes them
 pub record IsOrder (order : Order) : Type 0 where
   pub session : order.session < SESSIONS
   pub words : length order.words ≡ word_count order.verb

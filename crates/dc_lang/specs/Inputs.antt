@@ -23,7 +23,7 @@ pub record IsFirstUnread {A : Type 0} (Reads : List ℕ → A → Type 0) (n : �
   pub good : AllRead Reads before said
   pub bad : (any : A) → Reads line any → ⊥
 
--- a line isn't read where it is bad, or where memory was refused
+-- a line isn't read if it is bad, or if memory was refused
 abbrev pub IsLineFault : {A : Type 0} → (List ℕ → A → Type 0) → ℕ → List ℕ → InputFault → Type 0
 IsLineFault {A} Reads n line (BadLine m) = (m ≡ n) × ((any : A) → Reads line any → ⊥)
 IsLineFault Reads n line NoMemory = Unit {0}

@@ -17,7 +17,7 @@ escaped b = if b == 115 then Some 32 else if b == 110 then Some 10 else if b == 
 abbrev pub unescaped : ℕ → Option ℕ
 unescaped b = if b == 32 || b == 10 || b == 92 then None else Some b
 
--- a first item before the others, where both were read
+-- a first item before the others, if both were read
 abbrev pub with_first : {A : Type 0} → Option A → Option (List A) → Option (List A)
 with_first None rest = None
 with_first (Some first) rest = option_map (λ items. first ∷ items) rest
@@ -62,7 +62,7 @@ infixl 10 ◌>>=◌
 abbrev pub ◌>>=◌ : {A B : Type 0} → Option A → (A → Option B) → Option B
 found >>= next = option_and_then next found
 
--- the words, if flags stand where the verb takes them
+-- the words, if flags stand there and the verb takes them
 abbrev pub flagged : Verb → List (List ℕ) → Option (List (List ℕ))
 flagged verb words = if flags_stand verb words then Some words else None
 
@@ -84,7 +84,7 @@ order_in (session_text ∷ verb_word ∷ texts) = do
 abbrev pub parts : List ℕ → List (List ℕ)
 parts line = slice_split (λ b. b == 32) line
 
--- what a line means, or none where it is no line of the grammar
+-- what a line means, or none if it is no line of the grammar
 unfoldable pub meaning_in : List ℕ → Option Meaning
 meaning_in line = if bytes_eq line (codes "sync") then Some Sync else option_map Orders (order_in (parts line))
 

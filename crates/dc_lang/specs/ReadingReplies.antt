@@ -117,7 +117,7 @@ without_newline text = do
   ends ← last_apart text
   if ends.0 == 10 then Some ends.1 else None
 
--- what the line of a reply tells, or none where it is no line of the grammar
+-- what the line of a reply tells, or none if it is no line of the grammar
 abbrev pub response_in : List ℕ → Option Response
 response_in line = do
   front ← without_newline line

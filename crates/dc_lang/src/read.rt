@@ -128,7 +128,7 @@ fn read(alloc: Global, line: &[u8]) -> Result<Line, LineFault>
 }
 
 /// Reads a line, which comes without its newline: `sync`, or a session from 0 to 15, a verb and its
-/// words. `Bad` comes only where it is no such line. `NoMemory` is for memory that was refused; no clause
+/// words. `Bad` comes only if it is no such line. `NoMemory` is for memory that was refused; no clause
 /// says when it comes.
 pub fn read_line(alloc: Global, line: &[u8]) -> Result<Line, LineFault>
     // What is read is what the line means.

@@ -191,7 +191,7 @@ fn response_in(alloc: Global, line: &[u8]) -> Result<(u64, Stamped), LineFault>
 }
 
 /// Reads the line of a reply, which comes with its newline: a session from 0 to 15, an answer and a
-/// point. `Bad` comes only where it is no such line. `NoMemory` is for memory that was refused; no clause
+/// point. `Bad` comes only if it is no such line. `NoMemory` is for memory that was refused; no clause
 /// says when it comes. A reply that no tree gives is read like any other.
 pub fn read_reply(alloc: Global, line: &[u8]) -> Result<(u64, Stamped), LineFault>
     // What is read is what the line tells.

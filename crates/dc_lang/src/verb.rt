@@ -93,7 +93,7 @@ pub(crate) fn flags_in(word: &[u8]) -> Option<Flags>
     })
 }
 
-/// Whether the first word is flags, where the verb takes them.
+/// Whether the first word is flags, if the verb takes them.
 pub(crate) fn flags_stand(verb: Verb, words: &[Vec<u8>]) -> bool
     ensures { result ≡ flags_stand verb (bytes_of words.now) }
 {

@@ -40,7 +40,7 @@ refusal_name TooManyLinks = codes "ELOOP"
 abbrev pub refusal_with : ℕ → Option Refusal
 refusal_with number = find (λ refusal. refusal_number refusal == number) REFUSALS
 
--- just the refusal that has the number was found, or none where none has it
+-- just the refusal that has the number was found, or none if none has it
 abbrev pub IsRefusalOf : ℕ → Option Refusal → Type 0
 IsRefusalOf number found = (refusal : Refusal) → (found ≡ Some refusal) ↔ (refusal_number refusal ≡ number)
 

@@ -12,7 +12,7 @@ use crate::fnv::{hash_number, hash_on};
 use crate::name::{is_dot, is_dot_dot};
 use crate::{Name, Part};
 
-/// The first component and the bytes after it, or `None` where slashes alone are left.
+/// The first component and the bytes after it, or `None` if slashes alone are left.
 #[must_use]
 pub fn first_part(bytes: &[u8]) -> Option<(Part<'_>, &[u8])>
     requires { IsTrue (has_parts bytes.now) }
@@ -60,7 +60,7 @@ fn after_slashes(bytes: &[u8]) -> &[u8]
 }
 
 /// How many bytes stand before the first slash, and their hash, taken on from a start.
-// Inlined for the sake of `first_part_hashed`: the hash is left out where nobody uses it.
+// Inlined for the sake of `first_part_hashed`: the hash is left out if nobody uses it.
 #[inline(always)]
 fn hashed_piece(start: u64, bytes: &[u8]) -> (usize, u64)
     ensures len { result.0 ≡ position_or_len (λ b. b == 47) bytes.now }

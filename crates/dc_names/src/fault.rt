@@ -8,7 +8,7 @@ use std::alloc::{AllocError, AllocFailed};
 use std::error::Error;
 use std::fmt;
 
-/// Why a text is no path. Where several hold, the first one here is told.
+/// Why a text is no path. If several hold, the first one here is reported.
 #[derive(Clone, Copy, Debug, PartialEq, Eq)]
 pub enum TextFault {
     /// There is no byte (POSIX 4.13: a null pathname does not resolve).

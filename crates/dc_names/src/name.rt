@@ -16,7 +16,7 @@ pub struct Name<'a> {
 }
 
 impl<'a> Name<'a> {
-    /// The name of these bytes, or `None` where they are none.
+    /// The name of these bytes, or `None` if they are none.
     #[must_use]
     pub fn new(bytes: &'a [u8]) -> Option<Name<'a>>
         ensures named { IsSome result ↔ IsTrue (is_name bytes.now) }

@@ -57,7 +57,7 @@ fn has_zero(bytes: &[u8]) -> bool
     }
 }
 
-/// Whether a zero byte stands there, by so many bytes at a time, or `None` where there are fewer.
+/// Whether a zero byte stands there, by this many bytes at a time, or `None` if there are fewer.
 // Inlined, as is `is_any_zero`. The last ones may overlap those before (measured): a loop over what is left
 // behind the others would end at another place for each path, which no processor guesses.
 #[inline(always)]

@@ -55,7 +55,7 @@ const REFUSALS: [Refusal; 12] = [
 ];
 
 impl Refusal {
-    /// The refusal that has a number, or `None` where none has it.
+    /// The refusal that has a number, or `None` if none has it.
     #[must_use]
     pub fn of(number: u64) -> Option<Refusal>
         ensures { IsRefusalOf number result }

@@ -9,7 +9,7 @@ use std::alloc::AllocError;
 use std::error::Error;
 use std::fmt;
 
-/// Whether a cache may have so many buckets, and so many inodes live in it.
+/// Whether a cache may have this many buckets, and this many inodes live in it.
 #[must_use]
 pub fn are_right(buckets: u64, max_inodes: u64) -> bool
     ensures { result ≡ are_right buckets max_inodes }

@@ -6,7 +6,7 @@ ghost use Rattle.dc_names.specs.Tables.{fit_a_table};
 
 use crate::{MOST_INODES, MOST_TABLE_BUCKETS};
 
-/// Whether a table may have so many buckets, and so many inodes live in its tree.
+/// Whether a table may have this many buckets, and this many inodes live in its tree.
 #[must_use]
 pub fn fit_a_table(buckets: u64, max_inodes: u64) -> bool
     ensures { result ≡ fit_a_table buckets max_inodes }

@@ -35,7 +35,7 @@ pub record LosesName (t : Tree) (d : ℕ) (name : List ℕ) (n : ℕ) (u : Tree)
   pub named : names_of u n + 1 ≡ names_of t n
   pub still_named : (q : ℕ) → q ≢ n → names_of u q ≡ names_of t q
 
--- the tree without what stands at a name: as it is where nothing stands there
+-- the tree without what stands at a name: as it is if nothing stands there
 pub record Clears (t : Tree) (d : ℕ) (name : List ℕ) (u : Tree) : Type 0 where
   pub free : entry_number u (spot_at d name) ≡ None
   pub alone : entry_number t (spot_at d name) ≡ None → u ≡ t

@@ -18,7 +18,7 @@ with_new t d name inode = record {
   next = t.next + 1;
 }
 
--- without an entry for n, and without n where that was its last
+-- without an entry for n, and without n if that was its last
 abbrev pub without_entry : Tree → ℕ → List ℕ → ℕ → Tree
 without_entry t d name n =
     let rest : Tree = record t { entries = without_spot (record { dir = d; name = name }) t.entries } in

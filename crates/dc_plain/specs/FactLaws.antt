@@ -19,7 +19,7 @@ abbrev pub outcome_answer : Outcome → Answer
 outcome_answer (Ends place) = Found place.0 place.1
 outcome_answer (Fails refusal) = Refused (refusal_number refusal)
 
--- what follows from what is told: the answer to a look-up, where each fact that it asks for is told
+-- what follows from what is told: the answer to a look-up, if each fact that it asks for is told
 abbrev pub answer_told : Teller → Request → Option Answer
 answer_told teller (Look base text how) = elim (path_of text) [
   | Ok path ↦ option_map outcome_answer (walk teller base path how)

@@ -9,7 +9,7 @@ use Rattle.dc_names.specs.Paths.{path_of}
 use Rattle.dc_plain.specs.Trees.{spot_cmp, inode_of, Tree, Spot, Inode, is_live_directory, names_of, holder_of, if_held}
 use Rattle.dc_plain.specs.Trees.Inode.{Directory, Regular, Symbolic}
 
--- going up from d one comes to the root within so many steps
+-- going up from d one comes to the root within this many steps
 abbrev pub comes_up : ℕ → Tree → ℕ → Bool
 comes_up zero t d = d == 1
 comes_up (suc steps) t d = d == 1 || if_held (holder_of t d) (λ up. comes_up steps t up)

@@ -12,7 +12,7 @@ use Rattle.dc_plain.specs.Requests.{Answer, request_of}
 use Rattle.dc_plain.specs.Runs.{Touches}
 use Rattle.dc_plain.specs.Trees.{Tree, fact_at}
 
--- the answer that follows from some facts, where it does
+-- the answer that follows from some facts, if it does
 abbrev pub answer_by : List rust_fact.Fact → rust_call.Call → Option Answer
 answer_by facts call = answer_told (told_by (map fact_shown facts)) (request_of call)
 

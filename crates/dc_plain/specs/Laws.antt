@@ -27,7 +27,7 @@ KeepsTreesWellFormed = (limit : ℕ) (t : Tree) (request : Request) → IsWellFo
 abbrev pub KeepsWithinLimit : Type 0
 KeepsWithinLimit = (limit : ℕ) (t : Tree) (request : Request) → IsWellFormed t → IsWithin limit t → IsWithin limit (tree_after limit t request)
 
--- each tree of a run is well formed where the first is
+-- each tree of a run is well formed if the first is
 abbrev pub KeepsRunsWellFormed : Type 0
 KeepsRunsWellFormed = (limit : ℕ) (t : Tree) (requests : List Request) → IsWellFormed t → IsWellFormed (tree_after_all limit t requests)
 
@@ -51,7 +51,7 @@ WalksRefuseByTheList = (teller : Teller) (base : ℕ) (path : Path) (how : Follo
 abbrev pub PlacesRefuseByTheList : Type 0
 PlacesRefuseByTheList = (teller : Teller) (base : ℕ) (path : Path) (refusal : Refusal) → place teller base path ≡ Some (Not refusal) → Contains walk_refusals refusal
 
--- an outcome stays the same where more is told
+-- an outcome stays the same if more is told
 abbrev pub WalksStay : Type 0
 WalksStay = (old new : Teller) → Extends old new → (base : ℕ) (path : Path) (how : Follow) (outcome : Outcome) → walk old base path how ≡ Some outcome → walk new base path how ≡ Some outcome
 
@@ -75,6 +75,6 @@ TouchesFew = (limit : ℕ) (t : Tree) (request : Request) → length (keys_touch
 abbrev pub TouchesEachOnce : Type 0
 TouchesEachOnce = (limit : ℕ) (t : Tree) (request : Request) → IsWellFormed t → AllPairs (λ key other. key ≢ other) (keys_touched limit t request)
 
--- a call alters a tree exactly where some key is listed
+-- a call alters a tree exactly if some key is listed
 abbrev pub AltersWhereItTouches : Type 0
 AltersWhereItTouches = (limit : ℕ) (t : Tree) (request : Request) → IsWellFormed t → Alters limit t request ↔ keys_touched limit t request ≢ []

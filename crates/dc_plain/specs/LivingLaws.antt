@@ -62,7 +62,7 @@ ClimbsEndUnheld = (steps : ℕ) (t : Tree) (d n : ℕ) → 0 < steps → d ≢ n
 abbrev pub ClimbsGoByHolders : Type 0
 ClimbsGoByHolders = (steps : ℕ) (t : Tree) (d n up : ℕ) → 0 < steps → d ≢ n → d ≢ 1 → holder_of t d ≡ Some up → is_beneath (steps - 1) t up n ≡ is_beneath steps t d n
 
--- the order of names in directories is total, and ties where they are one
+-- the order of names in directories is total, and ties if they are one
 abbrev pub SpotsTie : Type 0
 SpotsTie = (a b : Spot) → IsTrue (eq_by_cmp spot_cmp a b) ↔ (a ≡ b)
 

@@ -72,7 +72,7 @@ rmdir t base text = do
   empty ← refuse (not (is_empty (names_in t inode.0))) NotEmpty
   Ok (Nothing, without_entry t at.dir name inode.0)
 
--- going up from d one meets n, or doesn't come to the root within so many steps
+-- going up from d one meets n, or doesn't come to the root within this many steps
 abbrev pub is_beneath : ℕ → Tree → ℕ → ℕ → Bool
 is_beneath zero t d n = true
 is_beneath (suc steps) t d n = d == n || not (d == 1) && if_held (holder_of t d) (λ up. is_beneath steps t up n)
@@ -89,7 +89,7 @@ abbrev pub same_inode : Target → Option Target → Bool
 same_inode moved None = false
 same_inode moved (Some there) = moved.0 == there.0
 
--- an inode gets another name in place of one of its names, which no inode may have where none may be replaced
+-- an inode gets another name in place of one of its names, which no inode may have if none may be replaced
 abbrev pub move_name : Tree → Where → List ℕ → Where → List ℕ → Target → Bool → Change
 move_name t from old to new moved no_replace = do
   ends ← refuse (not (is_directory moved) && (from.slash || to.slash)) NotDirectory
@@ -100,7 +100,7 @@ move_name t from old to new moved no_replace = do
     may ← replaceable t moved there
     Ok (Nothing, with_entry_for (without_entry_alone (without_there t to.dir new there) from.dir old) to.dir new moved.0)
 
--- two names swap their inodes, of any kinds, where neither is above the other's name
+-- two names swap their inodes, of any kinds, if neither is above the other's name
 abbrev pub swap_names : Tree → Where → List ℕ → Where → List ℕ → Target → Change
 swap_names t from old to new moved = do
   there ← present NotFound (entry_of t to.dir (Entry new))
@@ -158,6 +158,6 @@ abbrev pub settled : Tree → Change → Answer × Tree
 settled t (Ok done) = done
 settled t (Err refusal) = (Refused (refusal_number refusal), t)
 
--- what a call answers with so many inodes allowed, and the tree after it
+-- what a call answers with this many inodes allowed, and the tree after it
 abbrev pub operation : ℕ → Tree → Request → Answer × Tree
 operation limit t request = settled t (change_of limit t request)

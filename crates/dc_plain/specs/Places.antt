@@ -14,7 +14,7 @@ use Rattle.dc_plain.specs.Facts.Label.{Parent}
 use Rattle.dc_plain.specs.Resolution.{Outcome, root, resolve}
 use Rattle.dc_plain.specs.Resolution.Outcome.{Found, Refused}
 
--- where a path begins: `None` where that isn't told, `Some None` where no such directory is
+-- where a path begins: `None` if that isn't told, `Some None` if no such directory is
 abbrev pub start : Teller → ℕ → Path → Option (Option Target)
 start teller base path =
     if path.absolute || base == 1 then Some (Some root)
@@ -25,7 +25,7 @@ with_start None go = None
 with_start (Some None) go = Some (Refused NotFound)
 with_start (Some (Some place)) go = go place
 
--- the whole path: `None` where a fact that is asked for isn't told
+-- the whole path: `None` if a fact that is asked for isn't told
 abbrev pub walk : Teller → ℕ → Path → Follow → Option Outcome
 walk teller base path how = with_start (start teller base path) (λ place. resolve teller how MOST_LINKS place path.parts path.slash)
 

@@ -19,7 +19,7 @@ abbrev pub ◌>>=◌ : {A B : Type 0} → Result A Refusal → (A → Result B R
 (Ok a) >>= next = next a
 (Err refusal) >>= next = Err refusal
 
--- this refusal where the test holds
+-- this refusal if the test holds
 abbrev pub refuse : Bool → Refusal → Result Bool Refusal
 refuse true refusal = Err refusal
 refuse false refusal = Ok true
@@ -38,7 +38,7 @@ abbrev pub walk_on : Tree → ℕ → List ℕ → Follow → Result Target Refu
 walk_on t base text how = path_or_fault text >>= λ path. ended (settled_walk (walk (told_of t) base path how))
 
 -- where the last part of a path is to be looked up. A tree answers every question, so `None` doesn't come
--- where it is well formed
+-- if it is well formed
 abbrev pub where_of : Option Placed → Result Where Refusal
 where_of None = Err NotFound
 where_of (Some (At at)) = Ok at

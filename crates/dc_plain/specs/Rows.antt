@@ -26,7 +26,7 @@ PutsEntry dir name target old new = entries_in new ≡ put spot_cmp (spot_at dir
 abbrev pub PutsInode : ℕ → rust_node.Node → List rust_inode.Inode → List rust_inode.Inode → Type 0
 PutsInode number node old new = map inode_shown new ≡ put nat_cmp number (node_shown node) (map inode_shown old)
 
--- the tree of the rows, with any next number, is without a name of an inode, and without the inode where that was its last
+-- the tree of the rows, with any next number, is without a name of an inode, and without the inode if that was its last
 abbrev pub TakesName : Vec rust_entry.Entry → Vec rust_inode.Inode → rust_spot.Spot → ℕ → Vec rust_entry.Entry → Vec rust_inode.Inode → Type 0
 TakesName entries inodes spot number left living = (next : ℕ)
     → tree_in left.items living.items next ≡ without_entry (tree_in entries.items inodes.items next) spot.dir spot.name.bytes.now number

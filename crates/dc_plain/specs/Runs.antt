@@ -47,7 +47,7 @@ same_tree t u = pointwise (λ a b. same_spot a.0 b.0 && a.1 == b.1) t.entries u.
 abbrev pub alters : ℕ → Tree → Request → Bool
 alters limit t request = not (same_tree (tree_after limit t request) t)
 
--- how many calls have altered the tree, once this call was made after so many
+-- how many calls have altered the tree, once this call was made after this many
 abbrev pub clock_after : ℕ → Tree → Request → ℕ → ℕ
 clock_after limit t request clock = if alters limit t request then clock + 1 else clock
 

@@ -90,7 +90,7 @@ by_place (Err refusal) keys = []
 abbrev pub at_name : Tree → ℕ → List ℕ → (ℕ → List ℕ → List Key) → List Key
 at_name t base text keys = by_place (where_on t base text) keys
 
--- by the request, where it is not refused
+-- by the request, if it is not refused
 abbrev pub listed : Tree → Request → List Key
 listed t (Look base path how) = []
 listed t (Readlink base path) = []

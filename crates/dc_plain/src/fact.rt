@@ -22,7 +22,7 @@ use std::alloc::Global;
 /// What a row of the cache may say.
 #[derive(Clone, Copy)]
 pub enum Fact<'a> {
-    /// Where a name in a directory leads, or its dot-dot; `None` where no such entry is.
+    /// Where a name in a directory leads, or its dot-dot; `None` if no such entry is.
     Entry(u64, Label<'a>, Option<Target>),
     /// The text of a symbolic link.
     Text(u64, PathText<'a>),
@@ -101,7 +101,7 @@ impl Told for Facts<'_> {
     }
 }
 
-/// Where a path leads by what is told, or `None` where a fact that is asked for isn't told.
+/// Where a path leads by what is told, or `None` if a fact that is asked for isn't told.
 fn walk_by<T: Told>(
     alloc: Global,
     told: &T,
@@ -131,7 +131,7 @@ fn reply_by(walked: Walked) -> Reply
     }
 }
 
-/// What the facts answer to a look-up: `None` where a fact that is asked for isn't among them, and
+/// What the facts answer to a look-up: `None` if a fact that is asked for isn't among them, and
 /// for every other call. Of two facts with one key the first counts. A text that is refused asks
 /// for no fact.
 pub fn answer(alloc: Global, facts: &[Fact], call: &Call) -> Result<Option<Reply>, NoMemory>

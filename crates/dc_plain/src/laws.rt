@@ -36,7 +36,7 @@ pub fn resolution_refuses_by_a_list()
     ensures places { PlacesRefuseByTheList }
 {}
 
-/// What a path leads to stays the same where more is told.
+/// What a path leads to stays the same if more is told.
 pub fn resolution_stays_as_more_is_told()
     ensures walks { WalksStay }
     ensures places { PlacesStay }
@@ -67,7 +67,7 @@ pub fn untouched_facts_stay()
     parts_are_names_or_dots();
 }
 
-/// The effects of changes, made where they may be, keep a tree well formed.
+/// The effects of changes, made if they may be, keep a tree well formed.
 pub fn effects_keep_trees_well_formed()
     ensures new { NewKeepsWellFormed }
     ensures further { FurtherNameKeepsWellFormed }
@@ -110,7 +110,7 @@ pub fn directories_have_one_holder()
     ensures up { ClimbsGoByHolders }
 {}
 
-/// Names in directories are in a total order, which ties where they are one name.
+/// Names in directories are in a total order, which ties if they are one name.
 pub fn names_in_directories_are_in_order()
     ensures total { IsTotalOrder spot_cmp }
     ensures ties { SpotsTie }

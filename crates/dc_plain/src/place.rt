@@ -25,7 +25,7 @@ pub(crate) fn path_of(path: &[u8]) -> Result<PathText<'_>, Failure>
     Ok(parse(path)?)
 }
 
-/// Where a path begins: `None` where that isn't told, `Some(None)` where no such directory is.
+/// Where a path begins: `None` if that isn't told, `Some(None)` if no such directory is.
 pub(crate) fn start_of<T: Told>(told: &T, base: u64, path: PathText) -> Option<Option<Target>>
     ensures { result ≡ start (T.teller told.now) base (path_in path.entry.bytes.now) }
 {

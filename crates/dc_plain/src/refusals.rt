@@ -7,7 +7,7 @@ ghost use Rattle.dc_plain.specs.Refusals.{present, refuse};
 use crate::Target;
 use dc_names::Refusal;
 
-/// This refusal where the test holds.
+/// This refusal if the test holds.
 pub fn refuse(test: bool, refusal: Refusal) -> Result<(), Refusal>
     ensures { Gives result (λ _. true) (refuse test refusal) }
 {

@@ -56,7 +56,7 @@ fn on_to(there: Option<Target>) -> Reached
     }
 }
 
-/// From a place, one part on: `None` where that isn't told.
+/// From a place, one part on: `None` if that isn't told.
 fn at_part<T: Told>(told: &T, place: Target, part: Part) -> Option<Reached>
     ensures { option_map met_shown result
         ≡ at_part (T.teller told.now) place (part_shown part.entry) }
@@ -166,7 +166,7 @@ fn base_of(text: PathText, at: Target) -> Target
     if text.is_absolute() { ROOT } else { at }
 }
 
-/// Where parts lead from a place, or `None` where that isn't told. Links are followed.
+/// Where parts lead from a place, or `None` if that isn't told. Links are followed.
 pub(crate) fn resolve<'a, T: Told>(
     alloc: Global,
     told: &'a T,

@@ -38,7 +38,7 @@ pub record IsRoomOf (words room : List ℕ) : Type 0 where
   pub size : length room ≡ ROW_ROOM
   pub bytes : (i : ℕ) → i < ROW_ROOM → slice_index room i ≡ byte_in words i
 
--- so many of a word's first bytes, and only they, aren't zero
+-- this many of a word's first bytes, and only they, aren't zero
 abbrev pub HasBytes : List ℕ → ℕ → Type 0
 HasBytes bytes len = (i : ℕ) → i < 8 → (i < len) ↔ (slice_index bytes i ≢ 0)
 
@@ -46,7 +46,7 @@ HasBytes bytes len = (i : ℕ) → i < 8 → (i < len) ↔ (slice_index bytes i 
 abbrev pub EndsAt : List ℕ → ℕ → Type 0
 EndsAt words len = (i : ℕ) → i < ROW_ROOM → (i < len) ↔ (byte_in words i ≢ 0)
 
--- so many bytes from the k-th on
+-- this many bytes from the k-th on
 abbrev pub bytes_from : (ℕ → ℕ) → ℕ → ℕ → List ℕ
 bytes_from byte k zero = []
 bytes_from byte k (suc n) = byte k ∷ bytes_from byte (suc k) n

@@ -49,7 +49,7 @@ pub fn tells_by_first(words: &[u64], key: Key<'_>) -> bool
     }
 }
 
-/// The text that the words say a link has, or `None` where they spell no link's text. The sequence
+/// The text that the words say a link has, or `None` if they spell no link's text. The sequence
 /// count isn't looked at.
 #[must_use]
 pub fn text_of(words: &[u64]) -> Option<RowText>
@@ -80,7 +80,7 @@ fn is_text(words: &[u64]) -> bool
     ends_at(words, len)
 }
 
-/// Whether the bytes for a text are so many, without a zero byte, and zeros after them.
+/// Whether the bytes for a text are this many, without a zero byte, and zeros after them.
 #[inline(always)]
 fn ends_at(words: &[u64], len: u64) -> bool
     requires size { (TEXT_START ≤ length words.now) × (length words.now ≤ ROW_WORDS) }
@@ -101,7 +101,7 @@ fn ends_at(words: &[u64], len: u64) -> bool
     true
 }
 
-/// Whether so many of a word's first bytes aren't zero, and the others are. Then the bits of the zero
+/// Whether this many of a word's first bytes aren't zero, and the others are. Then the bits of the zero
 /// bytes are those from that many on.
 #[inline(always)]
 fn has_bytes(bytes: u8x8, len: u64) -> bool

@@ -17,7 +17,7 @@ use crate::{
 };
 use dc_names::Kind;
 
-/// The row that the words spell, or `None` where they spell none, whatever the sequence count is.
+/// The row that the words spell, or `None` if they spell none, whatever the sequence count is.
 #[must_use]
 pub fn decode(words: &[u64]) -> Option<Row>
     ensures spelled { IfSome result (λ row. Spells words.now (row_shown row)) }
@@ -35,7 +35,7 @@ pub fn decode(words: &[u64]) -> Option<Row>
     }
 }
 
-/// The row that the words spell, or whatever their fields say where they spell none.
+/// The row that the words spell, or whatever their fields say if they spell none.
 fn read(words: &[u64]) -> Option<Row>
     ensures { TellsRow words.now (option_map row_shown result) }
 {
@@ -89,7 +89,7 @@ pub fn leads_to(head: u64, value: u64) -> Option<(u64, Kind)>
 }
 
 /// The text that stands in the words of a name or a link. Of other words it is whatever they have there,
-/// or `None` where they are not as many as a row has or say that it is longer than a row has room for.
+/// or `None` if they are not as many as a row has or say that it is longer than a row has room for.
 #[must_use]
 pub fn text_in(words: &[u64]) -> Option<RowText>
     ensures { (fact : Option Fact) → Spells words.now fact → result ≡ Some (fields_of fact).text }

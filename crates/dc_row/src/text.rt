@@ -31,7 +31,7 @@ impl Model for RowText {
 }
 
 impl RowText {
-    /// The bytes by value, or `None` where they are more than a row has room for.
+    /// The bytes by value, or `None` if they are more than a row has room for.
     #[must_use]
     pub fn of(bytes: &[u8]) -> Option<RowText>
         ensures bytes { IfSome result (λ text. text ≡ bytes.now) }

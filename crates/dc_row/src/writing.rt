@@ -11,7 +11,7 @@ ghost use Rattle.dc_row.specs.declared.layout.TheConstants.{KIND_UNIT, LENGTH_UN
 use crate::{KIND_UNIT, LENGTH_UNIT, ROW_WORDS, Row, RowLabel, RowText, TEXT_START};
 use dc_names::{Kind, Name, pack_from, parse};
 
-/// The words of a row, with 0 for its sequence count, or `None` where nothing spells the row.
+/// The words of a row, with 0 for its sequence count, or `None` if nothing spells the row.
 ///
 /// A name is one of `dc_names`, a link's text a path without a fault, a dot-dot leads to a
 /// directory if anywhere, and no number is 0.

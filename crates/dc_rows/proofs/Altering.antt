@@ -107,8 +107,8 @@ touched_between limit t call keys n len touched touches well key = let both = to
 )
 
 -- the rows of the keys were shut, the tree is another or the same, and they are filled again
-pub retold_call : (tree store : Tree) (p : Pass) (s m u : RowState) (words : List ℕ) (call : Request) (keys : List Key) (n : ℕ) → n ≡ length keys → keys ≡ keys_touched (share p).limit (tree_now p) call → TouchesTheListed → IsWellFormed (tree_now p) → Turns Shut (Between 0 n keys) s m
-    → ((row : ℕ) → row_words words row ≡ row_words m.words row) → tree ≡ store → Turns (Refilled store) (Between 0 n keys) (record { words = words; slots = m.slots; used = m.used }) u → Turns (Retold tree) (Touches (share p).limit (tree_now p) call) s u
-retold_call tree store p s m u words call keys n len touched touches well shut stay same filled = turns_for (Retold tree) (Between 0 n keys) (Touches (share p).limit (tree_now p) call) s u
+pub retold_call : (tree store : Tree) (p : Pass) (s m u : RowState) (history : List Request) (words : List ℕ) (call : Request) (keys : List Key) (n : ℕ) → n ≡ length keys → keys ≡ keys_touched (share p).limit (tree_now p) call → TouchesTheListed → IsWellFormed (tree_now p) → Turns Shut (Between 0 n keys) s m
+    → ((row : ℕ) → row_words words row ≡ row_words m.words row) → tree ≡ store → Turns (Refilled store) (Between 0 n keys) (record m { history = history; words = words }) u → Turns (Retold tree) (Touches (share p).limit (tree_now p) call) s u
+retold_call tree store p s m u history words call keys n len touched touches well shut stay same filled = turns_for (Retold tree) (Between 0 n keys) (Touches (share p).limit (tree_now p) call) s u
     (touched_between (share p).limit (tree_now p) call keys n len touched touches well)
-    (retold tree (Between 0 n keys) s m u words shut stay (subst (λ (x : Tree). Turns (Refilled x) (Between 0 n keys) (record { words = words; slots = m.slots; used = m.used }) u) (sym same) filled))
+    (retold tree (Between 0 n keys) s m u history words shut stay (subst (λ (x : Tree). Turns (Refilled x) (Between 0 n keys) (record m { history = history; words = words }) u) (sym same) filled))

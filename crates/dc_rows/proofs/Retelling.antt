@@ -1,6 +1,7 @@
 -- A row of a change's key is shut, filled and opened.
 use Rattle.std.proofs.Common.{◌≡◌, ◌≢◌, ℕ, ◌+◌, ◌<◌, ◌≤◌, false, true≢false, List, length, set, get_or, slice_get, slice_set, Some, None, refl, sym, ap, ◌∙◌, subst, arith, inl, inr}
 use Rattle.dc_plain.specs.Facts.{Key}
+use Rattle.dc_plain.specs.Requests.{Request}
 use Rattle.dc_plain.specs.Trees.{Tree}
 use Rattle.dc_row.specs.Spelling.{Spells}
 use Rattle.dc_row.specs.declared.TheConstants.{EMPTY_ROW}
@@ -64,8 +65,8 @@ refilled_goes tree = record {
 }
 
 -- the rows are shut, the clock is written, and they are filled
-module _ (tree : Tree) (K : Key → Type 0) (s m u : RowState) (words : List ℕ) (a : Turns Shut K s m) (stay : (row : ℕ) → row_words words row ≡ row_words m.words row) (b : Turns (Refilled tree) K (record { words = words; slots = m.slots; used = m.used }) u) where
-  same : (row : ℕ) → SameRow m (record { words = words; slots = m.slots; used = m.used }) row
+module _ (tree : Tree) (K : Key → Type 0) (s m u : RowState) (history : List Request) (words : List ℕ) (a : Turns Shut K s m) (stay : (row : ℕ) → row_words words row ≡ row_words m.words row) (b : Turns (Refilled tree) K (record m { history = history; words = words }) u) where
+  same : (row : ℕ) → SameRow m (record m { history = history; words = words }) row
   same row = record { words = stay row; slot = refl; pins = refl; used = refl }
 
   told : (row : ℕ) (key : Key) → slot_of s.slots row ≡ Held key → K key → Shut s m row key → Retold tree s u row key
@@ -77,7 +78,7 @@ module _ (tree : Tree) (K : Key → Type 0) (s m u : RowState) (words : List ℕ
         | inr lost ↦ inr (lost.0, λ can. absurd (lost.1 can))
       ];
     }
-    | inr lost ↦ let c : RowState = record { words = words; slots = m.slots; used = m.used } in
+    | inr lost ↦ let c : RowState = record m { history = history; words = words } in
         let later : SameRow c u row = b.others row (λ other f k. true≢false (sym (ap has_key f) ∙ lost.0.keyless)) in
         let all : SameRow m u row = same_then m c u row (same row) later in
         let n = count_same m u row all in record {
@@ -88,10 +89,10 @@ module _ (tree : Tree) (K : Key → Type 0) (s m u : RowState) (words : List ℕ
 
   pub retold : Turns (Retold tree) K s u
   retold = record {
-    others = λ row none. let first = a.others row none in let c : RowState = record { words = words; slots = m.slots; used = m.used } in
+    others = λ row none. let first = a.others row none in let c : RowState = record m { history = history; words = words } in
         same_then s c u row (same_then s m c row first (same row)) (b.others row (λ key e k. none key (sym first.slot ∙ e) k));
     own = λ row key e k. told row key e k (a.own row key e k);
-    order = order_then (Refilled tree) K (record { words = words; slots = m.slots; used = m.used }) u b s a.order;
+    order = order_then (Refilled tree) K (record m { history = history; words = words }) u b s a.order;
   }
 
 -- one row of a key changes

@@ -51,10 +51,9 @@ abbrev pub IsCause : ChangeFault → ℕ → Request → Type 0
 IsCause faults.NoMemory clock call = (CallTakesNoMemory call → ⊥) × (clock < most)
 IsCause faults.Spent clock call = clock ≡ most
 
--- a change that isn't made records nothing; after some changes, as many as were seen, it would alter the tree
-pub record Failed (limit : ℕ) (v w : View) (call : Request) (fault : ChangeFault) : Type 0 where
+-- a change that isn't made records nothing; it would alter the tree after this history, of as many changes as were seen
+pub record Failed (limit : ℕ) (history : List Request) (v w : View) (call : Request) (fault : ChangeFault) : Type 0 where
   pub nothing : NothingNew v w
-  pub history : List Request
   pub seen : w.book.seen ≡ length history
   pub altering : alters limit (tree_of limit history) call ≡ true
   pub cause : IsCause fault w.book.seen call

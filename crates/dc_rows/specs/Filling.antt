@@ -45,4 +45,4 @@ GivenAt p x row key = Given (tree_now p) (share p).rows (words_of p) x.index x.s
 
 -- the same rows with one of them out of use
 abbrev pub without_use : RowState → ℕ → RowState
-without_use s row = record { words = s.words; slots = s.slots; used = dropped s.used row }
+without_use s row = record s { used = dropped s.used row }

@@ -3,7 +3,7 @@ use Rattle.std.specs.Prelude.{◌≡◌}
 use Rattle.dc_table.specs.RowStates.{RowState}
 use Rattle.dc_table.specs.Changes.{words_of}
 use Rattle.dc_table.specs.Holders.{pass_of, rows_held, StaysAsIs}
-use Rattle.dc_table.specs.Passes.{Pass}
+use Rattle.dc_table.specs.Passes.{Pass, view}
 use Rattle.dc_table.specs.Plays.{rows_as}
 use Rattle.dc_table.specs.declared.table.Guarded.{Guarded}
 use Rattle.dc_rows.specs.Changes.{OnlyWrites, KeepsTree}
@@ -19,7 +19,7 @@ kept_by g = g.guarded.value
 
 -- the rows of a pass that has the lock, with what it guards
 abbrev pub rows_at : Pass → Guarded → RowState
-rows_at p x = rows_as (words_of p) x
+rows_at p x = rows_as (view p).hold.history (words_of p) x
 
 -- the rows as the guard has them
 abbrev pub rows_of : Guard → RowState

@@ -35,27 +35,27 @@ pub record IsBack (g : Guard) (back : MutBor Pass) : Type 0 where
 abbrev pub AlteredHeld : Guard → Guard → Request → Reply → Type 0
 AlteredHeld g h call reply = Altered (seat_of g) (seat_of h) call (answer_of reply)
 
--- the rows after a change that was made after this history, or wasn't: those whose keys it touches tell what the tree has then, and all others are as they were
-abbrev pub RowsAfter : ℕ → List Request → RowState → RowState → Request → Result (Reply × ℕ) ChangeFault → Type 0
-RowsAfter limit history s t call (Ok made) = let tree = tree_of limit history in Turns (Retold (tree_after limit tree call)) (Touches limit tree call) s t
-RowsAfter limit history s t call (Err faults.NoMemory) = let tree = tree_of limit history in Turns (Retold tree) (Touches limit tree call) s t
-RowsAfter limit history s t call (Err faults.Spent) = t ≡ s
+-- the rows after a change that was made on the tree that the rows before tell of, or wasn't: those whose keys it touches tell what the tree has then, and all others are as they were
+abbrev pub RowsAfter : ℕ → RowState → RowState → Request → Result (Reply × ℕ) ChangeFault → Type 0
+RowsAfter limit s t call (Ok made) = let tree = tree_of limit s.history in Turns (Retold (tree_after limit tree call)) (Touches limit tree call) s t
+RowsAfter limit s t call (Err faults.NoMemory) = let tree = tree_of limit s.history in Turns (Retold tree) (Touches limit tree call) s t
+RowsAfter limit s t call (Err faults.Spent) = t ≡ s
 
--- a change was recorded with its reply, which it has on the tree after this history, or none is and why not; the rows were these before, and are those that the pass has left
-pub record Makes (history : List Request) (s : RowState) (p q : Pass) (call : Request) (result : Result (Reply × ℕ) ChangeFault) : Type 0 where
+-- a change was recorded with its reply, which it has on the tree after the history that the rows were of, or none is and why not; the rows were these before, and are those that the pass has left
+pub record Makes (s : RowState) (p q : Pass) (call : Request) (result : Result (Reply × ℕ) ChangeFault) : Type 0 where
   pub done : IfOk result (λ made. Recorded (view p) (view q) call (answer_of made.0) made.1)
-  pub fault : IfErr result (Failed (share p).limit (view p) (view q) call)
+  pub fault : IfErr result (Failed (share p).limit s.history (view p) (view q) call)
   pub within : (view q).book.seen ≤ most
-  pub at : IfOk result (λ made. made.1 ≡ length history)
-  pub replied : IfOk result (λ made. answer_of made.0 ≡ reply_of (share p).limit (tree_of (share p).limit history) call)
-  pub rows : RowsAfter (share p).limit history s (known q).left call result
+  pub at : IfOk result (λ made. made.1 ≡ length s.history)
+  pub replied : IfOk result (λ made. answer_of made.0 ≡ reply_of (share p).limit (tree_of (share p).limit s.history) call)
+  pub rows : RowsAfter (share p).limit s (known q).left call result
 
 -- the same by a guard's pass, and by a pass that got the lock for it
 abbrev pub MakesHeld : Guard → Pass → Request → Result (Reply × ℕ) ChangeFault → Type 0
-MakesHeld g q call result = Makes (view (seat_of g)).hold.history (rows_of g) (seat_of g) q call result
+MakesHeld g q call result = Makes (rows_of g) (seat_of g) q call result
 
 abbrev pub MakesAlone : Pass → Pass → Request → Result (Reply × ℕ) ChangeFault → Type 0
-MakesAlone p q call result = (history : List Request) × Makes history (known q).got p q call result
+MakesAlone p q call result = Makes (known q).got p q call result
 
 -- up to this many rows were emptied, from the rows that the pass got to those that it left
 pub record Shrinks (most n : ℕ) (q : Pass) : Type 0 where

@@ -19,7 +19,7 @@ IsReadFault Read = Unit {0}
 IsReadFault NoMemory = Unit {0}
 IsReadFault _ = ⊥
 
--- answering ends with these faults alone, `Spent` only where the clock gets as far as this limit
+-- answering ends with these faults alone, `Spent` only if the clock gets as far as this limit
 abbrev pub IsServiceFault : ℕ → ServeFault → Type 0
 IsServiceFault clock NoMemory = Unit {0}
 IsServiceFault clock Spent = MOST_COUNT ≤ clock

@@ -12,7 +12,7 @@ use Rattle.dc_serve.specs.Turns.{IsRun, IsTurnwise, Turn, all_of, text_of}
 use Rattle.dc_serve.specs.declared.fault.ServeFault.{ServeFault}
 use Rattle.dc_serve.specs.declared.fault.ServeFault.TheVariants.{BadSize, Read, BadLine, NoMemory, Spent, Write}
 
--- the commands of these phases were answered in a run of the plain tree, with so many inodes allowed, and its text was
+-- the commands of these phases were answered in a run of the plain tree, with this many inodes allowed, and its text was
 -- written so
 pub record Serves (limit : ℕ) (phases : List (List Order)) (Written : List ℕ → Type 0) : Type 0 where
   pub turns : List (List Turn)
@@ -22,7 +22,7 @@ pub record Serves (limit : ℕ) (phases : List (List Order)) (Written : List ℕ
   pub written : Written (text_of (all_of turns))
 
 -- serving ends early after whole phases, and where writing fails after a front of the text of some; `Spent` comes
--- only where there are as many orders as the clock may count
+-- only if there are as many orders as the clock may count
 abbrev pub ServesFront : ℕ → List (List Order) → Option (List ℕ) → Option (List ℕ) → ServeFault → Type 0
 ServesFront limit phases old new NoMemory = (count : ℕ) × Serves limit (take count phases) (Appends old new)
 ServesFront limit phases old new Spent = MOST_COUNT ≤ length (in_order phases)
@@ -107,7 +107,7 @@ pub record LeavesAll (streams : Streams) : Type 0 where
   pub unread : Keeps streams.unread streams.rest
   pub kept : Keeps streams.old streams.new
 
--- what each fault leaves; `Spent` never comes, as no input holds so many commands
+-- what each fault leaves; `Spent` never comes, as no input holds this many commands
 abbrev pub EndsBy : ℕ → Streams → ServeFault → Type 0
 EndsBy limit streams BadSize = LeavesAll streams
 EndsBy limit streams Read = Keeps streams.old streams.new

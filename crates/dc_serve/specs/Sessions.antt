@@ -36,7 +36,7 @@ pub record Obeyed (a : Book) (before : Progress) (orders : List Order) (then : P
   pub told : then.text ≡ before.text ++ text_of turns
   pub recorded : RecordedAll a (records_of turns) b
 
--- whatever came of it, some calls were recorded, so many at most
+-- whatever came of it, some calls were recorded, this many at most
 abbrev pub RecordedSome : ℕ → Book → Book → Type 0
 RecordedSome most a b = (records : List Record) × RecordedAll a records b × (length records ≤ most)
 
@@ -59,7 +59,7 @@ pub record TookIn (a : Book) (more : List (List Record)) (b : Book) : Type 0 whe
   pub rise : AllRise a.seen more
   pub seen : a.seen ≤ b.seen
 
--- a list of records where there are some
+-- a list of records if there are some
 abbrev pub some_of : List Record → List (List Record)
 some_of [] = []
 some_of (r ∷ rs) = (r ∷ rs) ∷ []
@@ -96,6 +96,6 @@ abbrev pub size : List (List Record) → ℕ
 size [] = 0
 size (s ∷ ss) = length s + size ss
 
--- whatever came of it, some records were taken in, so many at most
+-- whatever came of it, some records were taken in, this many at most
 abbrev pub TookInSome : ℕ → Book → Book → Type 0
 TookInSome most a b = (more : List (List Record)) × TookIn a more b × (size more ≤ most)

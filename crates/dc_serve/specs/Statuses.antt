@@ -17,7 +17,7 @@ status_of Spent = 3
 status_of Read = 4
 status_of Write = 4
 
--- 0 where help is told, 3 where clap found no memory, 2 for all other words
+-- 0 if help is told, 3 if clap found no memory, 2 for all other words
 abbrev pub kind_status : ErrorKind → ℕ
 kind_status DisplayHelp = 0
 kind_status OutOfMemory = 3

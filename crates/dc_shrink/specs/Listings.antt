@@ -48,7 +48,7 @@ added s row = listing s.rows (row ∷ s.listed) s.pins
 abbrev pub touched : Listing → ℕ → Listing
 touched s row = listing s.rows (row ∷ without row s.listed) s.pins
 
--- with so many pins, and so out of the list
+-- with this many pins, and so out of the list
 abbrev pub with_pins : Listing → ℕ → ℕ → Listing
 with_pins s row pins = listing s.rows (without row s.listed) (map.insert s.pins row pins)
 

@@ -72,7 +72,7 @@ pub(crate) fn promote(buckets: &mut [Bucket], row: u64)
     bucket.promote(row);
 }
 
-/// The buckets of so many rows.
+/// The buckets of this many rows.
 pub(crate) fn buckets_of(alloc: Global, rows: u64) -> Result<Vec<Bucket>, AllocError>
     ensures { IfOk result (λ b. b.items ≡ map four_rows (range_with_len 0 (div_ceil rows BUCKET_ROWS))) }
 {

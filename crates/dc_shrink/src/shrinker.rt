@@ -74,9 +74,9 @@ impl Shrinker {
     }
 
     /// Lists the row that was chosen for a key as the most recently used, whatever it was: as `remove` and
-    /// `add` after each other, but the list is searched once, and takes no memory where it has the row.
+    /// `add` after each other, but the list is searched once, and takes no memory if it has the row.
     ///
-    /// `NoMemory` where it can't be listed: then it is out of use.
+    /// `NoMemory` if it can't be listed: then it is out of use.
     pub fn renew(&mut self, chosen: u64) -> Result<(), NoMemory>
         requires { chosen < self.old.rows }
         ensures first { OnOk result (self.new ≡ added (dropped self.old chosen) chosen) }
@@ -123,7 +123,7 @@ impl Shrinker {
 
     /// Takes a pin from a pinned row. With none left the row is listed, as the most recently used.
     ///
-    /// `NoMemory` where it can't be listed: the pin is gone, and the row is no longer in use.
+    /// `NoMemory` if it can't be listed: the pin is gone, and the row is no longer in use.
     pub fn unpin(&mut self, row: u64) -> Result<(), NoMemory>
         requires { 0 < pins_of self.old row }
         ensures unpinned { OnOk result (self.new ≡ unpinned_once self.old row) }
@@ -140,7 +140,7 @@ impl Shrinker {
         self.add(row)
     }
 
-    /// Makes a row in use have so many pins. `NoMemory` comes only where it had none.
+    /// Makes a row in use have this many pins. `NoMemory` comes only if it had none.
     fn set_pins(&mut self, row: u64, pins: u64) -> Result<(), NoMemory>
         requires used { IsTrue (is_used self.old row) }
         requires limits { (1 ≤ pins) × (pins ≤ MOST_COUNT) }
@@ -154,7 +154,7 @@ impl Shrinker {
         Ok(())
     }
 
-    /// How many pins a row has: 0 where it has none.
+    /// How many pins a row has: 0 if it has none.
     #[must_use]
     pub fn pins(&self, row: u64) -> u64
         ensures pins { result ≡ pins_of self.now row }

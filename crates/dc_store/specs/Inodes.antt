@@ -33,7 +33,7 @@ tree_of inodes next = tree_in (entries_of inodes) (nodes_of inodes) next
 abbrev pub inode_at : List (ℕ × Inode) → ℕ → Option Inode
 inode_at inodes n = lookup nat_cmp n inodes
 
--- how many entries lead to a number by the count that is kept, 0 where nothing lives
+-- how many entries lead to a number by the count that is kept, 0 if nothing lives
 abbrev pub count_kept : List (ℕ × Inode) → ℕ → ℕ
 count_kept inodes n = unwrap_or (option_map (λ inode. inode.count) (inode_at inodes n)) 0
 
@@ -59,7 +59,7 @@ one_down inode = record inode { count = inode.count - 1 }
 abbrev pub held_by : ℕ → Inode → Inode
 held_by parent inode = record inode { node = with_parent parent inode.node }
 
--- what lost an entry has a name less, and goes where that was its last
+-- what lost an entry has a name less, and goes if that was its last
 abbrev pub inodes_after : Option ℕ → List (ℕ × Inode) → List (ℕ × Inode)
 inodes_after None inodes = inodes
 inodes_after (Some n) inodes =

@@ -22,7 +22,7 @@ key_of spot = number_bytes spot.dir ++ spot.name
 abbrev pub spot_in : List ℕ → Spot
 spot_in key = spot_at (number_in (take 8 key)) (drop 8 key)
 
--- the name of a key, where it is for an entry in a directory
+-- the name of a key, if it is for an entry in a directory
 abbrev pub name_held : ℕ → List ℕ → Option (List ℕ)
 name_held d key = if bytes_eq (take 8 key) (number_bytes d) then Some (drop 8 key) else None
 

@@ -39,7 +39,7 @@ tree_in entries nodes next = record { entries = entries; inodes = map inode_show
 abbrev pub node_at : List (ℕ × rust_node.Node) → ℕ → Option rust_node.Node
 node_at nodes n = lookup (is_at (nat_cmp n)) nodes
 
--- without the node of what was replaced, where no entry leads to it
+-- without the node of what was replaced, if no entry leads to it
 abbrev pub nodes_after : Option ℕ → List (Spot × ℕ) → List (ℕ × rust_node.Node) → List (ℕ × rust_node.Node)
 nodes_after None entries nodes = nodes
 nodes_after (Some n) entries nodes = if how_many (λ e. e.1 == n) entries == 0 then remove_entry (is_at (nat_cmp n)) nodes else nodes
@@ -54,7 +54,7 @@ with_parent up (kinds.Link text) = kinds.Link text
 abbrev pub parent_in : Tree → ℕ → Option ℕ
 parent_in t n = if n == 1 then Some 1 else holder_of t n
 
--- a directory's node keeps the number that its dot-dot leads to, where a directory lives, and a link's text has a path
+-- a directory's node keeps the number that its dot-dot leads to, if a directory lives, and a link's text has a path
 pub record IsNodeAt (t : Tree) (n : ℕ) (node : rust_node.Node) : Type 0 where
   pub parent : parent_kept node ≡ option_map (λ place. place.0) (entry_of t n Parent)
   pub directory : IfSome (parent_kept node) (λ up. IsTrue (is_live_directory t up))

@@ -114,7 +114,7 @@ impl Entries {
     }
 }
 
-/// Puts the name of a key at the end, where the key is for an entry in a directory.
+/// Puts the name of a key at the end, if the key is for an entry in a directory.
 fn push_name(names: &mut Vec<Vec<u8>>, alloc: Global, key: &[u8], dir: u64) -> Result<(), NoMemory>
     ensures { OnOk result
         (names_shown names.new ≡ names_shown names.old ++ names_of_key dir key.entry.now) }

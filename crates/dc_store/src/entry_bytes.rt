@@ -64,7 +64,7 @@ fn put_at(bytes: &mut [u8], start: usize, part: &[u8])
     bytes[start..start + part.len()].copy_from_slice(part);
 }
 
-/// The name of a key, where it is for an entry in a directory.
+/// The name of a key, if it is for an entry in a directory.
 pub fn name_in(key: &[u8], dir: u64) -> Option<&[u8]>
     ensures { option_map (λ name. name.now) result ≡ name_held dir key.now }
 {

@@ -71,7 +71,7 @@ impl Inodes {
         Some(&mut self.slab[key])
     }
 
-    /// Adds an inode under a number where none is.
+    /// Adds an inode under a number under which there is none.
     pub fn insert(&mut self, number: u64, inode: Inode) -> Result<(), NoMemory>
         requires { inode_at self.old number ≡ None }
         ensures ok { OnOk result (self.new ≡ put nat_cmp number inode self.old) }
@@ -142,7 +142,7 @@ impl Inodes {
         }
     }
 
-    /// Counts one entry less for what lost one, which goes where that was its last.
+    /// Counts one entry less for what lost one, which goes if that was its last.
     pub fn lose(&mut self, lost: Option<u64>)
         requires { IfSome lost (λ n. IfSome (inode_at self.old n) (λ inode. 0 < inode.count)) }
         ensures { self.new ≡ inodes_after lost self.old }

@@ -59,7 +59,7 @@ impl MapStore {
         self.nodes.get(&number)
     }
 
-    /// Adds a node under the next number, and an entry for it. The node goes again where the entry
+    /// Adds a node under the next number, and an entry for it. The node goes again if the entry
     /// finds no memory.
     fn make(&mut self, alloc: Global, dir: u64, name: Name<'_>, node: Node) -> Result<u64, NoMemory>
         requires directory { IsTrue (is_live_directory self.old dir) }

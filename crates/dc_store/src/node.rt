@@ -67,7 +67,7 @@ pub fn set_parent(nodes: &mut BTreeMap<u64, Node>, number: u64, parent: u64)
     }
 }
 
-/// Drops the node of what lost an entry, where no entry leads to it any more.
+/// Drops the node of what lost an entry, if no entry leads to it any more.
 pub fn drop_unnamed(nodes: &mut BTreeMap<u64, Node>, entries: &Entries, lost: Option<u64>)
     ensures rest { nodes.new.entries ≡ nodes_after lost entries.now nodes.old.entries }
     ensures kept { AreAmong nodes.new.entries nodes.old.entries }

@@ -29,6 +29,9 @@ use std::marker::Model;
 pub struct SlabStore {
     inodes: Inodes,
     next: u64,
+    /// How many entries there are, and the most that it takes. No clause speaks of them.
+    entries: u64,
+    most_entries: u64,
 }
 
 impl Model for SlabStore {
@@ -40,8 +43,16 @@ impl Model for SlabStore {
 }
 
 impl SlabStore {
-    /// A store with the root directory alone.
+    /// A store with the root directory alone, which takes any number of entries.
     pub fn new(alloc: Global) -> Result<SlabStore, NoMemory>
+        ensures { IfOk result (λ store. store ≡ empty_tree) }
+    {
+        SlabStore::with_entries(alloc, u64::MAX)
+    }
+
+    /// A store with the root directory alone, which takes at most this many entries: one more is
+    /// `NoMemory`, as if memory had been refused.
+    pub fn with_entries(alloc: Global, most_entries: u64) -> Result<SlabStore, NoMemory>
         ensures { IfOk result (λ store. store ≡ empty_tree) }
     {
         let mut inodes = Inodes::new(alloc);
@@ -51,7 +62,12 @@ impl SlabStore {
             count: 0,
         };
         inodes.insert(1, root)?;
-        Ok(SlabStore { inodes, next: 2 })
+        Ok(SlabStore {
+            inodes,
+            next: 2,
+            entries: 0,
+            most_entries,
+        })
     }
 
     /// What is kept under a number.
@@ -65,7 +81,7 @@ impl SlabStore {
         self.inodes.get(number)
     }
 
-    /// Adds an inode under the next number, and an entry for it. The inode goes again where the entry
+    /// Adds an inode under the next number, and an entry for it. The inode goes again if the entry
     /// finds no memory.
     fn make(&mut self, alloc: Global, dir: u64, name: Name<'_>, node: Node) -> Result<u64, NoMemory>
         requires directory { IsTrue (is_live_directory self.old dir) }
@@ -78,6 +94,9 @@ impl SlabStore {
         ensures err { OnErr result (self.new ≡ self.old) }
     {
         trees_keep_their_laws();
+        if self.entries >= self.most_entries {
+            return Err(NoMemory);
+        }
         let number = self.next;
         let inode = Inode {
             node,
@@ -90,6 +109,7 @@ impl SlabStore {
             return Err(NoMemory);
         };
         self.next += 1;
+        self.entries = self.entries.saturating_add(1);
         Ok(number)
     }
 
@@ -103,8 +123,12 @@ impl SlabStore {
         ensures err { OnErr result (self.new ≡ self.old) }
     {
         trees_keep_their_laws();
+        if self.entries >= self.most_entries {
+            return Err(NoMemory);
+        }
         self.inodes.enter(alloc, dir, name, number)?;
         self.inodes.count_up(number);
+        self.entries = self.entries.saturating_add(1);
         Ok(())
     }
 
@@ -124,6 +148,7 @@ impl SlabStore {
     {
         trees_keep_their_laws();
         let replaced = self.inodes.enter(alloc, new.dir, new.name, number)?;
+        self.entries = self.entries.saturating_sub(replaced.is_some() as u64);
         // A file under both names for a moment is never seen: nothing can fail from here on.
         self.inodes.leave(old.dir, old.name);
         self.inodes.lose(replaced);
@@ -202,6 +227,7 @@ impl Store for SlabStore {
         trees_keep_their_laws();
         let lost = self.inodes.leave(dir, name);
         self.inodes.lose(lost);
+        self.entries = self.entries.saturating_sub(1);
     }
 
     fn move_entry(

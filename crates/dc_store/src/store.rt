@@ -37,7 +37,7 @@ pub trait Store {
     /// The plain tree that it stands for.
     ghost tree: { Self → Tree };
 
-    /// The number that a name in a directory leads to. `None` where there is no such entry, or no such
+    /// The number that a name in a directory leads to. `None` if there is no such entry, or no such
     /// directory.
     fn find(&self, dir: u64, name: Name<'_>) -> Option<u64>
         ensures target { result ≡ entry_number (tree self.now) (spot_at dir name.entry.bytes.now) }
@@ -53,19 +53,19 @@ pub trait Store {
         ensures target { result ≡ entry_number (tree self.now) (spot_at dir name.entry.bytes.now) }
         ensures well { IsWellFormed (tree self.now) };
 
-    /// The kind of an inode. `None` where nothing lives under the number.
+    /// The kind of an inode. `None` if nothing lives under the number.
     fn kind(&self, number: u64) -> Option<Kind>
         ensures kind { result ≡ option_map kind_of (inode_of (tree self.now) number) }
         ensures well { IsWellFormed (tree self.now) };
 
-    /// The directory that holds a directory's entry. The root holds itself. `None` where no directory
+    /// The directory that holds a directory's entry. The root holds itself. `None` if no directory
     /// lives under the number.
     fn parent(&self, number: u64) -> Option<u64>
         ensures parent { result
             ≡ option_map (λ place. place.0) (entry_of (tree self.now) number Parent) }
         ensures directory { IfSome result (λ up. IsTrue (is_live_directory (tree self.now) up)) };
 
-    /// The text of a link, which is a path. `None` where no link lives under the number.
+    /// The text of a link, which is a path. `None` if no link lives under the number.
     fn text(&self, number: u64) -> Option<&[u8]>
         ensures text { option_map (λ text. text.now) result ≡ text_of (tree self.now) number }
         ensures path { IfSome result (λ text. fault_of text.now ≡ None) };
@@ -80,21 +80,21 @@ pub trait Store {
         ensures next { result ≡ (tree self.now).next }
         ensures well { IsWellFormed (tree self.now) };
 
-    /// How many names a file or link has, or how many entries stand in a directory. 0 where nothing
+    /// How many names a file or link has, or how many entries stand in a directory. 0 if nothing
     /// lives under the number.
     fn count(&self, number: u64) -> u64
         ensures count { result ≡ count_of (tree self.now) number }
         ensures well { IsWellFormed (tree self.now) };
 
-    /// The names in a directory, by their bytes. None where no directory lives under the number.
-    /// `NoMemory` where memory was refused.
+    /// The names in a directory, by their bytes. None if no directory lives under the number.
+    /// `NoMemory` if memory was refused.
     fn list(&self, alloc: Global, dir: u64) -> Result<Vec<Vec<u8>>, NoMemory>
         ensures { IfOk result (λ names. names_shown names ≡ names_in (tree self.now) dir) };
 
     /// Adds an entry to a live directory, under a name that is free there, and answers the number that
-    /// it leads to: that of a new inode, where the next number is below `NUMBER_LIMIT`, or of one that
+    /// it leads to: that of a new inode, if the next number is below `NUMBER_LIMIT`, or of one that
     /// lives, is no directory and has fewer than `MOST_NAMES` names.
-    /// `NoMemory` where memory was refused: then nothing has changed.
+    /// `NoMemory` if memory was refused: then nothing has changed.
     fn add(
         &mut self,
         alloc: Global,
@@ -111,15 +111,15 @@ pub trait Store {
         ensures err { OnErr result (tree self.new ≡ tree self.old) };
 
     /// Drops an entry that is there and leads to no directory in which entries stand, and what it leads
-    /// to where that was its last name. It takes no memory.
+    /// to if that was its last name. It takes no memory.
     fn drop_entry(&mut self, dir: u64, name: Name<'_>)
         requires { CanDrop (tree self.old) (spot_at dir name.bytes.now) }
         ensures { Drops (tree self.old) (spot_at dir name.entry.bytes.now) (tree self.new) };
 
     /// Moves an entry that is there, and leads to this number, to another name, in a live directory that
     /// isn't beneath what moves: over nothing, or over another inode that is no directory in which entries
-    /// stand, whose name goes and which goes itself where that was its last.
-    /// `NoMemory` where memory was refused: then nothing has changed.
+    /// stand, whose name goes and which goes itself if that was its last.
+    /// `NoMemory` if memory was refused: then nothing has changed.
     fn move_entry(
         &mut self,
         alloc: Global,

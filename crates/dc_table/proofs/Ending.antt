@@ -22,18 +22,18 @@ use Rattle.dc_events.specs.Effects.{nobody}
 use Rattle.dc_events.specs.Passes.{newcomer, joined_with}
 use Rattle.dc_events.specs.Laws.{PassesKeepTheRule, NewTablesHaveTheRule, RecordsAreLegal}
 use Rattle.dc_plain.specs.Requests.{Request}
-use Rattle.dc_table.specs.Shares.{Known, Shares, IsSpent, IsWhole, first_known, kept_half, new_half, both, spent}
+use Rattle.dc_table.specs.Shares.{Known, Shares, Everyone, IsSpent, IsWhole, first_known, kept_half, new_half, both, spent}
 use Rattle.dc_table.specs.Rows.{OfNone, At, FitsSlot, is_retired}
-use Rattle.dc_table.specs.Kept.{HomeFits, IsNew, Kept, known_of, knowns, views_of, sheet_of, first_sheet}
+use Rattle.dc_table.specs.Kept.{HomeFits, HoldsFit, IsNew, Kept, known_of, knowns, views_of, sheet_of, first_sheet}
 use Rattle.dc_table.specs.Ends.{Ends}
 use Rattle.dc_table.specs.Boxes.{Boxed}
 use Rattle.dc_table.specs.declared.table.Guarded.{Guarded}
 use Rattle.dc_table.specs.declared.table.Limits.{Limits}
 use Rattle.dc_table.specs.declared.sheet.Sheet.{Sheet}
 use Rattle.dc_table.proofs.Totals.{total_map, total_only}
-use Rattle.dc_table.proofs.Sharing.{splits_shares, joins_shares, no_other}
+use Rattle.dc_table.proofs.Sharing.{everyone_set, everyone_snoc, splits_shares, joins_shares, no_other}
 use Rattle.dc_table.proofs.Cells.{spells_too}
-use Rattle.dc_table.proofs.Kept.{known_there, view_there, mapped_at, knowns_set, views_set}
+use Rattle.dc_table.proofs.Kept.{known_there, view_there, mapped_at, knowns_set, views_set, never_held, over_joined}
 
 module _ (k : Limits) (law : PassesKeepTheRule) where
   pub splits_seat : (id : ℕ) (v : Sheet) → Splits (Kept k) id v (sheet_of (kept_half (known_of v))) (sheet_of (new_half (known_of v)))
@@ -46,6 +46,8 @@ module _ (k : Limits) (law : PassesKeepTheRule) where
         record {
           rule = subst (λ vs. Rule k.max_inodes k.rows s.words vs kept.0) (sym views) (law.split k.max_inodes k.rows s.words (views_of passes) kept.0 id mine.view K.rule seat);
           shares = subst (Shares k.max_inodes k.rows) (sym is) (splits_shares K.shares id mine pass);
+          holds = subst (λ l. Everyone l (HoldsFit kept.0)) (sym is) (everyone_snoc (set passes id (kept_half mine)) (new_half mine) (HoldsFit kept.0) (never_held kept.0 (new_half mine).got refl)
+              (everyone_set passes id (kept_half mine) (HoldsFit kept.0) (K.holds id mine pass) K.holds));
           home = K.home;
         },
       )
@@ -62,6 +64,9 @@ module _ (k : Limits) (law : PassesKeepTheRule) where
           rule = subst (λ vs. Rule k.max_inodes k.rows s.words vs kept.0) (sym views)
               (law.join k.max_inodes k.rows s.words (views_of passes) kept.0 id mine.view K.rule (view_there s.views id v at) other hers.view apart (view_there s.views other w there') free);
           shares = subst (Shares k.max_inodes k.rows) (sym is) (joins_shares K.shares id mine (known_there s.views id v at) other hers apart (known_there s.views other w there') part);
+          holds = let f = K.holds id mine (known_there s.views id v at) in let g = K.holds other hers (known_there s.views other w there') in
+              subst (λ l. Everyone l (HoldsFit kept.0)) (sym is) (everyone_set (set passes id (both mine hers)) other spent (HoldsFit kept.0) (never_held kept.0 spent.got refl)
+              (everyone_set passes id (both mine hers) (HoldsFit kept.0) record { last = f.last; over = over_joined kept.0 mine.past hers.past f.over g.over } K.holds));
           home = K.home;
         },
       )
@@ -98,6 +103,7 @@ ends legal k id v ws xs f lock x at_lock at_x = let s = f.0 in let h = f.1.0.0 i
               tree_is = home.2.tree;
               clock_is = home.2.clock;
               book = B;
+              holds = (K.holds id mine at).over;
               once = λ w p. whole_once R K.shares id mine at w p;
               legal = λ w. legal k.max_inodes h (mine.view.book.own ∷ mine.view.book.joined)
                   (in_cons (λ z. (j : ℕ) (r : Record) → get_elem? z j ≡ some r → Stands k.max_inodes h r) mine.view.book.own mine.view.book.joined B.own.stand (λ i z t. (B.joined i z t).stand))
@@ -155,6 +161,7 @@ opening_kept law empty k ws x xs is one store clock limit slots free rows unused
   record {
     rule = subst (λ w. Rule k.max_inodes k.rows w (nobody ∷ []) []) (sym is) R;
     shares = opening_shares k.max_inodes k.rows;
+    holds = only_first k.max_inodes k.rows (HoldsFit []) (never_held [] (first_known k.max_inodes k.rows).got refl);
     home = (
       (λ _. (
         x,

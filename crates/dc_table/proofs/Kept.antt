@@ -1,5 +1,5 @@
 -- The rule of the table after a step of one pass.
-use Rattle.std.proofs.Common.{◌≡◌, ℕ, ◌<◌, List, [], ◌∷◌, map, get_or, set, sym, refl, ap, ◌∙◌, subst, zero, suc, arith, Option as Maybe, get_or-set_other, length-set}
+use Rattle.std.proofs.Common.{◌≡◌, ℕ, ◌<◌, List, [], ◌∷◌, ◌++◌, map, append-nil, append_assoc, get_or, set, sym, refl, ap, ◌∙◌, subst, zero, suc, arith, Option as Maybe, get_or-set_other, length-set}
 use Rattle.std.proofs.lemmas.List.{map-set}
 use lib.Seq.{set-get_or}
 use mathlib.Core.Option.{some, some-injective, some-ne-none}
@@ -9,16 +9,20 @@ use Rattle.atomic_table.proofs.Lists.{at_map}
 use Rattle.dc_plain.specs.Requests.{Request}
 use Rattle.dc_plain.specs.Trees.{Tree}
 use Rattle.dc_index.specs.Slots.{Slot, slot_of}
+use Rattle.dc_events.specs.Views.{View}
 use Rattle.dc_events.specs.Rows.{row_words}
 use Rattle.dc_events.specs.Rule.{Rule, AllEven}
-use Rattle.dc_table.specs.Shares.{Known, Shares}
+use Rattle.dc_table.specs.Shares.{Known, LockHold, Shares, Everyone, Begins, AreHoldsOf}
 use Rattle.dc_table.specs.Rows.{At, OfNone, Rest}
-use Rattle.dc_table.specs.Kept.{HomeFits, Home, KeptAt, Kept, known_of, knowns, views_of, sheet_of}
+use Rattle.dc_table.specs.RowStates.{RowState}
+use Rattle.dc_table.specs.Plays.{handed}
+use Rattle.dc_table.specs.Kept.{HomeFits, Home, HasHeld, HoldsFit, KeptAt, Kept, known_of, knowns, views_of, sheet_of}
 use Rattle.dc_table.specs.Boxes.{Boxed}
 use Rattle.dc_table.specs.declared.table.Guarded.{Guarded}
 use Rattle.dc_table.specs.declared.table.Limits.{Limits}
 use Rattle.dc_table.specs.declared.sheet.Sheet.{Sheet}
 use Rattle.dc_table.proofs.Cells.{row_low}
+use Rattle.dc_table.proofs.Sharing.{everyone_set}
 
 abbrev pub Seen : Type 0
 Seen = State (Maybe Boxed) Sheet
@@ -57,29 +61,59 @@ home_low limit rows words hist v i x low h = record { tree = h.tree; clock = h.c
 pub home_even : (limit rows : ℕ) (words : List ℕ) (hist : List Request) (v : Guarded) → HomeFits limit rows words hist v → AllEven rows words
 home_even limit rows words hist v h row inside = (h.rest.rest row inside).even (λ key e never. never)
 
+-- holds of a history are holds of one that goes on from there
+pub begins_itself : (h : List Request) → Begins h h
+begins_itself h = ([], sym (append-nil h))
+
+more : (early h : List Request) (call : Request) → Begins early h → Begins early (h ++ call ∷ [])
+more early h call b = (b.0 ++ call ∷ [], ap (λ l. l ++ call ∷ []) b.1 ∙ append_assoc early b.0 (call ∷ []))
+
+more_over : (h : List Request) (call : Request) (past : List LockHold) → AreHoldsOf h past → AreHoldsOf (h ++ call ∷ []) past
+more_over h call [] all = tt
+more_over h call (x ∷ xs) all = (record { got = all.0.got; left = more x.left.history h call all.0.left }, more_over h call xs all.1)
+
+pub holds_later : (h : List Request) (call : Request) (k : Known) → HoldsFit h k → HoldsFit (h ++ call ∷ []) k
+holds_later h call k f = record { last = more k.got.history h call f.last; over = more_over h call k.past f.over }
+
+-- and so are those of a pass that was joined, of one that never had the lock, and of one that has just given it back
+pub over_joined : (h : List Request) (a b : List LockHold) → AreHoldsOf h a → AreHoldsOf h b → AreHoldsOf h (a ++ b)
+over_joined h [] b f g = g
+over_joined h (x ∷ xs) b f g = (f.0, over_joined h xs b f.1 g)
+
+pub never_held : (h : List Request) (got : RowState) → got.history ≡ [] → HasHeld h got []
+never_held h got none = record { last = (h, sym (ap (λ l. l ++ h) none)); over = tt }
+
+pub handed_fits : (h : List Request) (k : Known) (v : View) (x : Guarded) → k.view.hold.history ≡ h → HoldsFit h k → HoldsFit h (handed k v x)
+handed_fits h k v x is f = record {
+  last = f.last;
+  over = (record { got = subst (Begins k.got.history) (sym is) f.last; left = subst (λ l. Begins l h) (sym is) (begins_itself h) }, f.over);
+}
+
 module _ (k : Limits) where
   -- a step of one pass, with the word, the view and the act that it has
   pub after_step : (s : Seen) (h : List Request) (i x id : ℕ) (cs : List (ℕ × Maybe Boxed)) (l : Known) (a : Act (Maybe Boxed))
-      → Rule k.max_inodes k.rows (set s.words i x) (set (views_of (knowns s.views)) id l.view) h → Shares k.max_inodes k.rows (set (knowns s.views) id l)
+      → Rule k.max_inodes k.rows (set s.words i x) (set (views_of (knowns s.views)) id l.view) h → Shares k.max_inodes k.rows (set (knowns s.views) id l) → HoldsFit h l → Everyone (knowns s.views) (HoldsFit h)
       → Home k.max_inodes k.rows (set s.words i x) (homes_after s.homes cs a) h → Kept k (stepped s i x id cs (sheet_of l) a)
-  after_step s h i x id cs l a rule shares home = (
+  after_step s h i x id cs l a rule shares mine others home = (
     h,
     record {
       rule = subst (λ vs. Rule k.max_inodes k.rows (set s.words i x) vs h) (sym (ap views_of (knowns_set s.views id l) ∙ views_set (knowns s.views) id l)) rule;
       shares = subst (Shares k.max_inodes k.rows) (sym (knowns_set s.views id l)) shares;
+      holds = subst (λ passes. Everyone passes (HoldsFit h)) (sym (knowns_set s.views id l)) (everyone_set (knowns s.views) id l (HoldsFit h) mine others);
       home = home;
     },
   )
 
   -- one that changes no word
   pub after_load : (s : Seen) (h : List Request) → KeptAt k s h → (i id : ℕ) (cs : List (ℕ × Maybe Boxed)) (l : Known) → Rule k.max_inodes k.rows s.words (set (views_of (knowns s.views)) id l.view) h
-      → Shares k.max_inodes k.rows (set (knowns s.views) id l) → Kept k (stepped s i (get_or s.words i 0) id cs (sheet_of l) keeps)
-  after_load s h K i id cs l rule shares = let same = sym (set-get_or s.words i 0) in
-      after_step s h i (get_or s.words i 0) id cs l keeps (subst (λ (ws : List ℕ). Rule k.max_inodes k.rows ws (set (views_of (knowns s.views)) id l.view) h) same rule) shares
+      → Shares k.max_inodes k.rows (set (knowns s.views) id l) → HoldsFit h l → Kept k (stepped s i (get_or s.words i 0) id cs (sheet_of l) keeps)
+  after_load s h K i id cs l rule shares mine = let same = sym (set-get_or s.words i 0) in
+      after_step s h i (get_or s.words i 0) id cs l keeps (subst (λ (ws : List ℕ). Rule k.max_inodes k.rows ws (set (views_of (knowns s.views)) id l.view) h) same rule) shares mine K.holds
       (subst (λ (ws : List ℕ). Home k.max_inodes k.rows ws s.homes h) same K.home)
 
   -- one of the holder of the lock, which goes on having it
   pub after_held : (s : Seen) (h h' : List Request) → KeptAt k s h → (i x id : ℕ) (cs : List (ℕ × Maybe Boxed)) (l : Known) → get_or s.words 1 0 ≡ 1 → ¬ (1 ≡ i)
-      → Rule k.max_inodes k.rows (set s.words i x) (set (views_of (knowns s.views)) id l.view) h' → Shares k.max_inodes k.rows (set (knowns s.views) id l) → Kept k (stepped s i x id cs (sheet_of l) keeps)
-  after_held s h h' K i x id cs l locked apart rule shares = let same = get_or-set_other s.words i 1 x 0 apart in
-      after_step s h' i x id cs l keeps rule shares ((λ free. absurd (omega arith)), λ _. K.home.1 locked)
+      → Rule k.max_inodes k.rows (set s.words i x) (set (views_of (knowns s.views)) id l.view) h' → Shares k.max_inodes k.rows (set (knowns s.views) id l)
+      → HoldsFit h' l → Everyone (knowns s.views) (HoldsFit h') → Kept k (stepped s i x id cs (sheet_of l) keeps)
+  after_held s h h' K i x id cs l locked apart rule shares mine others = let same = get_or-set_other s.words i 1 x 0 apart in
+      after_step s h' i x id cs l keeps rule shares mine others ((λ free. absurd (omega arith)), λ _. K.home.1 locked)

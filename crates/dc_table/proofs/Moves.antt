@@ -17,14 +17,14 @@ use Rattle.dc_events.specs.Effects.{taken, wrote, committed, gave, answered}
 use Rattle.dc_events.specs.Laws.{HoldersKeepTheRule}
 use Rattle.dc_table.specs.Shares.{Known, Shares, with_view, tried}
 use Rattle.dc_table.specs.Rows.{MayStand}
-use Rattle.dc_table.specs.Kept.{HomeFits, KeptAt, Kept, knowns, views_of, sheet_of}
+use Rattle.dc_table.specs.Kept.{HomeFits, HoldsFit, KeptAt, Kept, knowns, views_of, sheet_of}
 use Rattle.dc_table.specs.Plays.{Place, Home, Took, known_at, rows_as, handed, took, raised, put, committed_as, gave_as, answered_as}
 use Rattle.dc_table.specs.Passes.{CanShut, CanOpen, CanCommit}
 use Rattle.dc_table.specs.Boxes.{Boxed}
 use Rattle.dc_table.specs.declared.table.Guarded.{Guarded}
 use Rattle.dc_table.specs.declared.table.Limits.{Limits}
 use Rattle.dc_table.proofs.Sharing.{same_shares}
-use Rattle.dc_table.proofs.Kept.{Seen, known_there, view_there, home_low, home_even, after_step, after_load, after_held}
+use Rattle.dc_table.proofs.Kept.{Seen, known_there, view_there, home_low, home_even, begins_itself, holds_later, handed_fits, after_step, after_load, after_held}
 
 -- a step is for each state: what is known of the pass there
 record There (k : Limits) (s : Seen) (h : List Request) (id : ℕ) (me : Place) : Type 0 where
@@ -48,7 +48,7 @@ took_since k m l x same more t = let first = t.tried in let later = t.later in l
   words = t.words;
   history = t.history;
   tries = t.tries;
-  now = t.now ∙ ap (λ (z : Known). record z { view = taken z.view t.words t.history; tries = t.tries; got = rows_as t.words x }) same;
+  now = t.now ∙ ap (λ (z : Known). record z { view = taken z.view t.words t.history; tries = t.tries; got = rows_as t.history t.words x }) same;
   tried = omega arith;
   early = t.early;
   later = omega arith;
@@ -68,21 +68,24 @@ module _ (k : Limits) (law : HoldersKeepTheRule) where
   shares_with : (s : Seen) (h : List Request) (id : ℕ) (me : Place) → There k s h id me → (l : Known) → l.share ≡ (known_at me).share → Shares k.max_inodes k.rows (set (knowns s.views) id l)
   shares_with s h id me T l same = same_shares T.kept.shares id (known_at me) T.pass T.part l same
 
+  holds_fit : (s : Seen) (h : List Request) (id : ℕ) (me : Place) → There k s h id me → HoldsFit h (known_at me)
+  holds_fit s h id me T = T.kept.holds id (known_at me) T.pass
+
   -- a lock that was tried and was not free
   missed : (s : Seen) (h : List Request) (id : ℕ) (me : Place) → There k s h id me → Kept k (stepped s 1 (get_or s.words 1 0) id me.1 (sheet_of (tried (known_at me))) keeps)
   missed s h id me T = after_load k s h T.kept 1 id me.1 (tried (known_at me)) (subst (λ vs. Rule k.max_inodes k.rows s.words vs h) (sym (set_again (views_of (knowns s.views)) id (known_at me).view T.seat)) T.kept.rule)
-      (shares_with s h id me T (tried (known_at me)) refl)
+      (shares_with s h id me T (tried (known_at me)) refl) (holds_fit s h id me T)
 
   pub takes_lock : (slots id : ℕ) (me : Place) → me.1 ≡ [] → 0 < (known_at me).share.parts → Allows (Kept k) slots id me 1 (λ x. either (eqb x 0) 1 x) (took (step slots 1 0 1 none) me)
   takes_lock slots id me empty part s kept len at small = let h = kept.0 in let K = kept.1 in let R = K.rule in let T = there s h id me K at part in let x : ℕ = get_or s.words 1 0 in let now = known_at me in let n = names s h id me T in
       exchanged x 0 1 (λ z. (w : _) × (a : Act (Maybe Boxed)) × Valid s.homes me.1 a × Kept k (stepped s 1 z id me.1 w a) × took (step slots 1 0 1 none) me x (w, carried_after me.1 a))
-      (λ free. let home = K.home.0 free in let v = home.0 in let words : List ℕ = set s.words 1 1 in let wide = R.wide in let l : Known = record now { view = taken now.view words h; tries = now.tries + 1; got = rows_as words v.value } in
+      (λ free. let home = K.home.0 free in let v = home.0 in let words : List ℕ = set s.words 1 1 in let wide = R.wide in let l : Known = record now { view = taken now.view words h; tries = now.tries + 1; got = rows_as h words v.value } in
       let locked : get_or words 1 0 ≡ 1 = get_or-set_same s.words 1 1 0 (omega arith) in (
         sheet_of l,
         takes 0 (Some v),
         ap (λ hs. get_elem? hs 0) home.1,
         after_step k s h 1 1 id me.1 l (takes 0 (Some v)) (law.take k.max_inodes k.rows s.words (views_of (knowns s.views)) h id now.view R T.seat free) (shares_with s h id me T l refl)
-            ((λ z. absurd (omega arith)), λ _. ap (λ hs. set hs 0 none) home.1),
+            record { last = begins_itself h; over = (holds_fit s h id me T).over } K.holds ((λ z. absurd (omega arith)), λ _. ap (λ hs. set hs 0 none) home.1),
         (
           (λ _. (
             v,
@@ -121,7 +124,7 @@ module _ (k : Limits) (law : HoldersKeepTheRule) where
         gives,
         tt,
         after_step k s h 1 0 id me.1 l gives (law.give k.max_inodes k.rows s.words (views_of (knowns s.views)) h id now.view R T.seat has (home_even k.max_inodes k.rows s.words h x.value home)) (shares_with s h id me T l refl)
-            ((λ _. (x, back_home s h K me x out H.locked, home_low k.max_inodes k.rows s.words h x.value 1 0 (omega arith) home)), λ z. absurd (omega arith)),
+            (handed_fits h now (gave now.view) x.value H.knows_history (holds_fit s h id me T)) K.holds ((λ _. (x, back_home s h K me x out H.locked, home_low k.max_inodes k.rows s.words h x.value 1 0 (omega arith) home)), λ z. absurd (omega arith)),
         λ y e. ap (λ cs. (sheet_of l, carried_after cs gives)) out ∙ ap (λ (z : Boxed). (sheet_of (handed now (gave now.view) z.value), [])) (same_box me.1 x y out e),
       )
 
@@ -136,7 +139,7 @@ module _ (k : Limits) (law : HoldersKeepTheRule) where
         tt,
         after_step k s h 1 0 id me.1 l gives (subst (λ a. Rule k.max_inodes k.rows (set s.words 1 0) (set (views_of (knowns s.views)) id (answered a now.view call)) h) (sym n.0)
             (law.answer k.max_inodes k.rows s.words (views_of (knowns s.views)) h id now.view R T.seat has (home_even k.max_inodes k.rows s.words h x.value home) call still)) (shares_with s h id me T l refl)
-            ((λ _. (x, back_home s h K me x out H.locked, home_low k.max_inodes k.rows s.words h x.value 1 0 (omega arith) home)), λ z. absurd (omega arith)),
+            (handed_fits h now (answered now.share.limit now.view call) x.value H.knows_history (holds_fit s h id me T)) K.holds ((λ _. (x, back_home s h K me x out H.locked, home_low k.max_inodes k.rows s.words h x.value 1 0 (omega arith) home)), λ z. absurd (omega arith)),
         λ y e. ap (λ cs. (sheet_of l, carried_after cs gives)) out ∙ ap (λ (z : Boxed). (sheet_of (handed now (answered now.share.limit now.view call) z.value), [])) (same_box me.1 x y out e),
       )
 
@@ -146,7 +149,7 @@ module _ (k : Limits) (law : HoldersKeepTheRule) where
       → (f : ℕ) → f ≡ (count s.words row + 1) % 18446744073709551616 → Kept k (stepped s (base_of row) f id me.1 (sheet_of (with_view (known_at me) (wrote (known_at me).view (base_of row) (count s.words row + 1)))) keeps)
   counted s h id me T row has low rule f is = let H = T.kept.rule.held id (known_at me).view T.seat has in let v : View = wrote (known_at me).view (base_of row) (count s.words row + 1) in
       subst (λ z. Kept k (stepped s (base_of row) z id me.1 (sheet_of (with_view (known_at me) v)) keeps)) (sym (is ∙ mod-eq_of_lt (omega arith)))
-      (after_held k s h h T.kept (base_of row) (count s.words row + 1) id me.1 (with_view (known_at me) v) H.locked (λ e. omega arith) rule (shares_stay s h id me T v))
+      (after_held k s h h T.kept (base_of row) (count s.words row + 1) id me.1 (with_view (known_at me) v) H.locked (λ e. omega arith) rule (shares_stay s h id me T v) (holds_fit s h id me T) T.kept.holds)
 
   pub shuts : (slots id : ℕ) (me : Place) (row : ℕ) → row < (known_at me).share.rows → (known_at me).view.hold.holds ≡ true → 0 < (known_at me).share.parts → CanShut (known_at me).view row
       → Allows (Kept k) slots id me (base_of row) (λ n. (n + 1) % 18446744073709551616) (raised (step slots (base_of row) 1 0 none) me)
@@ -181,7 +184,7 @@ module _ (k : Limits) (law : HoldersKeepTheRule) where
         keeps,
         tt,
         after_held k s h h K (base_of row + word) x id me.1 (with_view now v) H.locked (λ e. omega arith)
-            (law.write k.max_inodes k.rows s.words (views_of (knowns s.views)) h id now.view R T.seat has row (subst (λ z. row < z) n.1 inside) word x more few (subst (λ ws. count ws row % 2 ≡ 1) H.knows_words odd)) (shares_stay s h id me T v),
+            (law.write k.max_inodes k.rows s.words (views_of (knowns s.views)) h id now.view R T.seat has row (subst (λ z. row < z) n.1 inside) word x more few (subst (λ ws. count ws row % 2 ≡ 1) H.knows_words odd)) (shares_stay s h id me T v) (holds_fit s h id me T) K.holds,
         refl,
       )
 
@@ -200,7 +203,8 @@ module _ (k : Limits) (law : HoldersKeepTheRule) where
         tt,
         subst (λ z. Kept k (stepped s 0 z id me.1 (sheet_of l) keeps)) is (after_held k s h (h ++ call ∷ []) K 0 next id me.1 l H.locked (λ e. omega arith)
             (subst (λ a. Rule k.max_inodes k.rows (set s.words 0 next) (set (views_of (knowns s.views)) id (committed a now.view call)) (h ++ call ∷ [])) (sym n.0)
-            (law.commit k.max_inodes k.rows s.words (views_of (knowns s.views)) h id now.view R T.seat has call new early apart)) (shares_stay s h id me T (committed now.share.limit now.view call))),
+            (law.commit k.max_inodes k.rows s.words (views_of (knowns s.views)) h id now.view R T.seat has call new early apart)) (shares_stay s h id me T (committed now.share.limit now.view call))
+            (holds_later h call now (holds_fit s h id me T)) (λ j u there. holds_later h call u (K.holds j u there))),
         refl,
       )
 

@@ -10,10 +10,10 @@ use Rattle.dc_table.specs.Shares.{Share, Known, Shares, Everyone, IsSpent, IsWho
 use Rattle.dc_table.proofs.Totals.{total_set, total_snoc, total_two, weight_doubles, total_doubles}
 use Rattle.atomic_table.proofs.Lists.{at_set, at_snoc, set_else}
 
-everyone_set : (passes : List Known) (id : ℕ) (k : Known) (So : Known → Type 0) → So k → Everyone passes So → Everyone (set passes id k) So
+pub everyone_set : (passes : List Known) (id : ℕ) (k : Known) (So : Known → Type 0) → So k → Everyone passes So → Everyone (set passes id k) So
 everyone_set passes id k So mine all j u e = ⊎_elim (λ (t : (j ≡ id) × (k ≡ u)). subst So t.1 mine) (λ (t : (j ≢ id) × (get_elem? passes j ≡ some u)). all j u t.1) (at_set passes id j k u e)
 
-everyone_snoc : (passes : List Known) (k : Known) (So : Known → Type 0) → So k → Everyone passes So → Everyone (passes ++ k ∷ []) So
+pub everyone_snoc : (passes : List Known) (k : Known) (So : Known → Type 0) → So k → Everyone passes So → Everyone (passes ++ k ∷ []) So
 everyone_snoc passes k So mine all j u e = ⊎_elim (λ (h : get_elem? passes j ≡ some u). all j u h) (λ (h : k ≡ u). subst So h mine) (at_snoc passes k u j e)
 
 abbrev Named : ℕ → ℕ → Known → Type 0

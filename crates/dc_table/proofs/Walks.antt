@@ -34,7 +34,7 @@ module _ (k : Limits) (law : WalkersKeepTheRule) where
   -- a load that gives the pass another view
   still : (s : Seen) (h : List Request) (K : KeptAt k s h) (i id : ℕ) (me : Place) → get_elem? s.views id ≡ some me.0 → 0 < (known_at me).share.parts → (v : View)
       → Rule k.max_inodes k.rows s.words (set (views_of (knowns s.views)) id v) h → Kept k (stepped s i (get_or s.words i 0) id me.1 (sheet_of (with_view (known_at me) v)) keeps)
-  still s h K i id me at part v rule = after_load k s h K i id me.1 (with_view (known_at me) v) rule (same_shares K.shares id (known_at me) (known_there s.views id me.0 at) part (with_view (known_at me) v) refl)
+  still s h K i id me at part v rule = after_load k s h K i id me.1 (with_view (known_at me) v) rule (same_shares K.shares id (known_at me) (known_there s.views id me.0 at) part (with_view (known_at me) v) refl) (K.holds id (known_at me) (known_there s.views id me.0 at))
 
   -- the first step of a walk begins it
   begins_rule : (words : List ℕ) (views : List View) (h : List Request) (id : ℕ) (v : View) (first : Bool) (call : Request) → Rule k.max_inodes k.rows words views h → get_elem? views id ≡ some v → Rule k.max_inodes k.rows words (set views id (begins first v call)) h
@@ -129,7 +129,7 @@ compares_note k slots id me i row n has part can s kept len at small = let h = k
       sheet_of now,
       keeps,
       tt,
-      after_load k s h K (base_of row) id me.1 now (subst (λ vs. Rule k.max_inodes k.rows s.words vs h) (sym (set_again views id now.view seat)) K.rule) (same_shares K.shares id now (known_there s.views id me.0 at) part now refl),
+      after_load k s h K (base_of row) id me.1 now (subst (λ vs. Rule k.max_inodes k.rows s.words vs h) (sym (set_again views id now.view seat)) K.rule) (same_shares K.shares id now (known_there s.views id me.0 at) part now refl) (K.holds id now (known_there s.views id me.0 at)),
       (
         refl,
         λ same.

@@ -5,14 +5,15 @@ use Rattle.dc_plain.specs.Trees.{Tree}
 use Rattle.dc_events.specs.Legal.{Legal}
 use Rattle.dc_events.specs.Standing.{tree_of}
 use Rattle.dc_events.specs.Rule.{BookFits, view_hits, once_below}
-use Rattle.dc_table.specs.Shares.{Known, IsWhole}
+use Rattle.dc_table.specs.Shares.{Known, IsWhole, AreHoldsOf}
 
--- it is the tree after a history of this many calls, in which all records of the pass stand; a pass with the whole share has
+-- it is the tree after a history of this many calls, in which all records of the pass stand, and of which each of its holds is; a pass with the whole share has
 -- one record for each call of the history, and its records are those of a run of one plain tree
 pub record Ends (limit : ℕ) (k : Known) (tree : Tree) (clock : ℕ) : Type 0 where
   pub history : List Request
   pub tree_is : tree ≡ tree_of limit history
   pub clock_is : clock ≡ length history
   pub book : BookFits limit history k.view.book
+  pub holds : AreHoldsOf history k.past
   pub once : IsWhole k.share → (p : ℕ) → view_hits p k.view ≡ once_below p (length history)
   pub legal : IsWhole k.share → Legal limit (k.view.book.own ∷ k.view.book.joined)

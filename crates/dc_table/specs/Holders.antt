@@ -38,7 +38,7 @@ Raises p q row now = (now ≡ next_count (view p) row) × (view q ≡ wrote (vie
 
 -- the rows as the holder has them, with what the lock guards
 abbrev pub rows_held : Holder → Guarded → RowState
-rows_held h x = rows_as (view (pass_of h)).hold.words x
+rows_held h x = let hold = (view (pass_of h)).hold in rows_as hold.history hold.words x
 
 -- the pass has got the lock, and with it what fits the tree and the rows
 pub record Locked (p : Pass) (h : Holder) (x : Guarded) : Type 0 where

@@ -1,4 +1,4 @@
--- The rule of the table: for some history words and views have the rule of the events, the shares add up, and the slot has the value after that history while the lock is free.
+-- The rule of the table: for some history words and views have the rule of the events, the shares add up, the passes' holds are of that history, and the slot has the value after it while the lock is free.
 use Rattle.std.specs.Prelude.{◌≡◌, ℕ, false, List, [], ◌∷◌, length, get_or, map, Option as Maybe, Some}
 use mathlib.Core.Option.{Option, none, some}
 use Rattle.atomic_table.specs.Table.{State}
@@ -10,7 +10,8 @@ use Rattle.dc_shrink.specs.Listings.{is_used}
 use Rattle.dc_events.specs.Views.{View}
 use Rattle.dc_events.specs.Standing.{tree_of}
 use Rattle.dc_events.specs.Rule.{Rule}
-use Rattle.dc_table.specs.Shares.{Known, Shares, first_known}
+use Rattle.dc_table.specs.Shares.{Known, LockHold, Shares, Everyone, Begins, AreHoldsOf, first_known}
+use Rattle.dc_table.specs.RowStates.{RowState}
 use Rattle.dc_table.specs.Rows.{Rest}
 use Rattle.dc_table.specs.Boxes.{Boxed}
 use Rattle.dc_table.specs.declared.table.Guarded.{Guarded}
@@ -37,9 +38,18 @@ knowns sheets = map known_of sheets
 abbrev pub views_of : List Known → List View
 views_of passes = map (λ k. k.view) passes
 
+-- the rows that a pass last got are after a beginning of the history, and its holds that are over are of it
+pub record HasHeld (hist : List Request) (got : RowState) (past : List LockHold) : Type 0 where
+  pub last : Begins got.history hist
+  pub over : AreHoldsOf hist past
+
+abbrev pub HoldsFit : List Request → Known → Type 0
+HoldsFit hist k = HasHeld hist k.got k.past
+
 pub record KeptAt (k : Limits) (s : State (Maybe Boxed) Sheet) (hist : List Request) : Type 0 where
   pub rule : Rule k.max_inodes k.rows s.words (views_of (knowns s.views)) hist
   pub shares : Shares k.max_inodes k.rows (knowns s.views)
+  pub holds : Everyone (knowns s.views) (HoldsFit hist)
   pub home : Home k.max_inodes k.rows s.words s.homes hist
 
 abbrev pub Kept : Limits → State (Maybe Boxed) Sheet → Type 0

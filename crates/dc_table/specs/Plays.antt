@@ -22,16 +22,16 @@ known_at m = m.0.known
 abbrev pub Home : Known → Guarded → Type 0
 Home k x = HomeFits k.share.limit k.share.rows k.view.hold.words k.view.hold.history x
 
--- the rows with these words, and with the keys and uses that the value has
-abbrev pub rows_as : List ℕ → Guarded → RowState
-rows_as words x = record { words = words; slots = x.index; used = x.shrinker }
+-- the rows after this history with these words, and with the keys and uses that the value has
+abbrev pub rows_as : List Request → List ℕ → Guarded → RowState
+rows_as history words x = record { history = history; words = words; slots = x.index; used = x.shrinker }
 
 -- what a pass that gets the lock learns, and how often it has tried by then
 pub record Took (k l : Known) (x : Guarded) : Type 0 where
   pub words : List ℕ
   pub history : List Request
   pub tries : ℕ
-  pub now : l ≡ record k { view = taken k.view words history; tries = tries; got = rows_as words x }
+  pub now : l ≡ record k { view = taken k.view words history; tries = tries; got = rows_as history words x }
   pub tried : k.tries < tries
   pub early : length history ≤ most
   pub later : k.view.book.seen ≤ length history
@@ -56,7 +56,7 @@ committed_as call st m r m' = let k = known_at m in m' ≡ (sheet_of (with_view 
 
 -- what the holder knows when it has given the lock back with a value
 abbrev pub handed : Known → View → Guarded → Known
-handed k v x = let left = rows_as k.view.hold.words x in record k { view = v; left = left; past = record { got = k.got; left = left } ∷ k.past }
+handed k v x = let left = rows_as k.view.hold.history k.view.hold.words x in record k { view = v; left = left; past = record { got = k.got; left = left } ∷ k.past }
 
 abbrev pub gave_as : Step (Maybe Boxed) → Place → ℕ → Place → Type 0
 gave_as st m r m' = let k = known_at m in (x : Boxed) → m.1 ≡ (0, Some x) ∷ [] → m' ≡ (sheet_of (handed k (gave k.view) x.value), [])

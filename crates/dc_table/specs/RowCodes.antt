@@ -6,7 +6,8 @@ use Rattle.dc_plain.specs.Facts.Label.{Entry, Parent, Text}
 use Rattle.dc_index.specs.Slots.{Slot}
 use Rattle.dc_index.specs.Slots.Slot.{Free, Retired, Holds}
 use Rattle.dc_shrink.specs.Listings.{Listing, listing_code}
-use Rattle.dc_table.specs.Codes.{coded_bytes}
+use Rattle.dc_plain.specs.Requests.{Request}
+use Rattle.dc_table.specs.Codes.{coded_bytes, coded_request}
 use Rattle.dc_table.specs.RowStates.{RowState}
 
 abbrev label_to : Label → ℕ × List ℕ
@@ -50,5 +51,5 @@ abbrev pub coded_slot : Coded Slot
 coded_slot = code_by (ℕ × Key) (coded× coded_ℕ coded_key) slot_to (λ x. slot_by x.0 x.1) slot_round
 
 abbrev pub coded_rows : Coded RowState
-coded_rows = code_by (List ℕ × (List Slot × Listing)) (coded× coded_bytes (coded× (coded_list coded_slot) listing_code))
-    (λ x. (x.words, (x.slots, x.used))) (λ p. record { words = p.0; slots = p.1.0; used = p.1.1 }) (λ _. refl)
+coded_rows = code_by (List Request × (List ℕ × (List Slot × Listing))) (coded× (coded_list coded_request) (coded× coded_bytes (coded× (coded_list coded_slot) listing_code)))
+    (λ x. (x.history, (x.words, (x.slots, x.used)))) (λ p. record { history = p.0; words = p.1.0; slots = p.1.1.0; used = p.1.1.1 }) (λ _. refl)

@@ -1,9 +1,11 @@
 -- What a pass knows: its view, the sizes of its table, its share, and what it did with the lock. All shares add up to one.
-use Rattle.std.specs.Prelude.{◌≡◌, ℕ, ◌+◌, ◌*◌, ◌-◌, ◌^◌, ◌<◌, ◌≤◌, false, List, [], ◌∷◌, max, refl}
+use Rattle.std.specs.Prelude.{◌≡◌, ℕ, ◌+◌, ◌*◌, ◌-◌, ◌^◌, ◌<◌, ◌≤◌, false, List, [], ◌∷◌, ◌++◌, max, refl}
 use Rattle.std.specs.Coded.{Coded, code_by, coded×, coded_list, coded_ℕ}
 use Rattle.std.specs.FinMap as map
+use Rattle.std.specs.List.{AllByRecursion}
 use mathlib.Core.Option.{some}
 use lib.ListN.{get_elem?}
+use Rattle.dc_plain.specs.Requests.{Request}
 use Rattle.dc_events.specs.Views.{View}
 use Rattle.dc_events.specs.Rule.{total}
 use Rattle.dc_events.specs.Effects.{nobody}
@@ -24,6 +26,19 @@ pub record Share : Type 0 where
 pub record LockHold : Type 0 where
   pub got : RowState
   pub left : RowState
+
+-- one history is the beginning of another
+abbrev pub Begins : List Request → List Request → Type 0
+Begins early late = (rest : List Request) × (late ≡ early ++ rest)
+
+-- a hold is one of a history: it was got after a beginning of it, and handed back after one that goes on from there
+pub record IsHoldOf (history : List Request) (x : LockHold) : Type 0 where
+  pub got : Begins x.got.history x.left.history
+  pub left : Begins x.left.history history
+
+-- all these holds are
+abbrev pub AreHoldsOf : List Request → List LockHold → Type 0
+AreHoldsOf history past = AllByRecursion (IsHoldOf history) past
 
 -- with how often the pass has tried for the lock, the rows as it last got them with the lock and as it last handed them back, and its holds that are over, the last first
 pub record Known : Type 0 where
@@ -84,7 +99,7 @@ IsWhole s = s.parts ≡ 2 ^ s.halvings
 
 -- what a pass knows of the rows that never had the lock
 abbrev pub no_rows : RowState
-no_rows = record { words = []; slots = []; used = listing 0 [] map.empty }
+no_rows = record { history = []; words = []; slots = []; used = listing 0 [] map.empty }
 
 -- a pass that did, saw and tried nothing, with this share
 abbrev pub unused : Share → Known
@@ -101,9 +116,9 @@ kept_half k = record k { share = halved k.share }
 abbrev pub new_half : Known → Known
 new_half k = record (unused (halved k.share)) { view = newcomer k.view }
 
--- a pass takes in another, of which nothing is left: it has tried for the lock as often as both, and knows the rows that it knew
+-- a pass takes in another, of which nothing is left: it has tried for the lock as often as both, has the holds of both, its own first, and knows the rows that it knew
 abbrev pub both : Known → Known → Known
-both k l = record k { view = joined_with k.view l.view; share = added k.share l.share; tries = k.tries + l.tries }
+both k l = record k { view = joined_with k.view l.view; share = added k.share l.share; tries = k.tries + l.tries; past = k.past ++ l.past }
 
 abbrev pub spent : Known
 spent = unused no_share

@@ -27,12 +27,17 @@ use std::sync::atomic::Ordering::Relaxed;
 
 impl Guarded {
     /// The root directory alone, and no row with a key.
-    fn new(alloc: Global, buckets: u64, max_inodes: u64) -> Result<Guarded, NoMemory>
+    fn new(
+        alloc: Global,
+        buckets: u64,
+        max_inodes: u64,
+        max_names: u64,
+    ) -> Result<Guarded, NoMemory>
         requires { (1 ≤ buckets) × (buckets ≤ MOST_TABLE_BUCKETS) }
         ensures { IfOk result (λ guarded. IsNew guarded (BUCKET_ROWS * buckets) max_inodes) }
     {
         Ok(Guarded {
-            store: SlabStore::new(alloc)?,
+            store: SlabStore::with_entries(alloc, max_names)?,
             index: Index::new(alloc, buckets)?,
             shrinker: Shrinker::new(alloc, BUCKET_ROWS * buckets)?,
             clock: 0,
@@ -53,15 +58,17 @@ impl Shared {
         if !are_right(buckets, max_inodes) {
             return Err(MakeFault::BadSize);
         }
-        Shared::with_buckets(alloc, buckets, max_inodes)
+        Shared::with_names(alloc, buckets, max_inodes, u64::MAX)
     }
 
     /// A table as `new` makes it, with as many buckets as the work wants: any power of two from 1 to
-    /// 1,048,576.
-    pub fn with_buckets(
+    /// 1,048,576. A change that would make more than `max_names` names, in all directories together, finds
+    /// no memory.
+    pub fn with_names(
         alloc: Global,
         buckets: u64,
         max_inodes: u64,
+        max_names: u64,
     ) -> Result<(Shared, Pass), MakeFault>
         ensures made { IfOk result (λ r. Fits r.0 r.1 × IsIdle r.1) }
         ensures first { IfOk result (λ r. known r.1 ≡ first_known max_inodes (BUCKET_ROWS * buckets)) }
@@ -74,10 +81,15 @@ impl Shared {
             max_inodes,
             rows: BUCKET_ROWS * buckets,
         };
-        Ok(Shared::of(alloc, buckets, &limits)?)
+        Ok(Shared::of(alloc, buckets, max_names, &limits)?)
     }
 
-    fn of(alloc: Global, buckets: u64, limits: &Limits) -> Result<(Shared, Pass), NoMemory>
+    fn of(
+        alloc: Global,
+        buckets: u64,
+        max_names: u64,
+        limits: &Limits,
+    ) -> Result<(Shared, Pass), NoMemory>
         requires buckets { (1 ≤ buckets) × (buckets ≤ MOST_TABLE_BUCKETS) }
         requires rows { limits.now.rows ≡ BUCKET_ROWS * buckets }
         ensures made { IfOk result (λ r. Fits r.0 r.1 × IsIdle r.1) }
@@ -86,7 +98,7 @@ impl Shared {
     {
         new_tables_have_the_rule();
         empty_row_spells_nothing();
-        let value = Guarded::new(alloc, buckets, limits.max_inodes)?;
+        let value = Guarded::new(alloc, buckets, limits.max_inodes, max_names)?;
         let guarded = Box::new(alloc, value)?;
         let words = vec![in alloc; 0; FIRST_ROW + limits.rows as usize * ROW_WORDS]?;
         let mut slots = Vec::with_capacity(alloc, 1)?;

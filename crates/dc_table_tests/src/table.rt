@@ -33,7 +33,7 @@ fn a_table_has_its_sizes(rt: HostRuntime) {
     }
 }
 
-/// Buckets and inodes of which `with_buckets` makes no table.
+/// Buckets and inodes of which `with_names` makes no table.
 static BAD_BUCKETS: [(u64, u64); 5] = [
     (0, 16),
     (3072, 16),
@@ -46,7 +46,7 @@ static BUCKETS: [u64; 3] = [1, 2048, 65_536];
 
 /// How many buckets a table has that is made of so many.
 fn buckets_of(alloc: Global, buckets: u64, max_inodes: u64) -> Result<u64, MakeFault> {
-    let (shared, _pass) = Shared::with_buckets(alloc, buckets, max_inodes)?;
+    let (shared, _pass) = Shared::with_names(alloc, buckets, max_inodes, u64::MAX)?;
     Ok(shared.buckets())
 }
 

@@ -54,7 +54,7 @@ fn learns_and_empties(hold: &mut Hold) -> bool {
 
 #[test]
 fn a_directory_is_made_and_found(rt: HostRuntime) {
-    let mut hold = Hold::new(rt.alloc(), 16, 16).expect(&rt, "memory");
+    let mut hold = Hold::new(rt.alloc(), 16, 16, 32).expect(&rt, "memory");
     assert!(rt; is_made_first(rt.alloc(), &mut hold));
     assert!(rt; has_a_row_once_it_is_found(rt.alloc(), &mut hold));
     assert!(rt; is_refused(&mut hold) && is_counted(&mut hold));
@@ -97,7 +97,7 @@ fn loses(alloc: Global, hold: &mut Hold, act: Act<'_>, number: u64, kind: u32, l
 
 #[test]
 fn what_a_name_lost_is_told(rt: HostRuntime) {
-    let mut hold = Hold::new(rt.alloc(), 16, 16).expect(&rt, "memory");
+    let mut hold = Hold::new(rt.alloc(), 16, 16, 32).expect(&rt, "memory");
     for act in MADE.iter() {
         assert!(rt; is_made(rt.alloc(), &mut hold, *act));
     }
@@ -135,7 +135,7 @@ fn is_no_link(alloc: Global, hold: &mut Hold) -> bool {
 
 #[test]
 fn texts_and_names_are_written(rt: HostRuntime) {
-    let mut hold = Hold::new(rt.alloc(), 16, 16).expect(&rt, "memory");
+    let mut hold = Hold::new(rt.alloc(), 16, 16, 32).expect(&rt, "memory");
     for path in [b"/ab", b"/cd"] {
         assert!(rt; is_made(rt.alloc(), &mut hold, Act::Mkdir(path)));
     }
@@ -160,7 +160,7 @@ fn shares_with_its_own(hold: &mut Hold) -> bool {
 
 /// Whether a hold shares nothing with one of another cache.
 fn shares_nothing(alloc: Global, hold: &Hold) -> bool {
-    match Hold::new(alloc, 1, 16) {
+    match Hold::new(alloc, 1, 16, 32) {
         Ok(other) => share(hold, &other) == (false, false),
         Err(_) => false,
     }
@@ -168,12 +168,12 @@ fn shares_nothing(alloc: Global, hold: &Hold) -> bool {
 
 #[test]
 fn numbers_have_bounds(rt: HostRuntime) {
-    assert!(rt; Hold::new(rt.alloc(), 3, 16).is_err());
+    assert!(rt; Hold::new(rt.alloc(), 3, 16, 32).is_err());
     assert!(rt; follow_of(3).is_none() && flags_of(4).is_none());
 }
 
 #[test]
 fn holds_know_their_cache(rt: HostRuntime) {
-    let mut hold = Hold::new(rt.alloc(), 1, 16).expect(&rt, "memory");
+    let mut hold = Hold::new(rt.alloc(), 1, 16, 32).expect(&rt, "memory");
     assert!(rt; shares_with_its_own(&mut hold) && shares_nothing(rt.alloc(), &hold));
 }

@@ -11,7 +11,7 @@ use std::sync::Wait;
 
 /// Looks a path up at or after the point `at`. Another thread made a change, was told its point p, and
 /// says so by any means of its own, as a channel: with `at` = p + 1 the look-up doesn't miss that change.
-/// `NotYet` if so many changes were never made, and then `at` is none that the cache answered.
+/// `NotYet` if this many changes were never made, and then `at` is none that the cache answered.
 pub fn look_after<R: Wait>(
     rt: &R,
     alloc: Global,

@@ -8,7 +8,7 @@ ghost use Rattle.dc_cache.specs.Calls.{request_of};
 use dc_cache::{Call, ChangeFault, Dcache, Pass, Stamped};
 use std::alloc::Global;
 
-/// Makes a change, and tries for the lock so many times. `None` if another pass had the lock each time:
+/// Makes a change, and tries for the lock this many times. `None` if another pass had the lock each time:
 /// then nothing has changed, and the caller may come again later.
 #[must_use]
 pub fn change_in_tries(

@@ -56,14 +56,14 @@ invariant_of-self c = let home = home_is c.args.self.now.holder.pass.now c.deref
 pub returns-in-Ok-clause-rows : goal.returns-in-Ok-clause-rows
 returns-in-Ok-clause-rows c = let p = c.args.self.now.holder.pass.now in let k = c.shut_keys.new in let u = c.refill_keys.new in
     subst (λ (x : Guarded). Turns (Retold u.kept.store) (Touches (share p).limit (tree_now p) (request_of c.args.call.now)) (rows_at p x) (rows_at u.holder.pass.now u.kept)) c.deref_mut-kept.ensures.value (
-    retold_call u.kept.store _ p _ (rows_at k.holder.pass.now k.kept) _ (words_of c.commit.new.self.pass.now) (request_of c.args.call.now) (map key_shown c.as_slice-keys.result.now) _ (sym (length-map c.as_slice-keys.result.now key_shown))
+    retold_call u.kept.store _ p _ (rows_at k.holder.pass.now k.kept) _ _ (words_of c.commit.new.self.pass.now) (request_of c.args.call.now) (map key_shown c.as_slice-keys.result.now) _ (sym (length-map c.as_slice-keys.result.now key_shown))
     (ap (map key_shown) c.as_slice-keys.ensures.value ∙ (c.keys-keys.ensures ∙ c.requires.plans.keys)) c.calls_touch_the_listed_keys.ensures.keys c.requires.well c.shut_keys.ensures.rows
     (rows_stay k.holder.pass.now c.commit.new.self.pass.now (request_of c.args.call.now) c.commit.ensures.same c.commit.ensures.view) c.refill_keys.ensures.tree.tree c.refill_keys.ensures.rows)
 
 pub returns-in-Err-clause-rows : goal.returns-in-Err-clause-rows
 returns-in-Err-clause-rows c = let p = c.args.self.now.holder.pass.now in let k = c.shut_keys.new in let u = c.refill_keys-in-Err.new in
     subst (λ (x : Guarded). Turns (Retold u.kept.store) (Touches (share p).limit (tree_now p) (request_of c.args.call.now)) (rows_at p x) (rows_at u.holder.pass.now u.kept)) c.deref_mut-kept.ensures.value (
-    retold_call u.kept.store _ p _ (rows_at k.holder.pass.now k.kept) _ (words_of k.holder.pass.now) (request_of c.args.call.now) (map key_shown c.as_slice-keys.result.now) _ (sym (length-map c.as_slice-keys.result.now key_shown))
+    retold_call u.kept.store _ p _ (rows_at k.holder.pass.now k.kept) _ _ (words_of k.holder.pass.now) (request_of c.args.call.now) (map key_shown c.as_slice-keys.result.now) _ (sym (length-map c.as_slice-keys.result.now key_shown))
     (ap (map key_shown) c.as_slice-keys.ensures.value ∙ (c.keys-keys.ensures ∙ c.requires.plans.keys)) c.calls_touch_the_listed_keys.ensures.keys c.requires.well c.shut_keys.ensures.rows
     (λ row. refl) c.refill_keys-in-Err.ensures.tree.tree c.refill_keys-in-Err.ensures.rows)
 

@@ -1,7 +1,6 @@
 use Rattle.std.proofs.Common.{refl, rules, sym, subst, arith, None}
 use Rattle.dc_plain.specs.KeysShown.{key_shown}
 use Rattle.dc_index.specs.Slots.{IsRowOf}
-use Rattle.dc_table.specs.Changes.{words_of}
 use Rattle.dc_table.specs.declared.table.Guarded.{Guarded}
 use Rattle.dc_shrink.specs.Listings.{dropped}
 use Rattle.dc_rows.specs.Guards.{rows_at}
@@ -28,7 +27,7 @@ returns-clause-fills c = let key = key_shown c.args.key.now.key in let p = c.arg
     record {
       row = search rules;
       rows = subst (λ (x : Guarded). Gets key 0 (rows_at p x) (rows_at f.new.holder.pass.now f.new.kept) f.result) e
-          (gets_chosen key (rows_at p k) record { words = words_of p; slots = c.set.new.self; used = dropped k.shrinker c.in-Some.row } _ c.in-Some.row
+          (gets_chosen key (rows_at p k) (record (rows_at p k) { slots = c.set.new.self; used = dropped k.shrinker c.in-Some.row }) _ c.in-Some.row
           record { absent = subst (λ (x : Guarded). IsRowOf x.index key None) (sym e) c.requires.absent; chosen = sym c.in-Some.ensures.choice; may = c.in-Some.ensures.safe } c.in-Some.ensures.within
           refl c.in_ok-set.ensures.set refl f.ensures.unused f.ensures.rows f.ensures.unpinned f.result f.ensures.filled);
     }

@@ -4,7 +4,7 @@ use Rattle.std.specs.Ordering.{nat_cmp}
 use Rattle.dc_store.specs.Slabs.{IsTied}
 use Rattle.dc_store.specs.declared.inode.Inode.{Inode}
 use Rattle.dc_store.specs.declared.node.Node.TheVariants as nodes
-use Rattle.dc_store.proofs.slab_store.SlabStore.new.Goals as goal
+use Rattle.dc_store.proofs.slab_store.SlabStore.with_entries.Goals as goal
 
 -- the root, in which no names are
 root_tied : IsTied ((1, record { node = nodes.Dir 1; names = []; count = 0 }) ∷ []) 2
