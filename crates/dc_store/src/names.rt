@@ -14,9 +14,8 @@ use std::collections::BTreeMap;
 use std::marker::Model;
 
 /// The names in a directory, each with the number that it leads to, in the order of the hash of the
-/// directory's number and the name, and of the bytes of names with one hash. A search compares a number of
-/// names that grows with the logarithm of how many there are, whoever chose them. They are seen as a list
-/// in the order of their bytes.
+/// directory's number and the name, and of their bytes if that is one. Whoever chooses the names, a search
+/// compares as many as the logarithm of their number. They are seen as a list in the order of their bytes.
 #[derive(Drop)]
 pub struct Names {
     dir: u64,
