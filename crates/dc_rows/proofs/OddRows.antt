@@ -52,8 +52,8 @@ module _ (p q : Pass) (x : Guarded) (key : Key) (row odd : ℕ) (fit : FitAt p x
     lost_next only later keys i here s = let n = shut.0 in on_pass p u (then_only p q u only later) (words_of u) slots used 0 (i + 1) keys
         (retired (words_of p) (share p).rows row inside fit.size can.even can.low (words_of q) raised (tree_now p) x.index x.shrinker i keys key here s has (omega arith) (words_of u) slots used empty w is (ap (λ (l : Listing). l.rows) gone) unused)
 
-    pub lost_rows : Turns Shut (Is key) (rows_at p x) (record { words = words_of u; slots = slots; used = used })
-    lost_rows = let n = shut.0 in shut_lost (rows_at p x) (record { words = words_of u; slots = slots; used = used }) fit.agree key row has empty (share p).rows inside fit.size (words_of q) raised w (omega arith) is gone unused
+    pub lost_rows : Turns Shut (Is key) (rows_at p x) (record { history = (view u).hold.history; words = words_of u; slots = slots; used = used })
+    lost_rows = let n = shut.0 in shut_lost (rows_at p x) (record { history = (view u).hold.history; words = words_of u; slots = slots; used = used }) fit.agree key row has empty (share p).rows inside fit.size (words_of q) raised w (omega arith) is gone unused
 
     pub lost_found : IsFound slots key None
     lost_found = record { row = subst (λ (z : List Slot). IsRowOf z key None) (sym is) (none_left x.index key row has (held_within x.index row key ((has row).0 refl))); key = tt }
