@@ -15,7 +15,7 @@ use Rattle.dc_cache.specs.Answers.{Answered, IfFast, Loaded, Made, Told}
 use Rattle.dc_cache.specs.Calls.{Request, Stamped, look}
 use Rattle.dc_cache.specs.Links.{ReadsFast}
 use Rattle.dc_cache.specs.Losses.{TakesAway}
-use Rattle.dc_cache.specs.Passes.{buckets_of, known, view, FoundHeld, SameCache, Shrinks}
+use Rattle.dc_cache.specs.Passes.{buckets_of, known, view, FoundHeld, SameCache, Shrinks, WalkedAndFoundHeld}
 use Rattle.dc_cache.specs.declared.cache.Pass.{Pass}
 use Rattle.dc_cache.specs.declared.gone.Gone as cache
 use Rattle.dc_cache.specs.declared.links.FastLink as links
@@ -65,14 +65,14 @@ abbrev pub Change : Type 0
 Change = Result Stamped ChangeFault
 
 abbrev pub MayMake : Request → Pass → Pass → Option Change → Type 0
-MayMake call p q tried = MatchOption tried (FoundHeld p q) (Made p q call)
+MayMake call p q tried = MatchOption tried (WalkedAndFoundHeld p q) (Made p q call)
 
 -- a change that may take a name away, with what it took
 abbrev pub Taken : Type 0
 Taken = Change × Option cache.Gone
 
 abbrev pub MayTake : Request → Pass → Pass → Option Taken → Type 0
-MayTake call p q tried = MatchOption tried (FoundHeld p q) (λ taken. TakesAway p q call taken.0 taken.1)
+MayTake call p q tried = MatchOption tried (WalkedAndFoundHeld p q) (λ taken. TakesAway p q call taken.0 taken.1)
 
 -- a read whose answer takes memory
 abbrev pub MayRead : Request → Pass → Pass → Read → Type 0

@@ -5,7 +5,7 @@ ghost use Rattle.std.specs.Arc.{arc_value};
 ghost use Rattle.dc_cache.specs.Answers.{Answered, Loaded, Made, Told};
 ghost use Rattle.dc_cache.specs.Calls.{look, stat, readlink, list, request_of};
 ghost use Rattle.dc_cache.specs.Losses.{TakesAway};
-ghost use Rattle.dc_cache.specs.Passes.{view, Fits, FoundHeld, IsChange, Shrinks};
+ghost use Rattle.dc_cache.specs.Passes.{view, Fits, FoundHeld, IsChange, Shrinks, WalkedAndFoundHeld};
 ghost use Rattle.dc_hold.specs.Allowed.{IsFirst, IsSplit, MayFind, MayReadFast};
 ghost use Rattle.dc_hold.specs.Fitting.{fits_prop};
 ghost use Rattle.dc_hold.specs.Numbers.{status_of_sizes};
@@ -178,7 +178,7 @@ impl Hold {
     ) -> Option<Result<Stamped, ChangeFault>>
         requires change { IsChange call.now }
         ensures made { IfSome result (Made self.old.pass self.new.pass (request_of call.now)) }
-        ensures held { IfNone result (FoundHeld self.old.pass self.new.pass) }
+        ensures held { IfNone result (WalkedAndFoundHeld self.old.pass self.new.pass) }
     {
         self.common.cache.try_change(alloc, &mut self.pass, call)
     }
@@ -193,7 +193,7 @@ impl Hold {
         requires change { IsChange call.now }
         ensures made { IfSome result (λ r.
             TakesAway self.old.pass self.new.pass (request_of call.now) r.0 r.1) }
-        ensures held { IfNone result (FoundHeld self.old.pass self.new.pass) }
+        ensures held { IfNone result (WalkedAndFoundHeld self.old.pass self.new.pass) }
     {
         self.common
             .cache

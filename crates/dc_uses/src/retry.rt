@@ -1,15 +1,15 @@
 //! A change in a thread that may not wait.
 
-ghost use Rattle.std.specs.Prelude.{◌≡◌, IfSome, IfNone};
+ghost use Rattle.std.specs.Prelude.{IfSome, IfNone};
 ghost use Rattle.dc_cache.specs.Answers.{Made};
 ghost use Rattle.dc_cache.specs.Passes.{view, Fits, IsChange};
-ghost use Rattle.dc_cache.specs.Calls.{request_of};
+ghost use Rattle.dc_cache.specs.Calls.{request_of, NothingNew};
 
 use dc_cache::{Call, ChangeFault, Dcache, Pass, Stamped};
 use std::alloc::Global;
 
 /// Makes a change, and tries for the lock this many times. `None` if another pass had the lock each time:
-/// then nothing has changed, and the caller may come again later.
+/// then nothing is recorded, and the caller may come again later.
 #[must_use]
 pub fn change_in_tries(
     alloc: Global,
@@ -22,7 +22,7 @@ pub fn change_in_tries(
     requires change { IsChange call.now }
     ensures same { Fits cache.now pass.new }
     ensures made { IfSome result (Made pass.old pass.new (request_of call.now)) }
-    ensures held { IfNone result (view pass.new ≡ view pass.old) }
+    ensures held { IfNone result (NothingNew (view pass.old) (view pass.new)) }
 {
     for _ in 0..tries {
         if let Some(made) = cache.try_change(alloc, pass, call) {
