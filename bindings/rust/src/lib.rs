@@ -14,7 +14,7 @@
 //! ```
 //!
 //! The tree has directories, files and symbolic links: names and inode numbers, no bytes of files. Each call takes effect
-//! at one moment between its begin and its return, and answers what the tree of that moment gives; `at` says how many
+//! at one moment between its start and its return, and answers what the tree of that moment gives; `at` says how many
 //! changes came before that moment. `base` is the number of the directory from which a relative path starts.
 //!
 //! # Building it
