@@ -1,6 +1,6 @@
 /* Records the calls that threads make below a mounted file system, each with its times, as a trace for the checker.
  *
- * usage: judge DIR [--threads N] [--seconds S] [--calls N] [--seed N] [--depth N] [--mix CALL=N,..] [--numbered]
+ * usage: judge DIR [--threads N] [--seconds S] [--calls N] [--seed N] [--depth N] [--mix CALL=N,..]
  *
  * It makes a folder of its own below DIR, works nowhere else, and removes it, also after a fault and when it is told to
  * stop (SIGINT, SIGTERM, SIGHUP). The trace (docs/FORMATS.md) goes to standard output, that folder its root. README.md
@@ -82,10 +82,7 @@ struct actor {
 struct judge {
     char path[LONGEST_FOLDER];
     int folder;
-    ino_t number;
     long threads, seconds, calls, seed, depth, weights[VERBS], weight;
-    int numbered;
-    pthread_rwlock_t apart;
     atomic_long begun, ended; /* of the calls that may take a name away */
     atomic_int go, stop, running, status;
     pthread_mutex_t lock;
@@ -254,10 +251,6 @@ static void perform(struct judge *judge, struct call *call)
 {
     int names = call->verb >= LINK && call->verb <= SYMLINK, takes = call->verb >= UNLINK;
     struct stat found = {0};
-    if (judge->numbered && names)
-        pthread_rwlock_wrlock(&judge->apart);
-    if (judge->numbered && takes)
-        pthread_rwlock_rdlock(&judge->apart);
     long ended = names ? judge->ended : 0, begun = names ? judge->begun : 0;
     if (takes)
         judge->begun++;
@@ -278,8 +271,6 @@ static void perform(struct judge *judge, struct call *call)
         call->to[result] = 0;
     if (result == LONGEST && call->verb == READLINK)
         fail(judge, FAULT, "readlink %s: a text that no call gave", call->from);
-    if (judge->numbered && (names || takes))
-        pthread_rwlock_unlock(&judge->apart);
 }
 
 /* Whether an error is of the tree of names, so that it belongs into the trace. */
@@ -425,12 +416,6 @@ static int by_start(const void *one, const void *other)
     return (first > second) - (first < second);
 }
 
-/* The folder is the trace's root, so it has number 1, and what has that number below the mount has the folder's. */
-static uintmax_t number_of(const struct judge *judge, ino_t number)
-{
-    return number == judge->number ? 1 : number == 1 ? judge->number : number;
-}
-
 /* Writes a link's text as a word of a trace, whatever the mount has made of it. */
 static void print_word(const char *word)
 {
@@ -442,17 +427,17 @@ static void print_word(const char *word)
             putchar(*word);
 }
 
-static void print_reply(const struct judge *judge, const struct call *call)
+static void print_reply(const struct call *call)
 {
     const char *kind = S_ISDIR(call->mode) ? "dir" : S_ISLNK(call->mode) ? "link" : "file";
     if (call->error)
         printf("no %d\n", call->error);
     else if (call->verb <= LLOOK)
-        printf("is %ju %s\n", number_of(judge, call->number), kind);
+        printf("is %ju %s\n", (uintmax_t)call->number, kind);
     else if (call->verb == READLINK)
         fputs("text ", stdout), print_word(call->to), puts("");
     else if (call->known)
-        printf("ok %ju\n", number_of(judge, call->number));
+        printf("ok %ju\n", (uintmax_t)call->number);
     else
         puts("ok");
 }
@@ -473,7 +458,7 @@ static void print(const struct judge *judge, struct call **calls, long many)
             printf("/%s /%s = ", call->from, call->to);
         else
             printf("/%s = ", call->from);
-        print_reply(judge, call);
+        print_reply(call);
     }
 }
 
@@ -516,7 +501,7 @@ static void write_trace(struct judge *judge)
 
 static void usage(FILE *out)
 {
-    fputs("usage: judge DIR [--threads N] [--seconds S] [--calls N] [--seed N] [--depth N] [--mix CALL=N,..] [--numbered]\n"
+    fputs("usage: judge DIR [--threads N] [--seconds S] [--calls N] [--seed N] [--depth N] [--mix CALL=N,..]\n"
           "  --threads N    1 to 16 threads, 4 by default\n"
           "  --seconds S    ends after S seconds, 1 by default, at most 86400\n"
           "  --calls N      ends after N calls of all threads together, 1000000 by default and at most\n"
@@ -527,8 +512,6 @@ static void usage(FILE *out)
     for (int verb = 0; verb < VERBS; verb++)
         fprintf(out, "%s%s=%ld%s", verb == VERBS / 2 ? "\n                 " : "", verbs[verb].word, verbs[verb].weight,
             verb + 1 < VERBS ? "," : "\n");
-    fputs("  --numbered     each inode that is made or linked is told with its number: meanwhile no other thread\n"
-          "                 makes, links, renames or removes\n", out);
 }
 
 static void refuse(const char *what)
@@ -569,7 +552,7 @@ static void read_mix(struct judge *judge, char *text)
 static const char *read_words(struct judge *judge, int count, char **words)
 {
     static const struct option options[] = {{"threads", 1, NULL, 't'}, {"seconds", 1, NULL, 's'}, {"calls", 1, NULL, 'c'},
-        {"seed", 1, NULL, 'e'}, {"depth", 1, NULL, 'd'}, {"mix", 1, NULL, 'm'}, {"numbered", 0, NULL, 'n'}, {"help", 0, NULL, 'h'}, {0}};
+        {"seed", 1, NULL, 'e'}, {"depth", 1, NULL, 'd'}, {"mix", 1, NULL, 'm'}, {"help", 0, NULL, 'h'}, {0}};
     judge->threads = 4, judge->seconds = 1, judge->calls = MOST_CALLS, judge->seed = 1, judge->depth = DEEPEST;
     for (int verb = 0; verb < VERBS; verb++)
         judge->weights[verb] = verbs[verb].weight;
@@ -581,7 +564,6 @@ static const char *read_words(struct judge *judge, int count, char **words)
         case 'e': judge->seed = number_in(optarg, 0, INT32_MAX); break;
         case 'd': judge->depth = number_in(optarg, 1, DEEPEST); break;
         case 'm': read_mix(judge, optarg); break;
-        case 'n': judge->numbered = 1; break;
         case 'h': usage(stdout); exit(0);
         default: usage(stderr); exit(WRONG_WORDS);
         }
@@ -593,23 +575,20 @@ static const char *read_words(struct judge *judge, int count, char **words)
 /* Makes the folder. From here on it is removed, whatever comes. */
 static int make_folder(struct judge *judge, const char *dir)
 {
-    struct stat about;
     int length = snprintf(judge->path, sizeof judge->path, "%s/judge-XXXXXX", dir);
     if (length >= (int)sizeof judge->path || !mkdtemp(judge->path)) {
         fprintf(stderr, "judge: no folder can be made below %s: %s\n", dir, strerror(errno));
         return 0;
     }
     judge->folder = open(judge->path, O_DIRECTORY | O_RDONLY | O_NOFOLLOW | O_CLOEXEC);
-    if (judge->folder < 0 || fstat(judge->folder, &about) != 0)
+    if (judge->folder < 0)
         fail(judge, FAULT, "%s: %s", judge->path, strerror(errno));
-    else
-        judge->number = about.st_ino;
     return 1;
 }
 
 int main(int count, char **words)
 {
-    static struct judge judge = {.apart = PTHREAD_RWLOCK_INITIALIZER, .lock = PTHREAD_MUTEX_INITIALIZER};
+    static struct judge judge = {.lock = PTHREAD_MUTEX_INITIALIZER};
     static const int asking[] = {SIGINT, SIGTERM, SIGHUP};
     sigset_t signals;
     int told = 0;

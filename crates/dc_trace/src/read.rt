@@ -1,9 +1,9 @@
 //! How a trace is read: a line a call, as `17 42 0 look /a = no 2`.
 
 use crate::{Timed, TraceFault};
-use dc_lang::{Command, Line, LineFault, SESSION_COUNT, base_after, read_line, read_reply};
+use dc_lang::{Command, Line, LineFault, SESSION_COUNT, read_line, read_reply};
 use dc_names::NoMemory;
-use dc_plain::{ROOT, Reply};
+use dc_plain::Reply;
 use std::alloc::Global;
 use std::str;
 
@@ -74,7 +74,7 @@ fn answered_in(alloc: Global, text: &[u8]) -> Result<(Command, Reply), LineFault
     Err(LineFault::Bad)
 }
 
-/// The call of a line. The directory that it starts from is not known yet.
+/// The call of a line.
 fn timed_in(alloc: Global, number: u64, text: &[u8]) -> Result<Timed, LineFault> {
     let Some((start, text)) = number_before(text) else {
         return Err(LineFault::Bad);
@@ -87,22 +87,19 @@ fn timed_in(alloc: Global, number: u64, text: &[u8]) -> Result<Timed, LineFault>
         line: number,
         start,
         end,
-        base: ROOT.0,
         command,
         reply,
     })
 }
 
-/// Sees that the calls of a session come one after the other, and where each of them starts from.
-fn follow(lane: &mut Vec<Timed>) -> Result<(), TraceFault> {
-    let (mut free, mut base) = (0, ROOT.0);
-    for timed in lane.iter_mut() {
+/// Sees that the calls of a session come one after the other.
+fn follow(lane: &[Timed]) -> Result<(), TraceFault> {
+    let mut free = 0;
+    for timed in lane {
         if timed.start < free || timed.end < timed.start {
             return Err(TraceFault::BadLine(timed.line));
         }
         free = timed.end;
-        timed.base = base;
-        base = base_after(&timed.command, &timed.reply, base);
     }
     Ok(())
 }

@@ -16,8 +16,6 @@ pub struct Timed {
     pub start: u64,
     /// When it had ended.
     pub end: u64,
-    /// The number of the directory that its session stood in.
-    pub base: u64,
     /// What was called.
     pub command: Command,
     /// What it was answered.

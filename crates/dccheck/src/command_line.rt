@@ -2,6 +2,7 @@
 
 use crate::faults::Fault;
 use clap::{Arg, ArgAction, ArgMatches, Command, Error};
+use dc_trace::Errors;
 use std::alloc::{AllocError, Global};
 use std::time::Duration;
 
@@ -23,6 +24,8 @@ pub struct Options<'a> {
     pub states: u64,
     /// How many megabytes these may take: the same.
     pub memory: u64,
+    /// Whose numbers of errors a trace has.
+    pub errors: Errors,
     /// Whether one line of JSON is written.
     pub json: bool,
     pub task: Task<'a>,
@@ -48,6 +51,8 @@ enum Given {
     Nothing,
     /// A number, and its default.
     Number(&'static str),
+    /// One of a few words, and its default.
+    Word(&'static str),
     /// The path of a trace.
     Trace,
     /// The path of a file of a record, which stands without a name before it.
@@ -91,7 +96,7 @@ static SOAKS: [Choice; 4] = [
     Choice("brief", Given::Nothing, "Prints the verdict alone"),
 ];
 
-static RECORDS: [Choice; 7] = [
+static RECORDS: [Choice; 8] = [
     Choice(
         "inodes",
         Given::Number("65536"),
@@ -104,13 +109,18 @@ static RECORDS: [Choice; 7] = [
     ),
     Choice(
         "states",
-        Given::Number("100000"),
+        Given::Number("10000000"),
         "How many states are visited to find an order of the trace",
     ),
     Choice(
         "memory",
         Given::Number("1024"),
         "How many megabytes these states may take",
+    ),
+    Choice(
+        "errors",
+        Given::Word("exact"),
+        "Which numbers of errors a trace may have: exact, linux or posix",
     ),
     Choice("json", Given::Nothing, "One line of JSON"),
     Choice(
@@ -132,6 +142,7 @@ fn arg_of<'a>(alloc: Global, choice: &Choice) -> Result<Arg<'a>, AllocError> {
     match given {
         Given::Nothing => Ok(arg.long(id).action(ArgAction::SetTrue)),
         Given::Number(default) => Ok(arg.long(id).value_name("N").default_value(default)),
+        Given::Word(default) => Ok(arg.long(id).value_name("WORD").default_value(default)),
         Given::Trace => Ok(arg.long(id).value_name("FILE")),
         Given::Record => arg
             .required_unless_present("trace")?
@@ -199,6 +210,16 @@ pub fn soak_in(alloc: Global, words: &[String]) -> Result<Soak, Fault> {
     })
 }
 
+/// The numbers of errors that a word chooses.
+fn errors_in(word: &str) -> Result<Errors, Fault> {
+    match word {
+        "exact" => Ok(Errors::Exact),
+        "linux" => Ok(Errors::Linux),
+        "posix" => Ok(Errors::Posix),
+        _ => Err(Fault::BadErrors),
+    }
+}
+
 /// The options that the words after the program's name choose.
 pub fn options_in<'a>(alloc: Global, words: &'a [String]) -> Result<Options<'a>, Fault> {
     let matches = matches_in(alloc, RECORD, &RECORDS, words).map_err(Fault::Words)?;
@@ -206,6 +227,7 @@ pub fn options_in<'a>(alloc: Global, words: &'a [String]) -> Result<Options<'a>,
         inodes: text_of(&matches, "inodes").parse::<u64>().unwrap_or(0),
         states: text_of(&matches, "states").parse::<u64>().unwrap_or(0),
         memory: text_of(&matches, "memory").parse::<u64>().unwrap_or(0),
+        errors: errors_in(text_of(&matches, "errors"))?,
         json: matches.get_flag("json"),
         task: task_in(&matches)?,
     })

@@ -14,6 +14,8 @@ pub enum Fault {
     NoText,
     /// A number is outside its limits.
     BadSize,
+    /// No numbers of errors have this name.
+    BadErrors,
     /// Both files are standard input.
     OneInput,
     /// A file can't be read.
@@ -59,7 +61,7 @@ impl Fault {
                 _ => 2,
             },
             Fault::Wrong => 1,
-            Fault::NoText | Fault::BadSize | Fault::OneInput => 2,
+            Fault::NoText | Fault::BadSize | Fault::BadErrors | Fault::OneInput => 2,
             Fault::NoMemory => 3,
             Fault::Unread(_) | Fault::Write | Fault::NoClock => 4,
             Fault::BadLine(..) | Fault::Unpaired(_) => 5,
@@ -71,6 +73,7 @@ impl Fault {
         match self {
             Fault::NoText => "an argument is no text",
             Fault::BadSize => "bad size",
+            Fault::BadErrors => "errors are exact, linux or posix",
             Fault::OneInput => "both files are standard input",
             Fault::Write => "write fault",
             Fault::NoClock => "the clock can't be read",

@@ -19,11 +19,11 @@ ghost use Rattle.dc_names.specs.declared.limits.TheConstants.{MOST_INODES};
 use command_line::{Options, Task, options_in};
 use counts::Counts;
 use dc_plain::MOST_INODES;
-use dc_trace::Limits;
+use dc_trace::Rules;
 use faults::{Fault, File};
 use progress::Progress;
 use record::Record;
-use report::Report;
+use report::{Report, json_line};
 use std::io::{Read, Write};
 use std::process::ExitCode;
 use std::{env, fs, io};
@@ -73,7 +73,7 @@ fn tell_counts(rt: &HostRuntime, options: &Options, counts: &Counts) {
 /// Writes the verdict on a record, and what was judged. Answers the status.
 fn tell_report(rt: &HostRuntime, options: &Options, report: &Report) -> Result<u8, Fault> {
     let text = if options.json {
-        report.json(rt.alloc())?
+        json_line(rt.alloc(), report.members(rt.alloc())?)?
     } else {
         report.text(rt.alloc())?
     };
@@ -124,7 +124,7 @@ fn tell_found(
     found: &Found,
 ) -> Result<u8, Fault> {
     let text = if options.json {
-        found.json(rt.alloc())?
+        found.json(rt.alloc(), trace)?
     } else {
         found.text(rt.alloc(), trace)?
     };
@@ -143,11 +143,13 @@ fn check_trace(rt: &HostRuntime, options: &Options, path: &str) -> Result<u8, Fa
     let progress = Progress::new(rt);
     let trace = read(rt, path, File::Trace)?;
     progress.tell(rt, "the file is read");
-    let limits = Limits {
+    let rules = Rules {
+        inodes: options.inodes,
+        errors: options.errors,
         states: options.states,
         memory: options.memory.saturating_mul(1 << 20),
     };
-    let found = explain(rt.alloc(), options.inodes, limits, &trace)?;
+    let found = explain(rt.alloc(), rules, &trace)?;
     tell_found(rt, options, &trace, &found)
 }
 

@@ -102,19 +102,20 @@ fn text_of(alloc: Global, line: &[u8]) -> Result<String, AllocError> {
 }
 
 /// Adds texts by their names.
-fn put_texts(
+pub fn put_texts(
     alloc: Global,
     members: &mut Map<String, Value>,
-    texts: &[(&str, String)],
+    texts: &[(&str, &[u8])],
 ) -> Result<(), AllocError> {
     for (name, text) in texts {
-        put(members, alloc, name, Value::try_from_str(alloc, text)?)?;
+        let text = text_of(alloc, text)?;
+        put(members, alloc, name, Value::String(text))?;
     }
     Ok(())
 }
 
 /// Adds numbers by their names.
-fn put_numbers(
+pub fn put_numbers(
     alloc: Global,
     members: &mut Map<String, Value>,
     numbers: &[(&str, u64)],
@@ -125,18 +126,51 @@ fn put_numbers(
     Ok(())
 }
 
-/// A line of JSON: texts and numbers by their names.
-pub fn json_line(
-    alloc: Global,
-    texts: &[(&str, String)],
-    numbers: &[(&str, u64)],
-) -> Result<Vec<u8>, AllocError> {
-    let mut members = Map::new(alloc);
-    put_texts(alloc, &mut members, texts)?;
-    put_numbers(alloc, &mut members, numbers)?;
+/// The lines of a text, as a list.
+pub fn list_of(alloc: Global, text: &[u8]) -> Result<Value, AllocError> {
+    let mut list = Vec::new(alloc);
+    for line in text.split_inclusive(|byte| *byte == b'\n') {
+        list.push(Value::String(text_of(alloc, line)?))?;
+    }
+    Ok(Value::Array(list))
+}
+
+/// A line of JSON.
+pub fn json_line(alloc: Global, members: Map<String, Value>) -> Result<Vec<u8>, AllocError> {
     let mut line = Value::Object(members).to_string(alloc)?.into_bytes();
     line.push(b'\n')?;
     Ok(line)
+}
+
+/// A line of the replies and its command.
+fn answered_value(alloc: Global, one: &Answered) -> Result<Value, AllocError> {
+    let mut members = Map::new(alloc);
+    let texts: [(&str, &[u8]); 2] = [("reply", &one.reply), ("command", &one.command)];
+    put_texts(alloc, &mut members, &texts)?;
+    put_numbers(alloc, &mut members, &[("line", one.line)])?;
+    Ok(Value::Object(members))
+}
+
+/// The line that is bad, the reply that is due and the changes nearest to it: empty if nothing is.
+fn put_wrong(
+    alloc: Global,
+    members: &mut Map<String, Value>,
+    wrong: &Option<Wrong>,
+) -> Result<(), AllocError> {
+    let (mut line, mut near) = (0, Vec::new(alloc));
+    let mut texts: [(&str, &[u8]); 3] = [("reply", b""), ("command", b""), ("due", b"")];
+    if let Some(wrong) = wrong {
+        let Answered { reply, command, .. } = &wrong.line;
+        let due = wrong.due.as_deref().unwrap_or(b"");
+        texts = [("reply", reply), ("command", command), ("due", due)];
+        line = wrong.line.line;
+        for one in &wrong.near {
+            near.push(answered_value(alloc, one)?)?;
+        }
+    }
+    put_texts(alloc, members, &texts)?;
+    put_numbers(alloc, members, &[("line", line)])?;
+    put(members, alloc, "near", Value::Array(near))
 }
 
 impl Report {
@@ -162,45 +196,20 @@ impl Report {
         }
     }
 
-    /// The line that is bad, its reply, its command and the reply that is due, empty if there are none.
-    fn shown(&self, alloc: Global) -> Result<(u64, String, String, String), AllocError> {
-        match &self.wrong {
-            Some(wrong) => Ok((
-                wrong.line.line,
-                text_of(alloc, &wrong.line.reply)?,
-                text_of(alloc, &wrong.line.command)?,
-                text_of(alloc, wrong.due.as_deref().unwrap_or(b""))?,
-            )),
-            None => Ok((
-                0,
-                String::new(alloc),
-                String::new(alloc),
-                String::new(alloc),
-            )),
-        }
-    }
-
-    /// The verdict as a line of JSON.
-    pub fn json(&self, alloc: Global) -> Result<Vec<u8>, AllocError> {
-        let (line, reply, command, due) = self.shown(alloc)?;
-        let word = self.word.to_string(alloc)?;
+    /// All of it by names.
+    pub fn members(&self, alloc: Global) -> Result<Map<String, Value>, AllocError> {
+        let mut members = Map::new(alloc);
         let counts = &self.counts;
-        json_line(
-            alloc,
-            &[
-                ("verdict", word),
-                ("reply", reply),
-                ("command", command),
-                ("due", due),
-            ],
-            &[
-                ("line", line),
-                ("commands", counts.commands),
-                ("replies", counts.replies),
-                ("sessions", counts.sessions),
-                ("phases", counts.phases),
-                ("changes", counts.changes),
-            ],
-        )
+        let numbers = [
+            ("commands", counts.commands),
+            ("replies", counts.replies),
+            ("sessions", counts.sessions),
+            ("phases", counts.phases),
+            ("changes", counts.changes),
+        ];
+        put_texts(alloc, &mut members, &[("verdict", self.word.as_bytes())])?;
+        put_numbers(alloc, &mut members, &numbers)?;
+        put_wrong(alloc, &mut members, &self.wrong)?;
+        Ok(members)
     }
 }

@@ -3,23 +3,48 @@
 use crate::probe::{Plan, told};
 use crate::serving::INODES;
 use crate::told::Told;
-use dc_trace::{Limits, Outcome, TraceFault, find_order, read_trace, write_record};
+use dc_trace::{Errors, Outcome, Rules, TraceFault, find_order, read_trace, write_record};
 use std::alloc::Global;
 
-/// Calls with their times.
+/// Calls with their times. The rename that ended first comes last, so that a step is undone.
 const TRACE: &[u8] = b"\
-10 20 0 mkdir /d = ok 2
-30 80 0 create /d/f = ok 3
-40 90 1 look /d/f = is 3 file
+10 20 0 mkdir /d = ok 7
+30 80 0 create /d/f = ok
+40 90 1 look /d/f = is 9 file
+100 110 0 symlink t /a = ok 4
+120 130 0 create /b = ok 5
+140 180 0 rename /a /c = ok
+140 190 1 rename /b /c = ok
+200 210 0 llook /c = is 4 link
 ";
 
 /// The commands, and the replies with points that explain them.
-const COMMANDS: &[u8] = b"0 mkdir /d\n0 create /d/f\n1 look /d/f\n";
+const COMMANDS: &[u8] = b"\
+0 mkdir /d
+0 create /d/f
+0 symlink t /a
+0 create /b
+0 rename /a /c
+0 llook /c
+1 look /d/f
+1 rename /b /c
+";
 
-const REPLIES: &[u8] = b"0 ok 2 @0\n0 ok 3 @1\n1 is 3 file @2\n";
+const REPLIES: &[u8] = b"\
+0 ok 2 @0
+0 ok 3 @1
+0 ok 4 @2
+0 ok 5 @3
+0 ok @5
+0 is 4 link @6
+1 is 3 file @2
+1 ok @4
+";
 
 /// More states than the search visits, and more memory than they take.
-const LIMITS: Limits = Limits {
+const RULES: Rules = Rules {
+    inodes: INODES,
+    errors: Errors::Exact,
     states: 100,
     memory: 1 << 20,
 };
@@ -27,10 +52,9 @@ const LIMITS: Limits = Limits {
 /// The commands and the replies of the trace.
 fn explained(alloc: Global) -> Result<(Vec<u8>, Vec<u8>), TraceFault> {
     let lanes = read_trace(alloc, TRACE)?;
-    match find_order(alloc, INODES, LIMITS, &lanes)? {
-        Outcome::Order(points) => Ok(write_record(alloc, lanes, &points)?),
-        Outcome::Stuck(line) => Err(TraceFault::BadLine(line)),
-        Outcome::Undecided => Err(TraceFault::BadLine(0)),
+    match find_order(alloc, RULES, &lanes)? {
+        Outcome::Order(order) => Ok(write_record(alloc, RULES, lanes, &order)?),
+        Outcome::Stuck(line, _) | Outcome::Undecided(line, _) => Err(TraceFault::BadLine(line)),
     }
 }
 
