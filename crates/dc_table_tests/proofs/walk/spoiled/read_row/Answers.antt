@@ -1,4 +1,4 @@
-use Rattle.std.proofs.Common.{arith, ◌∙◌, ap, get_or, length-set}
+use Rattle.std.proofs.Common.{arith, rules, ◌∙◌, ap, get_or, length-set}
 use Rattle.dc_events.specs.Effects.{begins}
 use Rattle.dc_plain.specs.Requests.{request_of}
 use Rattle.dc_table.specs.Passes.{view}
@@ -19,7 +19,7 @@ pub loop-i-preserved : goal.loop-i-preserved
 loop-i-preserved g c = let i = c.loop-i.invariant in let e = c.read_word.ensures in record {
   fits = fits_still i.fits e.same.same;
   stays = stays_again i.stays e.same;
-  other = c.spoil-all.ensures;
+  other = search rules;
   size = length-set c.loop-i.words c.loop-i.i c.read_word.result ∙ i.size;
   read = next_read (begins c.args.first (view c.args.pass.now) (request_of c.args.call.now)) (view c.loop-i.pass) c.args.row c.loop-i.i c.loop-i.words i.size (omega (arith, c.loop-i.auto.i)) c.loop-i-test.true i.read (view c.read_word.new.pass) c.read_word.result e.view;
 }
