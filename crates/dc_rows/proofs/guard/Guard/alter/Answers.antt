@@ -19,8 +19,8 @@ shut_keys-rows-requires-clause-stage c = let p = c.args.self.now.holder.pass.now
 
 pub commit-requires : goal.commit-requires
 commit-requires c = let shown = ap (map key_shown) c.as_slice-keys.ensures.value ∙ c.keys-keys.ensures in record {
-      can = can_commit c.args.self.now.holder.pass.now c.shut_keys-rows.new.holder.pass.now c.shut_keys-rows.ensures.pass (request_of c.args.call.now) c.shut_keys-rows.new.kept (map key_shown c.as_slice-keys.result.now) _ (sym (length-map c.as_slice-keys.result.now key_shown)) (shown ∙ c.requires.plans.keys)
-          c.words_have_the_fact_they_spell.ensures c.calls_touch_the_listed_keys.ensures.keys c.requires.well c.requires.plans.alters c.requires.early c.shut_keys-rows.ensures.stage;
+  can = can_commit c.args.self.now.holder.pass.now c.shut_keys-rows.new.holder.pass.now c.shut_keys-rows.ensures.pass (request_of c.args.call.now) c.shut_keys-rows.new.kept (map key_shown c.as_slice-keys.result.now) _ (sym (length-map c.as_slice-keys.result.now key_shown)) (shown ∙ c.requires.plans.keys)
+      c.words_have_the_fact_they_spell.ensures c.calls_touch_the_listed_keys.ensures.keys c.requires.well c.requires.plans.alters c.requires.early c.shut_keys-rows.ensures.stage;
 }
 
 pub refill_keys-requires-clause-store : goal.refill_keys-requires-clause-store
