@@ -27,8 +27,8 @@
 //! export PKG_CONFIG_PATH=~/.local/lib/pkgconfig
 //! ```
 //!
-//! This proves the library and builds it: some 20 minutes on 4 idle processors the first time, seconds if nothing has
-//! changed since. A machine without the kit takes what another one has proved: `bindings/c/package` makes a Debian package
+//! This proves the library and builds it: some 20 minutes on 4 idle processors the first time; later only what has changed
+//! is proved. A machine without the kit takes what another one has proved: `bindings/c/package` makes a Debian package
 //! of it, `libgigbewu-dev`. The static library is linked to, unless `GIGBEWU_SHARED` is set in the environment of the
 //! build. It is for Linux.
 //!
