@@ -74,10 +74,22 @@ fn rename_there_and_back<R: Wait>(
 {
     let mut all = true;
     for _ in 0..40 {
-        all &= is_done(rt, alloc, cache, &mut pass, &rename_by(flags, first, second));
+        all &= is_done(
+            rt,
+            alloc,
+            cache,
+            &mut pass,
+            &rename_by(flags, first, second),
+        );
         all &= is_done(rt, alloc, cache, &mut pass, &create(file_then));
         all &= is_done(rt, alloc, cache, &mut pass, &unlink(file_then));
-        all &= is_done(rt, alloc, cache, &mut pass, &rename_by(flags, second, first));
+        all &= is_done(
+            rt,
+            alloc,
+            cache,
+            &mut pass,
+            &rename_by(flags, second, first),
+        );
     }
     (pass, all)
 }
@@ -197,13 +209,7 @@ fn make_above<R: Wait>(rt: &R, alloc: Global, cache: &Dcache, pass: &mut Pass, f
 }
 
 /// Makes each directory above the file, and if there is to be an exchange those above its other path.
-fn make_all<R: Wait>(
-    rt: &R,
-    alloc: Global,
-    cache: &Dcache,
-    pass: &mut Pass,
-    race: Race<'_>,
-) -> bool
+fn make_all<R: Wait>(rt: &R, alloc: Global, cache: &Dcache, pass: &mut Pass, race: Race<'_>) -> bool
     requires { Fits cache.now pass.old }
     ensures { Fits cache.now pass.new }
 {

@@ -7,8 +7,11 @@ use std::alloc::Global;
 use std::test::Fail;
 
 const SESSIONS: u64 = 16;
+
 const FILES: u64 = 4_000;
+
 const CALLS: u64 = 10_000;
+
 const MOST_INODES: u64 = 8_192;
 
 /// The line of an input, and its reply. The files are made in turn, and then looked up, by the sessions in
