@@ -10,7 +10,7 @@
 #include <stdlib.h>
 #include <string.h>
 
-enum { ROOT = 1, LOOKERS = 4, LOOKS = 125000, RACES = 2 };
+enum { ROOT = 1, LOOKERS = 4, LOOKS = 250000, RACES = 2 };
 
 struct looker {
     pthread_t thread;

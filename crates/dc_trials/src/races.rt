@@ -209,7 +209,13 @@ fn make_above<R: Wait>(rt: &R, alloc: Global, cache: &Dcache, pass: &mut Pass, f
 }
 
 /// Makes each directory above the file, and if there is to be an exchange those above its other path.
-fn make_all<R: Wait>(rt: &R, alloc: Global, cache: &Dcache, pass: &mut Pass, race: Race<'_>) -> bool
+fn make_all<R: Wait>(
+    rt: &R,
+    alloc: Global,
+    cache: &Dcache,
+    pass: &mut Pass,
+    race: &Race<'_>,
+) -> bool
     requires { Fits cache.now pass.old }
     ensures { Fits cache.now pass.new }
 {
@@ -227,7 +233,7 @@ fn run_anew<R: Threads + Wait + Sync>(rt: &R, alloc: Global, race: Race<'_>) -> 
     requires sync { IsSync R.row }
 {
     let (cache, mut pass) = Dcache::new(alloc, 64, 1024).ok()?;
-    let made = make_all(rt, alloc, &cache, &mut pass, race);
+    let made = make_all(rt, alloc, &cache, &mut pass, &race);
     let (pass, right) = run(rt, alloc, &cache, pass, race);
     let ended = left_behind(cache, pass);
     if made && right { ended } else { None }

@@ -12,7 +12,7 @@ const FILES: u64 = 4_000;
 
 const CALLS: u64 = 10_000;
 
-const MOST_INODES: u64 = 8_192;
+const LIVING: u64 = 8_192;
 
 /// The line of an input, and its reply. The files are made in turn, and then looked up, by the sessions in
 /// turn. After the last session's line a phase ends.
@@ -60,8 +60,8 @@ fn verdicts(
     input: &[u8],
     stamps: &[Stamp],
 ) -> Result<(Verdict, PhasedVerdict), Fail> {
-    let alone = check(alloc, MOST_INODES, stamps)?;
-    Ok((alone, phased_verdict(alloc, MOST_INODES, input, stamps)?))
+    let alone = check(alloc, LIVING, stamps)?;
+    Ok((alone, phased_verdict(alloc, LIVING, input, stamps)?))
 }
 
 /// A reply, and then a point, is another one in the middle.
