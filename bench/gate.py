@@ -60,7 +60,9 @@ class Samples:
                 part = part or part_of(running[above][3])
                 above = running[above][0]
             if above == self.top:
-                self.seen[number, begun] = part or ("", "the rest"), ticks
+                # A process that has ended and isn't waited for yet has no words any more.
+                before, _ = self.seen.get((number, begun), (("", "the rest"), 0))
+                self.seen[number, begun] = part or before, ticks
 
     def minutes(self):
         """The minutes of each part, by crate."""
