@@ -258,8 +258,8 @@ int gb_try_rename(struct gb_pass *pass, uint64_t base, const char *old_path, siz
 int gb_learn(struct gb_pass *pass, uint64_t at, uint64_t *clock);
 
 /* Empties up to `most` rows, the least recently used first, and writes to `emptied` how many, if the answer is 0. No
- * answer depends on it. Takes the lock, some 0.8 microseconds a row, and no memory. All others wait meanwhile, so ask in
- * portions, as gb_shrink does.
+ * answer depends on it. Takes the lock for some 0.8 microseconds a row, and no memory. All others wait meanwhile, so
+ * ask in portions, as gb_shrink does.
  * Proved: `emptied` is at most `most`, and no answer is recorded.
  * Answers 0, GB_BUSY, GB_BAD_PASS. */
 int gb_try_shrink(struct gb_pass *pass, uint64_t most, uint64_t *emptied);
