@@ -86,7 +86,7 @@ fn read_row<R: Wait>(
         ≡ seen_whole (begins first (view pass.old) (request_of call.now)) row words) }
 {
     let reader = shared.reader();
-    let begun = place.checked_sub(row as usize * ROW_WORDS);
+    let begun = place.checked_sub((row as usize).saturating_mul(ROW_WORDS));
     let mut words = [0; ROW_WORDS];
     words[0] = reader.note(pass, call, row, first)?;
     let mut all = spoil(rt, alloc, shared, other, begun == Some(0));

@@ -24,6 +24,6 @@ loop-i-preserved g c = let i = c.loop-i.invariant in let e = c.read_word.ensures
   read = next_read (begins c.args.first (view c.args.pass.now) (request_of c.args.call.now)) (view c.loop-i.pass) c.args.row c.loop-i.i c.loop-i.words i.size (omega (arith, c.loop-i.auto.i)) c.loop-i-test.true i.read (view c.read_word.new.pass) c.read_word.result e.view;
 }
 
-pub returns-clause-read : goal.returns-clause-read
-returns-clause-read g c = let i = c.loop-i.invariant in
+pub returns-then-all-clause-read : goal.returns-then-all-clause-read
+returns-then-all-clause-read g c = let i = c.loop-i.invariant in
     i.read ∙ ap (probed (begins c.args.first (view c.args.pass.now) (request_of c.args.call.now)) c.args.row (get_or c.loop-i.words 0 0)) (read_whole c.loop-i.words i.size c.loop-i.i (omega (arith, c.loop-i-test.false, c.loop-i.auto.i-end (omega arith))))

@@ -1,6 +1,6 @@
 use Rattle.std.proofs.Common.{◌∙◌, sym, to_z-of_z, SFits, w32, rules}
 use Rattle.dc_c.proofs.Opening.{on_blank, on_open, opens}
-use Rattle.dc_c.proofs.passes.gb_cache_new.Goals as goal
+use Rattle.dc_c.proofs.passes.gb_cache_with_names.Goals as goal
 
 pub returns-then-is_open : goal.returns-then-is_open
 returns-then-is_open c =
