@@ -32,8 +32,8 @@
  * rather than one for each request.
  *
  * No function of the library waits. One that needs the lock tries for it once, and answers GB_BUSY if another pass has
- * it: then nothing has happened. The blocking forms at the end of this file (gb_look, gb_mkdir, ..) try again, and
- * sleep meanwhile.
+ * it: then the tree is as it was, and the call has no answer. The blocking forms at the end of this file (gb_look,
+ * gb_mkdir, ..) try again, and sleep meanwhile.
  *
  * A path is `len` bytes, without a zero byte at its end. `base` is the number of the directory from which a relative
  * path starts. Names have up to 255 bytes, paths up to 4,095, and one path may pass 40 links. Names may come from
@@ -136,8 +136,9 @@ struct gb_gone {
 /* Makes a cache and opens its first pass. `buckets`, of four rows each, is a power of two from 1 to 1,048,576. `inodes`
  * is how many may live at once, the root among them, from 1 to 1,048,576. A name that is looked up takes a row: with
  * twice as many rows as such names 4 look-ups in 100 miss, with four times as many 4 in 1,000. A row weighs 380 bytes,
- * and 64 more once it is filled; a name of 32 bytes or more some 45 besides its bytes. There may be twice as many names
- * as inodes, in all directories together.
+ * and 64 more once it is filled; if its name has 32 bytes or more, also these and some 45 besides. In the tree a name
+ * weighs some 70 bytes, and one of more than 16 bytes some 80 besides its own. There may be twice as many names as
+ * inodes, in all directories together.
  * The pass must be blank, and no other thread may have its address yet.
  * Proved: the cache is of these sizes, and `blank` is its first pass then.
  * Answers 0, GB_NO_MEMORY, GB_BAD_PASS if the pass is open, GB_BAD_SIZE exactly if the sizes are others. */
@@ -212,9 +213,9 @@ int gb_try_readlink(struct gb_pass *pass, uint64_t base, const char *path, size_
 int gb_try_list(struct gb_pass *pass, uint64_t base, const char *path, size_t len, char *names, size_t room,
                 struct gb_found *found);
 
-/* The seven changes. Each looks the directory of its name up by rows, and then takes the lock, for the name alone if
- * the rows answered: of gb_try_link the new name, of gb_try_rename the old one, and the new one too if the same bytes
- * stand before it. It takes memory for what it makes or moves. A last link is never followed.
+/* The seven changes. Each first looks up the directory of its name by rows, and then takes the lock: for the name alone
+ * if the rows answered. Of gb_try_link that is the new name. Of gb_try_rename it is the old one, and the new one too if
+ * the same bytes stand before it. A change takes memory for what it makes or moves. A last link is never followed.
  * Proved of each: it takes effect at one moment, whole or not at all, and every look-up of any thread is on one side of
  * that moment. If it is out of memory, the tree is as it was. What `gone` says is true of the tree at that moment.
  * They answer 0, a refusal, GB_BUSY, GB_NO_MEMORY, GB_SPENT, GB_BAD_PASS. */
@@ -257,8 +258,8 @@ int gb_try_rename(struct gb_pass *pass, uint64_t base, const char *old_path, siz
 int gb_learn(struct gb_pass *pass, uint64_t at, uint64_t *clock);
 
 /* Empties up to `most` rows, the least recently used first, and writes to `emptied` how many, if the answer is 0. No
- * answer depends on it. Takes the lock, some 0.8 microseconds a row, and no memory. All others wait meanwhile, so ask in
- * portions, as gb_shrink does.
+ * answer depends on it. Takes the lock for some 0.8 microseconds a row, and no memory. All others wait meanwhile, so
+ * ask in portions, as gb_shrink does.
  * Proved: `emptied` is at most `most`, and no answer is recorded.
  * Answers 0, GB_BUSY, GB_BAD_PASS. */
 int gb_try_shrink(struct gb_pass *pass, uint64_t most, uint64_t *emptied);

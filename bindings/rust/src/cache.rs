@@ -4,6 +4,7 @@ use crate::error::Error;
 use crate::pass::{done, Pass, Shared};
 use crate::raw;
 use std::ffi::c_void;
+use std::os::raw::c_int;
 use std::sync::atomic::{AtomicPtr, Ordering::SeqCst};
 use std::sync::Arc;
 use std::{fmt, mem, ptr};
@@ -33,6 +34,7 @@ pub struct Cache {
 impl Cache {
     /// `buckets`, of four rows each, is a power of two from 1 to 1,048,576. `inodes` is how many may live at once, the root
     /// among them, from 1 to 1,048,576. A name that is looked up takes a row: have two to four times as many rows as names.
+    /// There may be twice as many names as inodes, in all directories together.
     ///
     /// ```
     /// use gigbewu::{Cache, Error};
@@ -41,12 +43,32 @@ impl Cache {
     /// assert_eq!(Cache::new(1_000, 1_000).unwrap_err(), Error::BadSize);
     /// ```
     pub fn new(buckets: u64, inodes: u64) -> Result<Cache, Error> {
+        // SAFETY: the pass is blank, and no other thread has its address.
+        Cache::made(|first| unsafe { raw::gb_cache_new(buckets, inodes, first) })
+    }
+
+    /// A cache as [`Cache::new`] makes it, with at most `names` names: a make or a [link](Pass::link) past that is
+    /// [`Error::NoMemory`] and changes nothing. A file may have 65,000 names, so a limit of inodes alone bounds no memory.
+    ///
+    /// ```
+    /// use gigbewu::{Cache, Error, ROOT};
+    ///
+    /// let mut pass = Cache::with_names(64, 100, 1)?.pass()?;
+    /// pass.create(ROOT, "/a")?;
+    /// assert_eq!(pass.link(ROOT, "/a", "/b").unwrap_err(), Error::NoMemory);
+    /// # Ok::<(), Error>(())
+    /// ```
+    pub fn with_names(buckets: u64, inodes: u64, names: u64) -> Result<Cache, Error> {
+        // SAFETY: as in `new`.
+        Cache::made(|first| unsafe { raw::gb_cache_with_names(buckets, inodes, names, first) })
+    }
+
+    /// The cache whose first pass a call opens.
+    fn made(open: impl FnOnce(*mut raw::Pass) -> c_int) -> Result<Cache, Error> {
         let mut first = raw::Pass {
             at: ptr::null_mut(),
         };
-        // SAFETY: the pass is blank, and no other thread has its address.
-        let answer = unsafe { raw::gb_cache_new(buckets, inodes, &mut first) };
-        done(answer, raw::Found::default())?;
+        done(open(&mut first), raw::Found::default())?;
         Ok(Cache {
             first: AtomicPtr::new(first.at),
             shared: Arc::default(),

@@ -37,6 +37,7 @@ type Path = *const c_char;
 
 extern "C" {
     pub fn gb_cache_new(buckets: u64, inodes: u64, blank: *mut Pass) -> c_int;
+    pub fn gb_cache_with_names(buckets: u64, inodes: u64, names: u64, blank: *mut Pass) -> c_int;
     pub fn gb_pass_split(pass: *mut Pass, blank: *mut Pass) -> c_int;
     pub fn gb_pass_join(pass: *mut Pass, other: *mut Pass) -> c_int;
     pub fn gb_close(pass: *mut Pass) -> c_int;
