@@ -3,7 +3,10 @@
 use crate::probe::{Plan, told};
 use crate::serving::INODES;
 use crate::told::Told;
-use dc_trace::{Errors, Outcome, Rules, TraceFault, find_order, read_trace, write_record};
+use dc_trace::{
+    Errors, Outcome, Rules, Timed, TraceFault, begun_before, find_order, read_trace, stretch_of,
+    write_record,
+};
 use std::alloc::Global;
 
 /// Calls with their times. The rename that ended first comes last, so that a step is undone.
@@ -49,9 +52,20 @@ const RULES: Rules = Rules {
     memory: 1 << 20,
 };
 
+/// Whether the first call of the trace is all that began before it ended, and all that it rests on.
+fn is_alone(alloc: Global, lanes: &[Vec<Timed>]) -> Result<bool, TraceFault> {
+    let begun = begun_before(alloc, lanes, 1)?;
+    let stretch = stretch_of(alloc, RULES, lanes, 1, &[])?;
+    let first: [u64; 1] = [1];
+    Ok(begun.as_slice() == first.as_slice() && stretch.as_slice() == first.as_slice())
+}
+
 /// The commands and the replies of the trace.
 fn explained(alloc: Global) -> Result<(Vec<u8>, Vec<u8>), TraceFault> {
     let lanes = read_trace(alloc, TRACE)?;
+    if !is_alone(alloc, &lanes)? {
+        return Err(TraceFault::BadLine(1));
+    }
     match find_order(alloc, RULES, &lanes)? {
         Outcome::Order(order) => Ok(write_record(alloc, RULES, lanes, &order)?),
         Outcome::Stuck(line, _) | Outcome::Undecided(line, _) => Err(TraceFault::BadLine(line)),
