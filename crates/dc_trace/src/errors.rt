@@ -70,6 +70,12 @@ impl Pair<'_> {
         Ok(number.filter(|number| *number != ENOSPC))
     }
 
+    /// Whether a path is walked to its last part, and that is in use.
+    fn is_in_use(&self, alloc: Global, tree: &Tree, path: &[u8]) -> Result<bool, NoMemory> {
+        let base = self.base;
+        Ok(refusal(alloc, tree, &Call::Create { base, path })? == Some(EEXIST))
+    }
+
     /// Whether what the new path names is a directory above the old one's.
     fn is_below(&self, alloc: Global, tree: &Tree) -> Result<bool, NoMemory> {
         let turned = Call::Rename {
@@ -101,7 +107,10 @@ impl Pair<'_> {
             EINVAL if is_apart && flags.exchange => Ok(due),
             EINVAL if is_apart && !dots && ends_in_dots(self.new) => Ok(EEXIST),
             EINVAL if dots || ends_in_dots(self.new) => Ok(EBUSY),
-            ENOTDIR if is_apart && self.of_new(alloc, tree)? == Some(EEXIST) => Ok(EEXIST),
+            ENOTDIR
+                if is_apart
+                    && self.is_in_use(alloc, tree, self.old)?
+                    && self.is_in_use(alloc, tree, self.new)? => { Ok(EEXIST) }
             EISDIR if self.is_below(alloc, tree)? => Ok(ENOTEMPTY),
             _ => Ok(due),
         }
