@@ -8,6 +8,9 @@ use std::os::raw::{c_char, c_int};
 use std::sync::{Arc, Mutex, PoisonError};
 use std::{fmt, ptr};
 
+/// How many rows [`Pass::shrink`] empties under one hold of the lock, as the header's `GB_PORTION`.
+const PORTION: u64 = 1024;
+
 /// What the passes of a cache share.
 #[derive(Default)]
 pub(crate) struct Shared {
@@ -178,7 +181,8 @@ impl Pass {
         }
     }
 
-    /// Empties up to `most` rows, the least recently used first, and answers how many. No later answer depends on it.
+    /// Empties up to `most` rows, the least recently used first, and answers how many. No later answer depends on it. It
+    /// gives the lock back after each 1,024 rows, which take some 0.8 ms, so that others needn't wait for all of them.
     ///
     /// ```
     /// # use gigbewu::{Cache, Follow, ROOT};
@@ -189,10 +193,17 @@ impl Pass {
     /// # Ok::<(), gigbewu::Error>(())
     /// ```
     pub fn shrink(&mut self, most: u64) -> Result<u64, Error> {
-        let mut emptied = 0;
-        // SAFETY: the pass is open and borrowed alone, and the number is this function's.
-        self.ask(|pass, _| unsafe { raw::gb_try_shrink(pass, most, &mut emptied) })?;
-        Ok(emptied)
+        let mut all = 0;
+        loop {
+            let portion = PORTION.min(most - all);
+            let mut emptied = 0;
+            // SAFETY: the pass is open and borrowed alone, and the number is this function's.
+            self.ask(|pass, _| unsafe { raw::gb_try_shrink(pass, portion, &mut emptied) })?;
+            all += emptied;
+            if emptied < portion || all >= most {
+                return Ok(all);
+            }
+        }
     }
 
     /// How many rows have lost their name to another one since the cache was made, [shrinking](Pass::shrink) aside. If the
