@@ -38,7 +38,7 @@ impl Bytes for ShortText {
 pub(crate) struct NoRoom;
 
 /// Answers the questions of a look-up from the tree, and fills the row of each. It stops at a link
-/// whose text has no room in a row, since no look-up without the lock gets past that. Where a walk by rows
+/// whose text has no room in a row, since no look-up without the lock gets past that. If a walk by rows
 /// has just given up, the rows in its room answer its questions again, in their order, if what they tell
 /// is known to be true: the tree isn't asked for these then, nor are their rows filled.
 pub(crate) struct Filler<'t> {

@@ -30,8 +30,8 @@
 //! is lent to one call at a time, as `&mut` says. A pass serves the cache that it comes from and no other,
 //! which each contract states as `Fits cache pass`, and each call leaves that true.
 //!
-//! `new` hands out the first pass, `with_buckets` and `with_names` that of a larger table. `split` cuts one for
-//! another thread from a pass that is there, and `join` takes it back together with its book. Each pass
+//! `new` hands out the first pass, `with_buckets` and `with_names` that of a larger table. `split` cuts
+//! one for another thread from a pass that is there, and `join` takes it back together with its book. Each pass
 //! has a share of the cache: the first has the whole, `split` halves it, and `join` adds. `close` ends
 //! the cache and gives the tree with the number of changes. It never fails for the pass that has the
 //! whole share; with a lesser one it gives `None` if another pass has the lock, and the tree is lost. A
@@ -99,7 +99,8 @@
 //! text that is no path is refused so by every call (ENOENT if it is empty, ENAMETOOLONG, EINVAL for a
 //! zero byte); `parse`, which `look_fast` wants called first, says the same as `TextFault`.
 //!
-//! Faults are no answers: nothing is recorded. `MakeFault` comes from `new`, `with_buckets` and `with_names` alone.
+//! Faults are no answers: nothing is recorded. `MakeFault` comes from `new`, `with_buckets` and
+//! `with_names` alone.
 //! `ChangeFault::Spent` says that the tree was altered 2^62 times. `Why` is the cause of an `Again`:
 //! `Miss` and `Link` if no row has the name or the link's text, `Busy` and `Changed` if a change came
 //! between, `Long` if more than 256 rows would be used (no name is too long for a row),

@@ -224,7 +224,7 @@ impl Actor {
         Ok(reply)
     }
 
-    /// A note is checked. Where memory is refused it is unchecked again.
+    /// A note is checked. If memory is refused it is unchecked again.
     pub fn check(&mut self, alloc: Global, i: u64) -> Result<Option<Reply>, NoMemory>
         requires room { i < length self.old.notes.items }
         requires fresh { (note_of (actor_shown self.old).walk i).checked ≡ false }

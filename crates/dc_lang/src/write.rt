@@ -117,7 +117,7 @@ pub fn write_command(alloc: Global, command: &Command) -> Result<Vec<u8>, NoMemo
     Ok(out)
 }
 
-/// The line of a meaning, without its newline: what `read_line` reads as this line, where the session
+/// The line of a meaning, without its newline: what `read_line` reads as this line, if the session
 /// is below `SESSIONS` and the words are as many as the verb takes.
 pub fn write_line(alloc: Global, line: &Line) -> Result<Vec<u8>, NoMemory>
     ensures { IfOk result (λ text. text.items ≡ line_text (meaning_of line.now)) }

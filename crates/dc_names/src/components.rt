@@ -24,7 +24,7 @@ pub fn first_part(bytes: &[u8]) -> Option<(Part<'_>, &[u8])>
 }
 
 /// The first component, the bytes after it, and the hash of a number and the component's bytes, or `None`
-/// where slashes alone are left. The hash is taken while the component's end is sought, and by a caller
+/// if slashes alone are left. The hash is taken while the component's end is sought, and by a caller
 /// that doesn't use it not at all.
 #[must_use]
 // Inlined, so that a caller that doesn't use the hash takes none.

@@ -1,4 +1,4 @@
-//! Names and paths of directory entries, as bytes, and what all rooms share: the refusals, the limits,
+//! Names and paths of directory entries, as bytes, and what all crates share: the refusals, the limits,
 //! the sizes of a cache. Nothing here takes memory.
 #![tactic(auto)]
 

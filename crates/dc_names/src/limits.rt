@@ -1,4 +1,4 @@
-//! The limits of all rooms, each stated once. Code, clauses and definitions name them.
+//! The limits of all crates, each stated once. Code, clauses and definitions name them.
 
 /// The most bytes that a name has (POSIX.1-2017: NAME_MAX), as on Linux.
 pub const NAME_MAX: usize = 255;

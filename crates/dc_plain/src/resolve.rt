@@ -1,5 +1,5 @@
-//! Where parts lead, one after the other, and links with them. The fast rooms have code of their own for it
-//! (`dc_resolve`), on purpose: a mistake in one of the two isn't one of both.
+//! Where parts lead, one after the other, and links with them. The crates of the cache have code of their own for
+//! it (`dc_resolve`), on purpose: a mistake in one of the two isn't one of both.
 
 ghost use Rattle.std.specs.Prelude.{◌≡◌, Some, map, option_map, not, ◌&&◌, ◌||◌, if◌then◌else◌, ◌++◌, IfOk, OnOk};
 ghost use Rattle.dc_names.specs.Names.{part_shown};

@@ -1,4 +1,4 @@
--- What reading and writing leave, where a reader and a writer tell their bytes.
+-- What reading and writing leave, if a reader and a writer tell their bytes.
 use Rattle.std.specs.Prelude.{◌≡◌, ℕ, ◌≤◌, List, ◌++◌, length, Option}
 use Rattle.std.specs.Global.{Vec}
 use Rattle.std.specs.Io.KnownBytes.{Consumes, IsAtEnd, Appends}

@@ -28,7 +28,7 @@ app = with_rule
     (size_rule (codes "inodes") (codes "65536")))
     (flag_rule (codes "stats"))
 
--- the text of an option among the words, its default where they don't name it
+-- the text of an option among the words, its default if they don't name it
 abbrev pub text_in : Text → List Text → Text
 text_in name words = unwrap_or (first_of name (matches_of app words)) []
 

@@ -17,11 +17,11 @@ use Rattle.dc_serve.specs.declared.fault.ServeFault.TheVariants.{BadSize, Read, 
 pub record Serves (limit : ℕ) (phases : List (List Order)) (Written : List ℕ → Type 0) : Type 0 where
   pub turns : List (List Turn)
   pub run : IsRun limit phases turns
-  -- where the sessions take turns, the text is the plain server's
+  -- if the sessions take turns, the text is the plain server's
   pub plain : IsTurnwise phases → text_of (all_of turns) ≡ replies_in (opening limit) (in_order phases)
   pub written : Written (text_of (all_of turns))
 
--- serving ends early after whole phases, and where writing fails after a front of the text of some; `Spent` comes
+-- serving ends early after whole phases, and if writing fails after a front of the text of some; `Spent` comes
 -- only if there are as many orders as the clock may count
 abbrev pub ServesFront : ℕ → List (List Order) → Option (List ℕ) → Option (List ℕ) → ServeFault → Type 0
 ServesFront limit phases old new NoMemory = (count : ℕ) × Serves limit (take count phases) (Appends old new)
@@ -29,7 +29,7 @@ ServesFront limit phases old new Spent = MOST_COUNT ≤ length (in_order phases)
 ServesFront limit phases old new Write = (count : ℕ) × Serves limit (take count phases) (AppendsFront old new)
 ServesFront limit phases old new _ = ⊥
 
--- the bytes that a reader had and has, and those that a writer held and holds, where they tell them
+-- the bytes that a reader had and has, and those that a writer held and holds, if they tell them
 pub record Streams : Type 0 where
   pub unread : Option (List ℕ)
   pub rest : Option (List ℕ)
@@ -54,7 +54,7 @@ pub record HasBadLine (n : ℕ) (unread rest : Option (List ℕ)) : Type 0 where
   pub read : ReadWhole unread rest input
   pub bad : IsFirstBad n (lines_of input)
 
--- what comes before any command is served ends with these faults alone; nothing is read where a size is wrong
+-- what comes before any command is served ends with these faults alone; nothing is read if a size is wrong
 abbrev pub IsInputFault : Option (List ℕ) → Option (List ℕ) → ServeFault → Type 0
 IsInputFault unread rest BadSize = Keeps unread rest
 IsInputFault unread rest Read = Unit {0}
@@ -69,11 +69,11 @@ pub record Answers (limit : ℕ) (streams : Streams) : Type 0 where
   pub understood : Understood streams said
   pub served : Serves limit (phases said) (Appends streams.old streams.new)
 
--- the text of all replies where the commands come one after the other
+-- the text of all replies if the commands come one after the other
 abbrev pub output_of : ℕ → List Meaning → List ℕ
 output_of limit said = replies_in (opening limit) (in_order (phases said))
 
--- an input was read whole, and where its sessions take turns, what was written is the plain server's replies
+-- an input was read whole, and if its sessions take turns, what was written is the plain server's replies
 pub record AnswersPlainly (limit : ℕ) (streams : Streams) : Type 0 where
   pub said : List Meaning
   pub understood : Understood streams said

@@ -35,7 +35,7 @@ ObeysBelow count lines bases p q replies = ObeyedBelow (book p) bases count (ord
 abbrev pub AddsBoth : Result PhaseReplies ServeFault → (session : ℕ) → Result SessionReplies ServeFault → PhaseReplies → Type 0
 AddsBoth others session told all = IsOkAnd others (λ front. IsOkAnd told (λ last. Adds front session last all))
 
--- what a session gives back: by its thread, or at once where none could be started
+-- what a session gives back: by its thread, or at once if none could be started
 abbrev pub Gives : Result (PromisedHandle (Pass × Result SessionReplies ServeFault) Handed) (Pass × Result SessionReplies ServeFault) → Pass × Result SessionReplies ServeFault → Type 0
 Gives (Ok handle) back = Returns handle.promise back
 Gives (Err left) back = back ≡ left

@@ -1,4 +1,4 @@
-//! Tests of the rooms of rows, by their public items: the words of a row, which row is used last and
+//! Tests of the crates of rows, by their public items: the words of a row, which row is used last and
 //! which has a key, the events, the shared table and its rows, and the look-ups over it.
 #![tactic(auto)]
 

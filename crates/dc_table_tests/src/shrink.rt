@@ -63,7 +63,7 @@ fn pin_again(rows: &mut Shrinker, row: u64) -> Result<(), PinFault>
     }
 }
 
-/// Takes the row's only pin. Where it could not be listed it is out of use, and is added.
+/// Takes the row's only pin. If it could not be listed it is out of use, and is added.
 fn unpin_again(rows: &mut Shrinker, row: u64) -> Result<(), NoMemory>
     requires within { row < rows.old.rows }
     requires pinned { 0 < pins_of rows.old row }

@@ -1,5 +1,5 @@
 //! Has one call of a trial meet a refused allocation, and says what came of it: the runner refuses the
-//! program's Nth allocation, and the program makes so many of its own first that it falls where it should.
+//! program's Nth allocation, and the program makes some of its own first, so that it falls where it should.
 #![tactic(auto)]
 
 mod acts;
