@@ -86,6 +86,7 @@ mod names;
 mod pass;
 mod path;
 mod raw;
+mod spares;
 
 pub use answer::{Done, Found, Gone, Kind, Made, Stat};
 pub use cache::Cache;
