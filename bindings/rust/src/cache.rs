@@ -75,12 +75,13 @@ impl Cache {
     }
 
     /// A pass for one thread. Any number of threads may ask at once, and there is no lock among them: a cache has several
-    /// spare passes, and each thread takes one of them out by an atomic exchange. If there are more than the cache keeps, as
-    /// passes were dropped, the thread has this one; else it splits it and puts it back, which takes 20 to 70 microseconds.
+    /// spare passes, and each thread takes one of them out by an atomic exchange. If there are more than the cache keeps,
+    /// as passes were dropped, the thread has this one. Else it splits it and puts it back, which takes 20 to 70
+    /// microseconds.
     ///
-    /// No thread waits for another while fewer ask at the same moment than the cache keeps spares. At first it keeps as many
-    /// as the machine runs threads at once, up to 16. A thread that finds none waits for one, and then the cache keeps one
-    /// more, up to 64.
+    /// No thread waits for another while fewer ask at the same moment than the cache keeps spares. At first it keeps as
+    /// many as the machine runs threads at once, up to 16. A thread that finds none waits for one, and then the cache keeps
+    /// one more, up to 64.
     ///
     /// ```
     /// use gigbewu::Cache;

@@ -56,9 +56,9 @@ impl Shared {
 /// cache has 64 of them already, the pass is closed.
 ///
 /// Once the [`Cache`](crate::Cache) and all passes are dropped, the cache ends: the passes that came back are closed, and
-/// the tree and all memory are freed. What threads did with the cache has to come before that, also if nobody waits for these
-/// threads. It does: a call borrows its pass, and a pass keeps the cache from ending until it is dropped. A pass that is
-/// [joined](Pass::join) is closed before the pass that takes it in is.
+/// the tree and all memory are freed. What threads did with the cache has to come before that, also if nobody waits for
+/// these threads. It does: a call borrows its pass, and a pass keeps the cache from ending until it is dropped. A pass that
+/// is [joined](Pass::join) is closed before the pass that takes it in is.
 ///
 /// ```
 /// use gigbewu::{Cache, ROOT};

@@ -34,8 +34,8 @@ fn taken(slot: &AtomicPtr<c_void>) -> Option<raw::Pass> {
 }
 
 fn close(mut pass: raw::Pass) {
-    // SAFETY: nobody else has the pass. If it is the last one of its cache, all calls with others have returned: `drop` alone
-    // closes the last one.
+    // SAFETY: nobody else has the pass. If it is the last one of its cache, all calls with others have returned: `drop`
+    // alone closes the last one.
     unsafe { raw::gb_close(&mut pass) };
 }
 
@@ -55,8 +55,8 @@ impl Spares {
         spares
     }
 
-    /// Takes a spare out, and tells how many were free. `None` if none was: then a thread frees one later, as the last one is
-    /// never let go.
+    /// Takes a spare out, and tells how many were free. `None` if none was: then a thread frees one later, as the last one
+    /// is never let go.
     pub(crate) fn take(&self) -> Option<(raw::Pass, usize)> {
         let fewer = |free: usize| free.checked_sub(1);
         let free = self.free.fetch_update(SeqCst, SeqCst, fewer).ok()?;
