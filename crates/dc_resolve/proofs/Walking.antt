@@ -105,9 +105,9 @@ module _ {F T S : Type 0} (g : Ghosts F T S) (goes_on : (a b c : F) → g.become
       pub may_pass : MayAskOver g finder how links slash start bytes is_last → MaySpend g finder (way_bytes g bytes links)
           → IsSaidLink (g.said later) link × (MayAskThrough g later how left slash place link at_end × MaySpend g later (left * g.link_bytes))
       may_pass may spend = let taken = from.taken in (
-          subst (IsSaidMet (g.said later)) meets taken.link,
-          (link_over g goes_on keeps may (goes_on _ _ _ walks.kept on) met_link last, may_less g (omega arith) (may_left g (way_bytes g bytes links) (way_bytes g after.now left) spent_on spend)),
-        )
+        subst (IsSaidMet (g.said later)) meets taken.link,
+        (link_over g goes_on keeps may (goes_on _ _ _ walks.kept on) met_link last, may_less g (omega arith) (may_left g (way_bytes g bytes links) (way_bytes g after.now left) spent_on spend)),
+      )
 
       module _ {over : F} {way : Way} (passes : Passes g later over how left slash place link at_end way) where
         pub walk_ended : {end : Walked} → way ≡ Ended end → LeadsOver (g.said over) how links slash start bytes is_last (Ended end)
