@@ -99,4 +99,3 @@ module _ (n : ℕ) (s t u : RowState) (row : ℕ) (e : EmptiesLast n s t) (some 
       ]
     ];
   }
-
