@@ -210,23 +210,19 @@ fn is_met<R: Wait>(
     requires pass { CanWalk shared.now pass.old }
     requires other { CanWalk shared.now other.old }
 {
-    let made = change(rt, alloc, shared, other, &mkdir(b"/a"));
-    let there = count(rt, alloc, shared, other, b"/a");
-    let absent = count(rt, alloc, shared, other, b"/b");
+    let absent = Reply::Refused(2);
+    let made = change(rt, alloc, shared, other, &mkdir(b"/a")) == Some((Reply::Done(2), 0));
+    let filled = is_answered(
+        &count(rt, alloc, shared, other, b"/a"),
+        &Reply::Found(2, Kind::Dir),
+        1,
+    );
+    let none = is_answered(&count(rt, alloc, shared, other, b"/b"), &absent, 1);
     let met = evict_under_lock(shared, pass, other, &in_root(b"a")?)?;
-    let missed = look(shared, pass, b"/a");
-    let answered = look(shared, pass, b"/b");
-    Some(
-        made == Some((Reply::Done(2), 0))
-            && is_answered(&there, &Reply::Found(2, Kind::Dir), 1)
-            && is_answered(&absent, &Reply::Refused(2), 1)
-            && met.row == 0
-            && met.odd == 3
-            && met.busy
-            && met.answered
-            && matches!(missed, Some(Fast::Again(Why::Miss(0))))
-            && is_answered(&answered, &Reply::Refused(2), 1),
-    )
+    let missed = matches!(look(shared, pass, b"/a"), Some(Fast::Again(Why::Miss(0))));
+    let answered = is_answered(&look(shared, pass, b"/b"), &absent, 1);
+    let busy = met.row == 0 && met.odd == 3 && met.busy && met.answered;
+    Some(made && filled && none && busy && missed && answered)
 }
 
 #[test]

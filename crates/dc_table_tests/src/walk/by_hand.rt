@@ -79,12 +79,11 @@ fn is_seen<R: Wait>(
     let noted = note_two(&shared, &mut pass, b"/a/d/f")?;
     let moved = move_away(rt, alloc, &shared, &mut other, old, file);
     let (last, at, found) = turn(&shared, &mut pass, b"/a/d/f", &noted)?;
-    let gone = look(&shared, &mut pass, b"/a/d/f");
+    let gone = is_answered(&look(&shared, &mut pass, b"/a/d/f"), &Reply::Refused(2), 4);
     let read = noted.0 == widened(&[2, 16_777_473, 1, 2, 97])
         && noted.1 == widened(&[2, 16_777_473, 2, 3, 100])
         && last == widened(&[2, 33_554_689, 3, 4, 102]);
-    let told = found == *checks && at == 4 && is_answered(&gone, &Reply::Refused(2), 4);
-    Some(made && moved && read && told)
+    Some(made && moved && gone && read && at == 4 && found == *checks)
 }
 
 #[test]

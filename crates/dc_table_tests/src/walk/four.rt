@@ -74,12 +74,13 @@ fn hits(shared: &Shared, pass: &mut Pass, other: &mut Pass) -> bool
     requires other { CanWalk shared.now other.old }
 {
     let before = are_rows(shared, pass, &A_IS_2, &D_IS_3, &NOTHING);
-    let found = look(shared, other, b"/a/d");
+    let found = is_answered(
+        &look(shared, other, b"/a/d"),
+        &Reply::Found(3, Kind::Dir),
+        2,
+    );
     let after = are_rows(shared, pass, &A_IS_2, &D_IS_3, &NOTHING);
-    before
-        && after
-        && is_answered(&found, &Reply::Found(3, Kind::Dir), 2)
-        && shared.learn(other) == 2
+    before && found && after && shared.learn(other) == 2
 }
 
 /// A miss. The walk by rows alone gives up after one answered question; the counted walk fills row 2, alters
@@ -94,18 +95,17 @@ fn misses<R: Wait>(
     requires can { CanWalk shared.now pass.old × (3 < (share pass.old).rows) }
     requires other { CanWalk shared.now other.old }
 {
-    let missed = look(shared, other, b"/a/z");
+    let absent = Reply::Refused(2);
+    let missed = matches!(
+        look(shared, other, b"/a/z"),
+        Some(Fast::Again(Why::Miss(1)))
+    );
     let before = are_rows(shared, pass, &A_IS_2, &D_IS_3, &NOTHING);
-    let counted = count(rt, alloc, shared, other, b"/a/z");
+    let counted = is_answered(&count(rt, alloc, shared, other, b"/a/z"), &absent, 2);
     let after = are_rows(shared, pass, &A_IS_2, &D_IS_3, &Z_IS_ABSENT);
-    let found = look(shared, other, b"/a/z");
-    before
-        && after
-        && matches!(missed, Some(Fast::Again(Why::Miss(1))))
-        && is_answered(&counted, &Reply::Refused(2), 2)
-        && is_answered(&found, &Reply::Refused(2), 2)
-        && shared.learn(other) == 2
-        && shrink(shared, rt, other, 4) == 3
+    let found = is_answered(&look(shared, other, b"/a/z"), &absent, 2);
+    let kept = shared.learn(other) == 2 && shrink(shared, rt, other, 4) == 3;
+    missed && before && counted && after && found && kept
 }
 
 /// A loss and its change: a look-up of `/a/d` notes rows 0 and 1, then `/a` becomes `/b`. The check of row 0
@@ -122,21 +122,13 @@ fn loses<R: Wait>(
     requires other { CanWalk shared.now other.old }
 {
     let noted = note_two(shared, pass, b"/a/d")?;
-    let moved = change(rt, alloc, shared, other, &rename(b"/a", b"/b"));
+    let moved = change(rt, alloc, shared, other, &rename(b"/a", b"/b")) == Some((Reply::Unit, 2));
     let (last, at, found) = turn(shared, pass, b"/a/d", &noted)?;
-    let gone = look(shared, other, b"/a/d");
-    let missed = look(shared, other, b"/b");
-    Some(
-        moved == Some((Reply::Unit, 2))
-            && is_row(&Some(noted.0), &A_IS_2)
-            && is_row(&Some(noted.1), &D_IS_3)
-            && last == [0; ROW_WORDS]
-            && at == 3
-            && found == [Err((2, 4)), Ok(()), Ok(())]
-            && is_answered(&gone, &Reply::Refused(2), 3)
-            && matches!(missed, Some(Fast::Again(Why::Miss(0))))
-            && shared.learn(other) == 3,
-    )
+    let gone = is_answered(&look(shared, other, b"/a/d"), &Reply::Refused(2), 3);
+    let missed = matches!(look(shared, other, b"/b"), Some(Fast::Again(Why::Miss(0))));
+    let read = is_row(&Some(noted.0), &A_IS_2) && is_row(&Some(noted.1), &D_IS_3);
+    let turned = last == [0; ROW_WORDS] && at == 3 && found == [Err((2, 4)), Ok(()), Ok(())];
+    Some(moved && gone && missed && read && turned && shared.learn(other) == 3)
 }
 
 /// A change, and what it leaves in the rows.
@@ -150,10 +142,8 @@ fn changes<R: Wait>(
     requires can { CanWalk shared.now pass.old × (3 < (share pass.old).rows) }
     requires other { CanWalk shared.now other.old }
 {
-    let moved = change(rt, alloc, shared, other, &rename(b"/a", b"/b"));
-    moved == Some((Reply::Unit, 2))
-        && are_rows(shared, pass, &A_IS_ABSENT, &D_IS_3, &NOTHING)
-        && shared.learn(other) == 3
+    let moved = change(rt, alloc, shared, other, &rename(b"/a", b"/b")) == Some((Reply::Unit, 2));
+    moved && are_rows(shared, pass, &A_IS_ABSENT, &D_IS_3, &NOTHING) && shared.learn(other) == 3
 }
 
 #[derive(Clone, Copy)]

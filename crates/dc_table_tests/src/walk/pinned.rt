@@ -107,15 +107,13 @@ fn takes_none_back<R: Wait>(rt: &R, alloc: Global, shared: &Shared, pass: &mut P
     requires { CanWalk shared.now pass.old }
 {
     let mut room = Room::new();
-    let found = walk_counted(shared, rt, alloc, pass, &mut room, from_root(b"/a")?);
-    let pinned = pin(shared, rt, alloc, pass, &HashedKey::new(in_root(b"a")?));
-    let root = walk_counted(shared, rt, alloc, pass, &mut room, from_root(b"/")?);
-    Some(
-        is_answered(&Some(found), &Reply::Refused(2), 0)
-            && matches!(pinned, Ok(Some(0)))
-            && is_root_at(&Some(root), 0)
-            && shrink(shared, rt, pass, 4) == 0,
-    )
+    let (absent, root) = (from_root(b"/a")?, from_root(b"/")?);
+    let key = HashedKey::new(in_root(b"a")?);
+    let found = Some(walk_counted(shared, rt, alloc, pass, &mut room, absent));
+    let pinned = matches!(pin(shared, rt, alloc, pass, &key), Ok(Some(0)));
+    let led = Some(walk_counted(shared, rt, alloc, pass, &mut room, root));
+    let walked = is_answered(&found, &Reply::Refused(2), 0) && is_root_at(&led, 0);
+    Some(walked && pinned && shrink(shared, rt, pass, 4) == 0)
 }
 
 #[test]
