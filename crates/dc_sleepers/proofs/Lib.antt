@@ -1,0 +1,4 @@
+mod ByAct
+mod Counts
+mod LockSteps
+mod LockRuns

@@ -1,0 +1,11 @@
+//! Who sleeps until a lock is free, and who sees to it that he is woken: the lock of a table, and the gate
+//! of `gigbewu.h`, each as a machine of any number of threads. After any list of events no sleeper is
+//! forgotten.
+#![tactic(auto)]
+
+pub mod lock;
+
+mod laws;
+mod locking;
+
+pub use laws::no_sleeper_of_the_lock_is_forgotten;
