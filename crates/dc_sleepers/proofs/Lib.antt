@@ -2,3 +2,11 @@ mod ByAct
 mod Counts
 mod LockSteps
 mod LockRuns
+mod Mapped
+mod Standing
+mod GateNext
+mod GateFair
+mod GateSteps
+mod GateWrites
+mod GateWakes
+mod GateRuns

@@ -17,6 +17,13 @@ seen_to_by false wakes tries some = elim (cases_lt 0 wakes) [ inl here ↦ inr (
 pub remembers : (s : State) → IsSound s → Remembers s
 remembers s S some = seen_to_by s.is_held (number s owes_a_wake) (number s owes_a_try) (S.seen_to some)
 
+at_most_one : (held : Bool) (n : ℕ) → n ≡ cond held 1 0 → n ≤ 1
+at_most_one true n e = omega arith
+at_most_one false n e = omega arith
+
+pub one_holder : (s : State) → IsSound s → number s is_holding ≤ 1
+one_holder s S = at_most_one s.is_held (number s is_holding) S.holder
+
 holding_goes_on : (p : Place) → one (is_holding p) ≤ one (can_go_on p)
 holding_goes_on Holding = omega arith
 holding_goes_on _ = omega arith
@@ -41,7 +48,7 @@ rests_awake s S rest =
 pub opening_sound : (threads : ℕ) → IsSound (opening threads)
 opening_sound threads = record {
   counted = sym (count_none is_counted Out refl threads);
-  holder = omega arith;
+  holder = count_none is_holding Out refl threads;
   seen_to = λ some. omega (arith, count_none is_asleep Out refl threads);
 }
 

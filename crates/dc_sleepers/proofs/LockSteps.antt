@@ -62,6 +62,10 @@ module _ (waiting : ℕ) (places : List Place) (t : ℕ) (inside : t < length pl
   parks true S e = let m : Moves places (set places t Asleep) Counted Asleep = goes Counted Asleep e in record { counted = omega arith; holder = omega arith; seen_to = λ some. omega arith }
   parks false S e = let m : Moves places (set places t Awake) Counted Awake = goes Counted Awake e in record { counted = omega arith; holder = omega arith; seen_to = λ some. omega arith }
 
+  pub gives : (held : Bool) → IsSound (lock held) → get_or places t Out ≡ Holding → IsSound (done (lock held) t Give)
+  gives true S e = let m : Moves places (set places t Freed) Holding Freed = goes Holding Freed e in record { counted = omega arith; holder = omega arith; seen_to = λ some. omega arith }
+  gives false S e = let m : Moves places (set places t Freed) Holding Freed = goes Holding Freed e in record { counted = omega arith; holder = omega arith; seen_to = λ some. omega arith }
+
   abbrev sleepers_are_counted : count_by is_asleep places ≤ count_by is_counted places
   sleepers_are_counted = count_below is_asleep is_counted asleep_is_counted places
 
@@ -93,7 +97,7 @@ module _ (waiting : ℕ) (places : List Place) (t : ℕ) (inside : t < length pl
   steps held S Park e = parks held S e
   steps held S WakeUp e = let m : Moves places (set places t Awake) Asleep Awake = goes Asleep Awake e in record { counted = omega arith; holder = omega arith; seen_to = λ some. omega arith }
   steps held S CountOut e = let m : Moves places (set places t Again) Awake Again = goes Awake Again e in record { counted = omega arith; holder = omega arith; seen_to = λ some. omega arith }
-  steps held S Give e = let m : Moves places (set places t Freed) Holding Freed = goes Holding Freed e in record { counted = omega arith; holder = omega arith; seen_to = λ some. omega arith }
+  steps held S Give e = gives held S e
   steps held S Read e = reads (nat_eq waiting 0) refl held S e
   steps held S (Wake k) may = wakes k held S may.0 may.1
   steps held S WakeNobody may = wakes_nobody held S may.0 may.1

@@ -10,6 +10,10 @@ abbrev pub is_asleep : Place → Bool
 is_asleep Asleep = true
 is_asleep _ = false
 
+abbrev pub is_holding : Place → Bool
+is_holding Holding = true
+is_holding _ = false
+
 -- it gave the lock back, and its wake is still before it
 abbrev pub owes_a_wake : Place → Bool
 owes_a_wake Freed = true
@@ -43,6 +47,7 @@ RestsAwake s = number s can_go_on ≡ 0 → number s is_asleep ≡ 0
 -- so it is after every list of events of any number of threads
 pub record NoSleeperOfTheLockIsForgotten : Type 0 where
   pub remembered : (threads : ℕ) (es : List Event) → AllCan (opening threads) es → Remembers (after_all (opening threads) es)
+  pub one_holder : (threads : ℕ) (es : List Event) → AllCan (opening threads) es → number (after_all (opening threads) es) is_holding ≤ 1
   pub at_rest : (threads : ℕ) (es : List Event) → AllCan (opening threads) es → RestsAwake (after_all (opening threads) es)
 
 abbrev pub is_counted : Place → Bool
@@ -51,12 +56,8 @@ is_counted Asleep = true
 is_counted Awake = true
 is_counted _ = false
 
-abbrev pub is_holding : Place → Bool
-is_holding Holding = true
-is_holding _ = false
-
 -- what each step keeps: the count is that of the counted, a held lock has a holder, and who sleeps is seen to
 pub record IsSound (s : State) : Type 0 where
   pub counted : s.waiting ≡ number s is_counted
-  pub holder : cond s.is_held 1 0 ≤ number s is_holding
+  pub holder : number s is_holding ≡ cond s.is_held 1 0
   pub seen_to : 0 < number s is_asleep → 0 < cond s.is_held 1 0 + (number s owes_a_wake + number s owes_a_try)

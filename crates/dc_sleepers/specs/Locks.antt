@@ -5,6 +5,7 @@ use Rattle.dc_sleepers.specs.declared.lock.Place.TheVariants.{Out, Trying, Watch
 use Rattle.dc_sleepers.specs.declared.lock.Act.{Act}
 use Rattle.dc_sleepers.specs.declared.lock.Act.TheVariants.{Come, Try, Leave, Look, CountIn, Park, WakeUp, CountOut, Give, Read, Wake, WakeNobody}
 use Rattle.dc_sleepers.specs.declared.lock.Event.{Event}
+use Rattle.dc_sleepers.specs.Outcomes.{Outcome}
 
 pub record State : Type 0 where
   pub is_held : Bool
@@ -74,11 +75,6 @@ AllCan s (e ∷ es) = Can s e × AllCan (after s e) es
 abbrev pub after_all : State → List Event → State
 after_all s [] = s
 after_all s (e ∷ es) = after_all (after s e) es
-
--- it may be done, and then is; or it may not, and the lock is as it was
-pub record Outcome (result : Bool) (May : Type 0) (old next new : State) : Type 0 where
-  pub made : result ≡ true → May × (new ≡ next)
-  pub refused : result ≡ false → (May → ⊥) × (new ≡ old)
 
 abbrev pub Does : State → ℕ → Act → Bool → State → Type 0
 Does s t act result new = Outcome result (Begins s (place_of s t) act) s (done s t act) new

@@ -3,9 +3,11 @@
 //! forgotten.
 #![tactic(auto)]
 
+pub mod gate;
 pub mod lock;
 
 mod laws;
 mod locking;
+mod passing;
 
-pub use laws::no_sleeper_of_the_lock_is_forgotten;
+pub use laws::{no_sleeper_at_the_gate_is_forgotten, no_sleeper_of_the_lock_is_forgotten};

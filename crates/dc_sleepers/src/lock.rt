@@ -5,7 +5,8 @@
 //! count. So either the giver counts the sleeper, or the sleeper looks behind the giver.
 
 ghost use Rattle.std.specs.Prelude.{◌≡◌, IfOk, IsSome, IfSome, ◌↔◌, ◌<◌, length};
-ghost use Rattle.dc_sleepers.specs.Locks.{opening, after, place_of, Can, Outcome};
+ghost use Rattle.dc_sleepers.specs.Locks.{opening, after, place_of, Can};
+ghost use Rattle.dc_sleepers.specs.Outcomes.{Outcome};
 ghost use Rattle.dc_sleepers.specs.LockLaw.{Remembers};
 
 use crate::locking::State;
