@@ -40,7 +40,11 @@ moves calls xs t x y inside e = record {
 -- more that see to it
 pub more : (calls served tickets r w r' w' : ℕ) (x : Thread) → IsFine calls served tickets r w x → r ≤ r' → w ≤ w' → IsFine calls served tickets r' w' x
 more calls served tickets r w r' w' x F raises wakes = record {
-  behind = F.behind; sleeps = F.sleeps; holds = F.holds; turn = F.turn; next_is = F.next_is;
+  behind = F.behind;
+  sleeps = F.sleeps;
+  holds = F.holds;
+  turn = F.turn;
+  next_is = F.next_is;
   stale = λ c a s n. let some : 0 < r = F.stale c a s n in omega arith;
   expects = λ c a s none. F.expects c a s (omega arith);
   called = λ h a s. let some : 0 < w = F.called h a s in omega arith;
@@ -50,18 +54,28 @@ more calls served tickets r w r' w' x F raises wakes = record {
 pub bland : (calls served tickets r w : ℕ) (x : Thread) → is_asleep x.place ≡ false → has_its_turn x.place ≡ false → has_read_served x.place ≡ false → is_asked x.place ≡ false → settles x.place ≡ false
     → x.seen ≤ calls → (x.has_ticket ≡ true → may_have_ticket x.place x.is_counted ≡ true) → IsFine calls served tickets r w x
 bland calls served tickets r w x a b c d e seen holds = record {
-  behind = seen; holds = holds;
-  sleeps = λ h. never (sym a ∙ h); turn = λ _ h. never (sym b ∙ h); next_is = λ h. never (sym c ∙ h);
-  stale = λ _ h. never (sym d ∙ h); expects = λ _ h. never (sym e ∙ h); called = λ _ h. never (sym a ∙ h);
+  behind = seen;
+  holds = holds;
+  sleeps = λ h. never (sym a ∙ h);
+  turn = λ _ h. never (sym b ∙ h);
+  next_is = λ h. never (sym c ∙ h);
+  stale = λ _ h. never (sym d ∙ h);
+  expects = λ _ h. never (sym e ∙ h);
+  called = λ _ h. never (sym a ∙ h);
 }
 
 -- a thread that may try
 pub turned : (calls served tickets r w : ℕ) (x : Thread) → is_asleep x.place ≡ false → has_read_served x.place ≡ false → is_asked x.place ≡ false → settles x.place ≡ false
     → x.seen ≤ calls → (x.has_ticket ≡ true → may_have_ticket x.place x.is_counted ≡ true) → (x.has_ticket ≡ true → x.ticket ≡ served) → IsFine calls served tickets r w x
 turned calls served tickets r w x a c d e seen holds turn = record {
-  behind = seen; holds = holds; turn = λ h _. turn h;
-  sleeps = λ h. never (sym a ∙ h); next_is = λ h. never (sym c ∙ h);
-  stale = λ _ h. never (sym d ∙ h); expects = λ _ h. never (sym e ∙ h); called = λ _ h. never (sym a ∙ h);
+  behind = seen;
+  holds = holds;
+  turn = λ h _. turn h;
+  sleeps = λ h. never (sym a ∙ h);
+  next_is = λ h. never (sym c ∙ h);
+  stale = λ _ h. never (sym d ∙ h);
+  expects = λ _ h. never (sym e ∙ h);
+  called = λ _ h. never (sym a ∙ h);
 }
 
 -- a thread goes to another place, and no word of the calls and tickets is written
@@ -72,15 +86,15 @@ pub calmly : (s : State) (t : ℕ) (x y : Thread) (held : Bool) (sleepers : ℕ)
 calmly s t x y held sleepers inside e F has ticket counted holding raises all mine =
     let m : Moves s.calls s.threads (set s.threads t y) x y = moves s.calls s.threads t x y inside e in
     let same : (k : ℕ) → one (has_this_ticket k y) ≡ one (has_this_ticket k x) = λ k i. one (has i && (ticket i == k)) in record {
-  counted = omega (arith, F.counted, m.counted, counted);
-  holder = omega (arith, F.holder, m.holding, holding);
-  order = F.order;
-  out = λ k a b. omega (arith, F.out k a b, m.ticket_of k, same k);
-  was_served = λ k a. omega (arith, F.was_served k a, m.ticket_of k, same k);
-  not_taken = λ k a. omega (arith, F.not_taken k a, m.ticket_of k, same k);
-  each = each_set (IsFine s.calls s.served s.tickets (number (with_thread s t y) raises_later) (number (with_thread s t y) wakes_all)) s.threads t y idle inside
-    (λ k _. more s.calls s.served s.tickets (number s raises_later) (number s wakes_all) (number (with_thread s t y) raises_later) (number (with_thread s t y) wakes_all) (thread_of s k) (F.each k) (omega (arith, m.raises, raises)) (omega (arith, m.all, all))) mine;
-}
+      counted = omega (arith, F.counted, m.counted, counted);
+      holder = omega (arith, F.holder, m.holding, holding);
+      order = F.order;
+      out = λ k a b. omega (arith, F.out k a b, m.ticket_of k, same k);
+      was_served = λ k a. omega (arith, F.was_served k a, m.ticket_of k, same k);
+      not_taken = λ k a. omega (arith, F.not_taken k a, m.ticket_of k, same k);
+      each = each_set (IsFine s.calls s.served s.tickets (number (with_thread s t y) raises_later) (number (with_thread s t y) wakes_all)) s.threads t y idle inside
+          (λ k _. more s.calls s.served s.tickets (number s raises_later) (number s wakes_all) (number (with_thread s t y) raises_later) (number (with_thread s t y) wakes_all) (thread_of s k) (F.each k) (omega (arith, m.raises, raises)) (omega (arith, m.all, all))) mine;
+    }
 
 -- no word at all
 pub quiet : (s : State) (t : ℕ) (x y : Thread) → t < length s.threads → thread_of s t ≡ x → IsFair s → y.is_counted ≡ x.is_counted → y.has_ticket ≡ x.has_ticket → y.ticket ≡ x.ticket

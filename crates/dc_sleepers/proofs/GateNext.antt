@@ -52,11 +52,13 @@ module _ (calls served tickets raisers wakers : ℕ) where
   by_whom Asked c n h k r F has e = inr (inr (inr (F.holds has)))
   by_whom Trying c n h k r F has e = inr (inr (inr (F.holds has)))
   by_whom Told c n h k r F has e = elim (either (n == calls)) [
-      inl same ↦ elim (cases_lt 0 raisers) [ inl here ↦ inl here | inr none ↦ absurd ((F.expects (F.holds has) refl (eqb-true n calls same) (omega arith)).1 has e) ]
-    | inr other ↦ inr (inr (inr (awake_told c (n == calls) (F.holds has) other))) ]
+    | inl same ↦ elim (cases_lt 0 raisers) [ inl here ↦ inl here | inr none ↦ absurd ((F.expects (F.holds has) refl (eqb-true n calls same) (omega arith)).1 has e) ]
+    | inr other ↦ inr (inr (inr (awake_told c (n == calls) (F.holds has) other)))
+  ]
   by_whom Asleep c n h k r F has e = elim (either (n == calls)) [
-      inl same ↦ elim (cases_lt 0 raisers) [ inl here ↦ inl here | inr none ↦ absurd ((F.expects (F.holds has) refl (eqb-true n calls same) (omega arith)).1 has e) ]
-    | inr other ↦ inr (inl (F.called has refl (eqb-false n calls other))) ]
+    | inl same ↦ elim (cases_lt 0 raisers) [ inl here ↦ inl here | inr none ↦ absurd ((F.expects (F.holds has) refl (eqb-true n calls same) (omega arith)).1 has e) ]
+    | inr other ↦ inr (inl (F.called has refl (eqb-false n calls other)))
+  ]
   by_whom Holding c n h k r F has e = inr (inr (inl refl))
   by_whom Given c n h k r F has e = inr (inr (inl refl))
   by_whom Leaving c n h k r F has e = inr (inr (inl refl))
@@ -79,9 +81,16 @@ next_sees s F out =
     let its : (x.has_ticket ≡ true) × (x.ticket ≡ s.served) = its_ticket x.has_ticket x.ticket s.served at.1.1 in
     let few : number s wakes_all ≤ number s wakes_later = count_below (λ (y : Thread). wakes_all y.place) (λ (y : Thread). wakes_later y.place) (λ y. wakes_all_wakes y.place) s.threads in
     let who : By (number s raises_later) (number s wakes_all) s.calls x = by_whom s.calls s.served s.tickets (number s raises_later) (number s wakes_all) x.place x.is_counted x.seen x.has_ticket x.ticket x.next (F.each at.0) its.0 its.1 in
-    elim who [ inl calls ↦ omega arith | inr rest ↦ elim rest [ inl wakes ↦ omega arith | inr it ↦ elim it [
-        inl calls ↦ let here : 0 < number s raises_later = counts (λ (y : Thread). raises_later y.place) s.threads at.0 idle at.1.0 calls in omega arith
-      | inr awake ↦ let here : 0 < how_many s (is_awake s.calls) = counts (is_awake s.calls) s.threads at.0 idle at.1.0 awake in omega arith ] ] ]
+    elim who [
+      | inl calls ↦ omega arith
+      | inr rest ↦ elim rest [
+        | inl wakes ↦ omega arith
+        | inr it ↦ elim it [
+          | inl calls ↦ let here : 0 < number s raises_later = counts (λ (y : Thread). raises_later y.place) s.threads at.0 idle at.1.0 calls in omega arith
+          | inr awake ↦ let here : 0 < how_many s (is_awake s.calls) = counts (is_awake s.calls) s.threads at.0 idle at.1.0 awake in omega arith
+        ]
+      ]
+    ]
 
 -- one that sleeps and has read all calls is seen to
 pub settled_sees : (s : State) → IsFair s → (t : ℕ) → (thread_of s t).is_counted ≡ true → (thread_of s t).seen ≡ s.calls → Rattle.dc_sleepers.specs.GateSound.settles (thread_of s t).place ≡ true → 0 < seers s
@@ -101,5 +110,6 @@ sleepers_seen_to s S some =
     let at : (i : ℕ) × ((i < length s.threads) × (is_asleep (get_or s.threads i idle).place ≡ true)) = found (λ (y : Thread). is_asleep y.place) idle s.threads some in
     let x = get_or s.threads at.0 idle in
     elim (either (x.seen == s.calls)) [
-        inl same ↦ settled_sees s S.fair at.0 ((S.fair.each at.0).sleeps at.1.1) (eqb-true x.seen s.calls same) (sleeper_settles x.place at.1.1)
-      | inr other ↦ S.seen_to (counts (sleeps_behind s.calls) s.threads at.0 idle at.1.0 (behind_is x.place (x.seen == s.calls) at.1.1 other)) ]
+      | inl same ↦ settled_sees s S.fair at.0 ((S.fair.each at.0).sleeps at.1.1) (eqb-true x.seen s.calls same) (sleeper_settles x.place at.1.1)
+      | inr other ↦ S.seen_to (counts (sleeps_behind s.calls) s.threads at.0 idle at.1.0 (behind_is x.place (x.seen == s.calls) at.1.1 other))
+    ]

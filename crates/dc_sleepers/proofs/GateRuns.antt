@@ -44,7 +44,7 @@ module _ (s : State) (t : ℕ) (inside : t < length s.threads) (S : IsSound s) w
   serves : (h : Bool) → x.has_ticket ≡ h → x.place ≡ Leaving → IsSound (record (with_thread s t (record x { place = Gone; has_ticket = false })) { served = s.served + (if h then 1 else 0) })
   serves true has e = writes.serves s t inside S x.is_counted x.seen x.has_ticket x.ticket x.next has (stands Leaving e)
   serves false none e = let zero : s.served ≡ s.served + 0 = omega arith in
-    subst (λ n. IsSound (record (with_thread s t (record x { place = Gone; has_ticket = false })) { served = n })) zero (writes.serves_none s t inside S x.is_counted x.seen x.has_ticket x.ticket x.next none (stands Leaving e))
+      subst (λ n. IsSound (record (with_thread s t (record x { place = Gone; has_ticket = false })) { served = n })) zero (writes.serves_none s t inside S x.is_counted x.seen x.has_ticket x.ticket x.next none (stands Leaving e))
 
   reads : (b : Bool) → (s.sleepers == 0) ≡ b → x.place ≡ Gone → IsSound (with_thread s t (moved x (if b then Out else Calling)))
   reads true none e = wakes.finds_nobody s t inside S x.is_counted x.seen x.has_ticket x.ticket x.next (eqb-true s.sleepers 0 none) (stands Gone e)
@@ -95,11 +95,17 @@ none threads test fails = count_none test idle fails threads
 pub opening_sound : (threads : ℕ) → IsSound (opening threads)
 opening_sound threads = record {
   fair = record {
-    counted = sym (none threads (λ x. x.is_counted) refl); holder = none threads (λ x. is_holding x.place) refl; order = omega arith;
-    out = λ k a b. absurd (omega arith); was_served = λ k a. absurd (omega arith); not_taken = λ k a. none threads (has_this_ticket k) refl;
+    counted = sym (none threads (λ x. x.is_counted) refl);
+    holder = none threads (λ x. is_holding x.place) refl;
+    order = omega arith;
+    out = λ k a b. absurd (omega arith);
+    was_served = λ k a. absurd (omega arith);
+    not_taken = λ k a. none threads (has_this_ticket k) refl;
     each = λ t. subst (IsFine 0 0 0 (number (opening threads) raises_later) (number (opening threads) wakes_all)) (sym (get_same threads t idle))
-      (bland 0 0 0 (number (opening threads) raises_later) (number (opening threads) wakes_all) idle refl refl refl refl refl (omega arith) (λ has. never has)) };
-  seen_to = λ some. absurd (omega (arith, none threads (sleeps_behind 0) refl)); }
+        (bland 0 0 0 (number (opening threads) raises_later) (number (opening threads) wakes_all) idle refl refl refl refl refl (omega arith) (λ has. never has));
+  };
+  seen_to = λ some. absurd (omega (arith, none threads (sleeps_behind 0) refl));
+}
 
 by_kind : (p : Place) → one (raises_later p) ≤ one (is_holding p) + one (owes_a_call p)
 by_kind Holding = omega arith

@@ -62,11 +62,17 @@ fine_roused : (calls served tickets r w r' w' : ℕ) (x : Thread) → r ≤ r' �
 fine_roused calls served tickets r w r' w' x few G = by_case (sleeps_behind calls x) refl where
   by_case : (b : Bool) → sleeps_behind calls x ≡ b → IsFine calls served tickets r' w' (if b then moved x Counted else x)
   by_case true e = let sleeps : x.place ≡ Asleep = is_asleep_is x.place (and_left (is_asleep x.place) (not (x.seen == calls)) e) in
-    bland calls served tickets r' w' (moved x Counted) refl refl refl refl refl G.behind (λ has. subst (λ p. may_have_ticket p x.is_counted ≡ true) sleeps (G.holds has))
+      bland calls served tickets r' w' (moved x Counted) refl refl refl refl refl G.behind (λ has. subst (λ p. may_have_ticket p x.is_counted ≡ true) sleeps (G.holds has))
   by_case false e = record {
-    behind = G.behind; sleeps = G.sleeps; holds = G.holds; turn = G.turn; next_is = G.next_is;
-    stale = λ a b d f. let some : 0 < r = G.stale a b d f in omega arith; expects = λ a b d none. G.expects a b d (omega arith);
-    called = λ _ b d. absurd (d (eqb-true x.seen calls (not_false (x.seen == calls) (and_right_fails (is_asleep x.place) (not (x.seen == calls)) b e)))) }
+    behind = G.behind;
+    sleeps = G.sleeps;
+    holds = G.holds;
+    turn = G.turn;
+    next_is = G.next_is;
+    stale = λ a b d f. let some : 0 < r = G.stale a b d f in omega arith;
+    expects = λ a b d none. G.expects a b d (omega arith);
+    called = λ _ b d. absurd (d (eqb-true x.seen calls (not_false (x.seen == calls) (and_right_fails (is_asleep x.place) (not (x.seen == calls)) b e))));
+  }
 
 module _ (s : State) (t : ℕ) (inside : t < length s.threads) (S : IsSound s) where
   abbrev fine : Thread → Type 0
@@ -93,16 +99,28 @@ module _ (s : State) (t : ℕ) (inside : t < length s.threads) (S : IsSound s) w
     pub finds_nobody : s.sleepers ≡ 0 → thread_of s t ≡ at Gone → IsSound (go Out)
     finds_nobody none e = let F = mine (at Gone) e in let w : Moves s.calls s.threads (set s.threads t (at Out)) (at Gone) (at Out) = m (at Gone) (at Out) e in record {
       fair = record {
-        counted = omega (arith, S.fair.counted, w.counted); holder = omega (arith, S.fair.holder, w.holding); order = S.fair.order;
-        out = λ i a b. omega (arith, S.fair.out i a b, w.ticket_of i); was_served = λ i a. omega (arith, S.fair.was_served i a, w.ticket_of i); not_taken = λ i a. omega (arith, S.fair.not_taken i a, w.ticket_of i);
+        counted = omega (arith, S.fair.counted, w.counted);
+        holder = omega (arith, S.fair.holder, w.holding);
+        order = S.fair.order;
+        out = λ i a b. omega (arith, S.fair.out i a b, w.ticket_of i);
+        was_served = λ i a. omega (arith, S.fair.was_served i a, w.ticket_of i);
+        not_taken = λ i a. omega (arith, S.fair.not_taken i a, w.ticket_of i);
         each = each_set (IsFine s.calls s.served s.tickets (number (go Out) raises_later) (number (go Out) wakes_all)) s.threads t (at Out) idle inside
-          (λ i _. let G = S.fair.each i in record {
-            behind = G.behind; sleeps = G.sleeps; holds = G.holds; turn = G.turn; next_is = G.next_is;
-            stale = λ a _ _ _. absurd (uncounted none i a); expects = λ a _ _ _. absurd (uncounted none i a);
-            called = λ a b d. omega (arith, G.called a b d, w.all) })
-          (bland s.calls s.served s.tickets (number (go Out) raises_later) (number (go Out) wakes_all) (at Out) refl refl refl refl refl F.behind (λ has. never (F.holds has))) };
+            (λ i _. let G = S.fair.each i in record {
+              behind = G.behind;
+              sleeps = G.sleeps;
+              holds = G.holds;
+              turn = G.turn;
+              next_is = G.next_is;
+              stale = λ a _ _ _. absurd (uncounted none i a);
+              expects = λ a _ _ _. absurd (uncounted none i a);
+              called = λ a b d. omega (arith, G.called a b d, w.all);
+            })
+            (bland s.calls s.served s.tickets (number (go Out) raises_later) (number (go Out) wakes_all) (at Out) refl refl refl refl refl F.behind (λ has. never (F.holds has)));
+      };
       seen_to = λ some. let at_one : (i : ℕ) × ((i < length s.threads) × (sleeps_behind s.calls (get_or s.threads i idle) ≡ true)) = found (sleeps_behind s.calls) idle s.threads (omega arith) in
-        absurd (uncounted none at_one.0 ((S.fair.each at_one.0).sleeps (and_left (is_asleep (thread_of s at_one.0).place) (not ((thread_of s at_one.0).seen == s.calls)) at_one.1.1))); }
+          absurd (uncounted none at_one.0 ((S.fair.each at_one.0).sleeps (and_left (is_asleep (thread_of s at_one.0).place) (not ((thread_of s at_one.0).seen == s.calls)) at_one.1.1)));
+    }
 
     abbrev called_once : State
     called_once = record (go Raised) { calls = s.calls + 1 }
@@ -110,33 +128,58 @@ module _ (s : State) (t : ℕ) (inside : t < length s.threads) (S : IsSound s) w
     pub raises : thread_of s t ≡ at Calling → IsSound called_once
     raises e = let F = mine (at Calling) e in let w : Moves s.calls s.threads (set s.threads t (at Raised)) (at Calling) (at Raised) = m (at Calling) (at Raised) e in record {
       fair = record {
-        counted = omega (arith, S.fair.counted, w.counted); holder = omega (arith, S.fair.holder, w.holding); order = S.fair.order;
-        out = λ i a b. omega (arith, S.fair.out i a b, w.ticket_of i); was_served = λ i a. omega (arith, S.fair.was_served i a, w.ticket_of i); not_taken = λ i a. omega (arith, S.fair.not_taken i a, w.ticket_of i);
+        counted = omega (arith, S.fair.counted, w.counted);
+        holder = omega (arith, S.fair.holder, w.holding);
+        order = S.fair.order;
+        out = λ i a b. omega (arith, S.fair.out i a b, w.ticket_of i);
+        was_served = λ i a. omega (arith, S.fair.was_served i a, w.ticket_of i);
+        not_taken = λ i a. omega (arith, S.fair.not_taken i a, w.ticket_of i);
         each = each_set (IsFine (s.calls + 1) s.served s.tickets (number called_once raises_later) (number called_once wakes_all)) s.threads t (at Raised) idle inside
-          (λ i _. let G = S.fair.each i in let old : (thread_of s i).seen ≤ s.calls = G.behind in record {
-            behind = omega arith; sleeps = G.sleeps; holds = G.holds; turn = G.turn; next_is = G.next_is;
-            stale = λ _ _ same _. absurd (omega arith); expects = λ _ _ same _. absurd (omega arith);
-            called = λ _ _ _. omega (arith, w.all) })
-          (bland (s.calls + 1) s.served s.tickets (number called_once raises_later) (number called_once wakes_all) (at Raised) refl refl refl refl refl (omega (arith, F.behind)) (λ has. never (F.holds has))) };
-      seen_to = λ some. omega (arith, w.wakes); }
+            (λ i _. let G = S.fair.each i in let old : (thread_of s i).seen ≤ s.calls = G.behind in record {
+              behind = omega arith;
+              sleeps = G.sleeps;
+              holds = G.holds;
+              turn = G.turn;
+              next_is = G.next_is;
+              stale = λ _ _ same _. absurd (omega arith);
+              expects = λ _ _ same _. absurd (omega arith);
+              called = λ _ _ _. omega (arith, w.all);
+            })
+            (bland (s.calls + 1) s.served s.tickets (number called_once raises_later) (number called_once wakes_all) (at Raised) refl refl refl refl refl (omega (arith, F.behind)) (λ has. never (F.holds has)));
+      };
+      seen_to = λ some. omega (arith, w.wakes);
+    }
 
     pub finds_no_ticket : s.tickets ≡ r → thread_of s t ≡ at Looked → IsSound (go WakingOne)
     finds_no_ticket none e = let F = mine (at Looked) e in let w : Moves s.calls s.threads (set s.threads t (at WakingOne)) (at Looked) (at WakingOne) = m (at Looked) (at WakingOne) e in record {
       fair = record {
-        counted = omega (arith, S.fair.counted, w.counted); holder = omega (arith, S.fair.holder, w.holding); order = S.fair.order;
-        out = λ i a b. omega (arith, S.fair.out i a b, w.ticket_of i); was_served = λ i a. omega (arith, S.fair.was_served i a, w.ticket_of i); not_taken = λ i a. omega (arith, S.fair.not_taken i a, w.ticket_of i);
+        counted = omega (arith, S.fair.counted, w.counted);
+        holder = omega (arith, S.fair.holder, w.holding);
+        order = S.fair.order;
+        out = λ i a b. omega (arith, S.fair.out i a b, w.ticket_of i);
+        was_served = λ i a. omega (arith, S.fair.was_served i a, w.ticket_of i);
+        not_taken = λ i a. omega (arith, S.fair.not_taken i a, w.ticket_of i);
         each = each_set (IsFine s.calls s.served s.tickets (number (go WakingOne) raises_later) (number (go WakingOne) wakes_all)) s.threads t (at WakingOne) idle inside
-          (λ i _. let G = S.fair.each i in record {
-            behind = G.behind; sleeps = G.sleeps; holds = G.holds; turn = G.turn; next_is = G.next_is;
-            stale = λ a b d f. omega (arith, G.stale a b d f, w.raises); expects = λ a b d f. G.expects a b d (omega (arith, f, w.raises));
-            called = λ a _ _. let range : (s.served ≤ (thread_of s i).ticket) × ((thread_of s i).ticket < s.tickets) = in_range s S.fair i a in absurd (omega (arith, F.next_is refl)) })
-          (bland s.calls s.served s.tickets (number (go WakingOne) raises_later) (number (go WakingOne) wakes_all) (at WakingOne) refl refl refl refl refl F.behind (λ has. never (F.holds has))) };
-      seen_to = λ some. omega (arith, S.seen_to); }
+            (λ i _. let G = S.fair.each i in record {
+              behind = G.behind;
+              sleeps = G.sleeps;
+              holds = G.holds;
+              turn = G.turn;
+              next_is = G.next_is;
+              stale = λ a b d f. omega (arith, G.stale a b d f, w.raises);
+              expects = λ a b d f. G.expects a b d (omega (arith, f, w.raises));
+              called = λ a _ _. let range : (s.served ≤ (thread_of s i).ticket) × ((thread_of s i).ticket < s.tickets) = in_range s S.fair i a in absurd (omega (arith, F.next_is refl));
+            })
+            (bland s.calls s.served s.tickets (number (go WakingOne) raises_later) (number (go WakingOne) wakes_all) (at WakingOne) refl refl refl refl refl F.behind (λ has. never (F.holds has)));
+      };
+      seen_to = λ some. omega (arith, S.seen_to);
+    }
 
     pub wakes_nobody : ((i : ℕ) → sleeps_behind s.calls (thread_of s i) ≡ false) → thread_of s t ≡ at WakingOne → IsSound (go Out)
     wakes_nobody nobody e = let w : Moves s.calls s.threads (set s.threads t (at Out)) (at WakingOne) (at Out) = m (at WakingOne) (at Out) e in let none : how_many s (sleeps_behind s.calls) ≡ 0 = count_without (sleeps_behind s.calls) s.threads idle nobody in record {
       fair = goes_out s t inside S c n h k r e;
-      seen_to = λ some. absurd (omega arith); }
+      seen_to = λ some. absurd (omega arith);
+    }
 
     pub wakes : (j : ℕ) → (thread_of s j).place ≡ Asleep → thread_of s t ≡ at WakingOne → IsSound (placed (go Out) j Counted)
     wakes j sleeps e =
@@ -152,27 +195,29 @@ module _ (s : State) (t : ℕ) (inside : t < length s.threads) (S : IsSound s) w
         let G : IsFine s1.calls s1.served s1.tickets (number s1 raises_later) (number s1 wakes_all) z = subst (IsFine s1.calls s1.served s1.tickets (number s1 raises_later) (number s1 wakes_all)) is_z (F.each j) in
         let w : Moves s1.calls s1.threads (set s1.threads j (moved x Counted)) z (moved x Counted) = moves s1.calls s1.threads j z (moved x Counted) there is_z in
         let just : one x.is_counted ≡ 1 = ap one (G.sleeps refl) in record {
-      fair = quiet s1 j z (moved x Counted) there is_z F refl refl refl refl (omega arith) (omega arith)
-        (bland s1.calls s1.served s1.tickets (number (with_thread s1 j (moved x Counted)) raises_later) (number (with_thread s1 j (moved x Counted)) wakes_all) (moved x Counted) refl refl refl refl refl G.behind G.holds);
-      seen_to = λ some. omega (arith, w.awake, just); }
+          fair = quiet s1 j z (moved x Counted) there is_z F refl refl refl refl (omega arith) (omega arith)
+              (bland s1.calls s1.served s1.tickets (number (with_thread s1 j (moved x Counted)) raises_later) (number (with_thread s1 j (moved x Counted)) wakes_all) (moved x Counted) refl refl refl refl refl G.behind G.holds);
+          seen_to = λ some. omega (arith, w.awake, just);
+        }
 
     abbrev after_all_wake : State
     after_all_wake = roused_all (go Out)
 
     pub wakes_all_of_them : thread_of s t ≡ at WakingAll → IsSound after_all_wake
     wakes_all_of_them e = let F = mine (at WakingAll) e in let w : Moves s.calls s.threads (set s.threads t (at Out)) (at WakingAll) (at Out) = m (at WakingAll) (at Out) e in
-      let raised : number after_all_wake raises_later ≡ number (go Out) raises_later = by_place s.calls raises_later refl (go Out).threads in
-      let tickets : (i : ℕ) → how_many after_all_wake (has_this_ticket i) ≡ how_many (go Out) (has_this_ticket i) = λ i. count_map (has_this_ticket i) (roused s.calls) (λ x. roused_keeps s.calls (λ y. has_this_ticket i y) x refl) (go Out).threads in record {
-      fair = record {
-        counted = omega (arith, S.fair.counted, w.counted, count_map (λ (x : Thread). x.is_counted) (roused s.calls) (λ x. roused_keeps s.calls (λ y. y.is_counted) x refl) (go Out).threads);
-        holder = omega (arith, S.fair.holder, w.holding, by_place s.calls is_holding refl (go Out).threads);
-        order = S.fair.order;
-        out = λ i a b. omega (arith, S.fair.out i a b, w.ticket_of i, tickets i);
-        was_served = λ i a. omega (arith, S.fair.was_served i a, w.ticket_of i, tickets i);
-        not_taken = λ i a. omega (arith, S.fair.not_taken i a, w.ticket_of i, tickets i);
-        each = λ i. subst (IsFine s.calls s.served s.tickets (number after_all_wake raises_later) (number after_all_wake wakes_all)) (sym (get_or-map (roused s.calls) (go Out).threads i idle))
-          (each_set (λ x. IsFine s.calls s.served s.tickets (number after_all_wake raises_later) (number after_all_wake wakes_all) (roused s.calls x)) s.threads t (at Out) idle inside
-            (λ j _. fine_roused s.calls s.served s.tickets (number s raises_later) (number s wakes_all) (number after_all_wake raises_later) (number after_all_wake wakes_all) (thread_of s j) (omega (arith, raised, w.raises)) (S.fair.each j))
-            (bland s.calls s.served s.tickets (number after_all_wake raises_later) (number after_all_wake wakes_all) (at Out) refl refl refl refl refl F.behind (λ has. never (F.holds has))) i);
-      };
-      seen_to = λ some. let none : how_many after_all_wake (sleeps_behind s.calls) ≡ 0 = count_without (sleeps_behind s.calls) after_all_wake.threads idle (λ i. ap (sleeps_behind s.calls) (get_or-map (roused s.calls) (go Out).threads i idle) ∙ roused_sleeps_not s.calls (thread_of (go Out) i)) in absurd (omega arith); }
+        let raised : number after_all_wake raises_later ≡ number (go Out) raises_later = by_place s.calls raises_later refl (go Out).threads in
+        let tickets : (i : ℕ) → how_many after_all_wake (has_this_ticket i) ≡ how_many (go Out) (has_this_ticket i) = λ i. count_map (has_this_ticket i) (roused s.calls) (λ x. roused_keeps s.calls (λ y. has_this_ticket i y) x refl) (go Out).threads in record {
+          fair = record {
+            counted = omega (arith, S.fair.counted, w.counted, count_map (λ (x : Thread). x.is_counted) (roused s.calls) (λ x. roused_keeps s.calls (λ y. y.is_counted) x refl) (go Out).threads);
+            holder = omega (arith, S.fair.holder, w.holding, by_place s.calls is_holding refl (go Out).threads);
+            order = S.fair.order;
+            out = λ i a b. omega (arith, S.fair.out i a b, w.ticket_of i, tickets i);
+            was_served = λ i a. omega (arith, S.fair.was_served i a, w.ticket_of i, tickets i);
+            not_taken = λ i a. omega (arith, S.fair.not_taken i a, w.ticket_of i, tickets i);
+            each = λ i. subst (IsFine s.calls s.served s.tickets (number after_all_wake raises_later) (number after_all_wake wakes_all)) (sym (get_or-map (roused s.calls) (go Out).threads i idle))
+                (each_set (λ x. IsFine s.calls s.served s.tickets (number after_all_wake raises_later) (number after_all_wake wakes_all) (roused s.calls x)) s.threads t (at Out) idle inside
+                (λ j _. fine_roused s.calls s.served s.tickets (number s raises_later) (number s wakes_all) (number after_all_wake raises_later) (number after_all_wake wakes_all) (thread_of s j) (omega (arith, raised, w.raises)) (S.fair.each j))
+                (bland s.calls s.served s.tickets (number after_all_wake raises_later) (number after_all_wake wakes_all) (at Out) refl refl refl refl refl F.behind (λ has. never (F.holds has))) i);
+          };
+          seen_to = λ some. let none : how_many after_all_wake (sleeps_behind s.calls) ≡ 0 = count_without (sleeps_behind s.calls) after_all_wake.threads idle (λ i. ap (sleeps_behind s.calls) (get_or-map (roused s.calls) (go Out).threads i idle) ∙ roused_sleeps_not s.calls (thread_of (go Out) i)) in absurd (omega arith);
+        }

@@ -22,15 +22,17 @@ counts test xs i d inside e = let few : one (test (get_or xs i d)) ≤ count_by 
 pub found : {X : Type 0} (test : X → Bool) (d : X) (xs : List X) → 0 < count_by test xs → (i : ℕ) × ((i < length xs) × (test (get_or xs i d) ≡ true))
 found test d [] some = absurd (omega arith)
 found {X} test d (x ∷ xs) some = elim (either (test x)) [
-    inl passes ↦ (0, (omega arith, passes))
+  | inl passes ↦ (0, (omega arith, passes))
   | inr fails ↦ let none : one (test x) ≡ 0 = ap one fails in let later : (i : ℕ) × ((i < length xs) × (test (get_or xs i d) ≡ true)) = found test d xs (omega (arith, count_cons test x xs)) in
-      (suc later.0, (omega (arith, later.1.0), later.1.1)) ]
+      (suc later.0, (omega (arith, later.1.0), later.1.1))
+]
 
 -- each of a list in which one is another
 pub each_set : {X : Type 0} (P : X → Type 0) (xs : List X) (t : ℕ) (y d : X) → t < length xs → ((k : ℕ) → k ≢ t → P (get_or xs k d)) → P y → (k : ℕ) → P (get_or (set xs t y) k d)
 each_set P xs t y d inside others mine k = elim (cases_eq k t) [
-    inl same ↦ subst P (sym (ap (λ i. get_or (set xs t y) i d) same ∙ get_or-set_same xs t y d inside)) mine
-  | inr other ↦ subst P (sym (get_or-set_other xs t k y d other)) (others k other) ]
+  | inl same ↦ subst P (sym (ap (λ i. get_or (set xs t y) i d) same ∙ get_or-set_same xs t y d inside)) mine
+  | inr other ↦ subst P (sym (get_or-set_other xs t k y d other)) (others k other)
+]
 
 -- if one alone passes, another doesn't
 pub only_one : {X : Type 0} (test : X → Bool) (xs : List X) (i j : ℕ) (d : X) → test d ≡ false → count_by test xs ≡ 1 → i < length xs → j < length xs → test (get_or xs i d) ≡ true → test (get_or xs j d) ≡ true → i ≢ j → ⊥

@@ -20,7 +20,7 @@ use std::marker::Model;
 pub const WRAP: u64 = 1 << 32;
 
 /// Where a thread stands between two steps.
-#[derive(Clone, Copy, Debug, PartialEq, Eq)]
+#[derive(Clone, Copy, PartialEq, Eq)]
 pub enum Place {
     /// It makes no call.
     Out,
@@ -57,7 +57,7 @@ pub enum Place {
 }
 
 /// A step of a thread.
-#[derive(Clone, Copy, Debug, PartialEq, Eq)]
+#[derive(Clone, Copy)]
 pub enum Act {
     /// It begins a blocking call.
     Come,
@@ -108,7 +108,7 @@ pub enum Act {
 }
 
 /// Who takes which step.
-#[derive(Clone, Copy, Debug, PartialEq, Eq)]
+#[derive(Clone, Copy)]
 pub struct Event {
     /// Which thread, from 0 on.
     pub thread: usize,
@@ -117,7 +117,7 @@ pub struct Event {
 }
 
 /// A thread, and what it has read.
-#[derive(Clone, Copy, Debug, PartialEq, Eq)]
+#[derive(Clone, Copy)]
 pub struct Thread {
     pub place: Place,
     /// Whether it is counted among the sleepers.

@@ -4,9 +4,8 @@
 #![tactic(auto)]
 
 pub mod gate;
-pub mod lock;
-
 mod laws;
+pub mod lock;
 mod locking;
 mod passing;
 

@@ -14,7 +14,7 @@ use std::alloc::{AllocError, Global};
 use std::marker::Model;
 
 /// Where a thread stands between two steps.
-#[derive(Clone, Copy, Debug, PartialEq, Eq)]
+#[derive(Clone, Copy, PartialEq, Eq)]
 pub enum Place {
     /// It doesn't want the lock.
     Out,
@@ -39,7 +39,7 @@ pub enum Place {
 }
 
 /// A step of a thread.
-#[derive(Clone, Copy, Debug, PartialEq, Eq)]
+#[derive(Clone, Copy)]
 pub enum Act {
     /// It comes for the lock.
     Come,
@@ -68,7 +68,7 @@ pub enum Act {
 }
 
 /// Who takes which step.
-#[derive(Clone, Copy, Debug, PartialEq, Eq)]
+#[derive(Clone, Copy)]
 pub struct Event {
     /// Which thread, from 0 on.
     pub thread: usize,

@@ -73,7 +73,11 @@ impl State {
         requires { thread < length self.old.places.items }
         ensures { Does (shown self.old) thread Look result (shown self.new) }
     {
-        let to = if self.is_held { Place::Watching } else { Place::Trying };
+        let to = if self.is_held {
+            Place::Watching
+        } else {
+            Place::Trying
+        };
         self.go(thread, Place::Watching, to)
     }
 
@@ -93,7 +97,11 @@ impl State {
         requires { thread < length self.old.places.items }
         ensures { Does (shown self.old) thread Park result (shown self.new) }
     {
-        let to = if self.is_held { Place::Asleep } else { Place::Awake };
+        let to = if self.is_held {
+            Place::Asleep
+        } else {
+            Place::Awake
+        };
         self.go(thread, Place::Counted, to)
     }
 
@@ -124,7 +132,11 @@ impl State {
         requires { thread < length self.old.places.items }
         ensures { Does (shown self.old) thread Read result (shown self.new) }
     {
-        let to = if self.waiting > 0 { Place::Waking } else { Place::Out };
+        let to = if self.waiting > 0 {
+            Place::Waking
+        } else {
+            Place::Out
+        };
         self.go(thread, Place::Freed, to)
     }
 

@@ -125,7 +125,11 @@ impl State {
         ensures { Does (shown self.old) thread ReadServed result (shown self.new) }
     {
         let one = self.threads[thread];
-        let read = Thread { place: Place::Asked, next: self.served, ..one };
+        let read = Thread {
+            place: Place::Asked,
+            next: self.served,
+            ..one
+        };
         self.put(thread, Place::Asking, read)
     }
 
@@ -166,7 +170,11 @@ impl State {
         ensures { Does (shown self.old) thread Count result (shown self.new) }
     {
         let one = self.threads[thread];
-        let counted = Thread { place: Place::Counted, is_counted: true, ..one };
+        let counted = Thread {
+            place: Place::Counted,
+            is_counted: true,
+            ..one
+        };
         let done = self.put(thread, Place::Told, counted);
         if done && !one.is_counted {
             self.sleepers += 1;
@@ -182,7 +190,12 @@ impl State {
         if !one.is_counted || one.has_ticket || self.tickets == u64::MAX {
             return false;
         }
-        let ticketed = Thread { place: Place::Counted, has_ticket: true, ticket: self.tickets, ..one };
+        let ticketed = Thread {
+            place: Place::Counted,
+            has_ticket: true,
+            ticket: self.tickets,
+            ..one
+        };
         let done = self.put(thread, Place::Counted, ticketed);
         if done {
             self.tickets += 1;
@@ -195,7 +208,11 @@ impl State {
         ensures { Does (shown self.old) thread ReadCalls result (shown self.new) }
     {
         let one = self.threads[thread];
-        let read = Thread { place: Place::Asking, seen: self.calls, ..one };
+        let read = Thread {
+            place: Place::Asking,
+            seen: self.calls,
+            ..one
+        };
         self.put(thread, Place::Counted, read)
     }
 
@@ -230,7 +247,11 @@ impl State {
         ensures { Does (shown self.old) thread CountOut result (shown self.new) }
     {
         let one = self.threads[thread];
-        let uncounted = Thread { place: Place::Leaving, is_counted: false, ..one };
+        let uncounted = Thread {
+            place: Place::Leaving,
+            is_counted: false,
+            ..one
+        };
         let done = self.put(thread, Place::Given, uncounted);
         if done && one.is_counted {
             self.sleepers -= 1;
@@ -244,7 +265,11 @@ impl State {
         ensures { Does (shown self.old) thread Serve result (shown self.new) }
     {
         let one = self.threads[thread];
-        let gone = Thread { place: Place::Gone, has_ticket: false, ..one };
+        let gone = Thread {
+            place: Place::Gone,
+            has_ticket: false,
+            ..one
+        };
         let done = self.put(thread, Place::Leaving, gone);
         if done && one.has_ticket {
             self.served += 1;
@@ -256,7 +281,11 @@ impl State {
         requires { thread < length self.old.threads.items }
         ensures { Does (shown self.old) thread ReadSleepers result (shown self.new) }
     {
-        let to = if self.sleepers > 0 { Place::Calling } else { Place::Out };
+        let to = if self.sleepers > 0 {
+            Place::Calling
+        } else {
+            Place::Out
+        };
         self.go(thread, Place::Gone, to)
     }
 
@@ -279,7 +308,11 @@ impl State {
         ensures { Does (shown self.old) thread LookServed result (shown self.new) }
     {
         let one = self.threads[thread];
-        let read = Thread { place: Place::Looked, next: self.served, ..one };
+        let read = Thread {
+            place: Place::Looked,
+            next: self.served,
+            ..one
+        };
         self.put(thread, Place::Raised, read)
     }
 
@@ -288,7 +321,11 @@ impl State {
         ensures { Does (shown self.old) thread LookTickets result (shown self.new) }
     {
         let none_is_out = self.tickets == self.threads[thread].next;
-        let to = if none_is_out { Place::WakingOne } else { Place::WakingAll };
+        let to = if none_is_out {
+            Place::WakingOne
+        } else {
+            Place::WakingAll
+        };
         self.go(thread, Place::Looked, to)
     }
 
