@@ -8,5 +8,7 @@ mod laws;
 pub mod lock;
 mod locking;
 mod passing;
+#[cfg(test)]
+mod tests;
 
 pub use laws::{no_sleeper_at_the_gate_is_forgotten, no_sleeper_of_the_lock_is_forgotten};
