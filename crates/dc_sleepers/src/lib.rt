@@ -1,5 +1,5 @@
-//! Who sleeps until a lock is free, and who sees to it that he is woken: the lock of a table, and the gate
-//! of `gigbewu.h`, each as a machine of any number of threads. After any list of events no sleeper is
+//! Who sleeps until a lock is free, and who sees to it that the sleeper is woken: the lock of a table, and the
+//! gate of `gigbewu.h`, each as a machine of any number of threads. After any list of events no sleeper is
 //! forgotten.
 #![tactic(auto)]
 

@@ -3,6 +3,8 @@
 //! A sleeper hangs for ever if it is forgotten. A thread that waits counts itself first, and in its last step
 //! falls asleep only if the word says that the lock is held. A giver frees the word first, and then reads the
 //! count. So either the giver counts the sleeper, or the sleeper looks behind the giver.
+//!
+//! Nobody draws a ticket here, as those of a table do that are passed over: any thread that is awake may try.
 
 ghost use Rattle.std.specs.Prelude.{◌≡◌, IfOk, IsSome, IfSome, ◌↔◌, ◌<◌, length};
 ghost use Rattle.dc_sleepers.specs.Locks.{opening, after, place_of, Can};
