@@ -1,4 +1,4 @@
-"""Builds the peers of bench/peers for bench/compare: which there are, of what each is built, and why one is left out."""
+"""Builds the peers of bench/peers for bench/compare: of what each is built, and why one is left out."""
 
 import os
 import pathlib
@@ -22,8 +22,8 @@ PEERS = {
 VARIANTS = {"tmpfs_opens": ("tmpfs", ["-DOPENS"])}
 # What Rattle's compiler takes by default.
 LEVEL = "x86-64-v2"
-# The peers that have their size when they are built, and how one gets it: the cache's rows by its buckets, and what stands
-# behind them or in their place for up to a million names.
+# The peers that have their size when they are built, and how one gets it: the cache's rows by its buckets, and what
+# stands behind them or in their place for up to a million names.
 SIZED = {"limit": ["-DBUCKETS={}", "-DHEADS=(1 << 20)"], "embedded": ["-DBUCKETS={}"], "locked": ["-DSLOTS=(1 << 22)"]}
 
 
@@ -60,7 +60,8 @@ class Builder:
         self.rust_flags = ["-C", f"target-cpu={LEVEL}", *(["-D", "warnings"] if strict else [])]
 
     def rwlock(self):
-        words = [need("rustc"), "--edition", "2021", "--crate-type", "staticlib", *self.rust_flags, "--out-dir", self.folder]
+        words = [need("rustc"), "--edition", "2021", "--crate-type", "staticlib", *self.rust_flags]
+        words += ["--out-dir", self.folder]
         modes = ("opt-level=3", "lto", "codegen-units=1", "panic=abort")
         run_builder([*words, *(word for mode in modes for word in ("-C", mode)), SOURCES / "maps/rwlock.rs"])
         return [self.folder / "librwlock.a"]
@@ -102,7 +103,7 @@ class Builder:
         return built, left_out
 
     def build_sized(self, built, buckets):
-        """The same programs for a million names, where the cache has this many buckets. Making files is left out of it."""
+        """The same programs for a million names, if the cache has this many buckets, but for that which opens files."""
         sized = {name: program for name, program in built.items() if name != OPENS}
         for peer, flags in SIZED.items():
             if PEERS[peer] in built:

@@ -1,4 +1,4 @@
-"""What bench/compare runs: the kinds of work and their sizes, the ways in which the cache is asked, and what was measured."""
+"""What bench/compare runs: the kinds of work and their sizes, how the cache is asked, and what was measured."""
 
 import collections
 import math
@@ -44,8 +44,8 @@ class Turn:
 
 
 class Measured:
-    """What the rounds gave: the turns of each program, cell and number of threads, and how many times as long each took as the
-    walk by hand beside it; and figures by what they are of."""
+    """What the rounds gave: the turns of each program, cell and number of threads, and how many times as long each took
+    as the walk by hand beside it; and figures by what they are of."""
 
     def __init__(self):
         self.turns, self.ratios, self.figures = (collections.defaultdict(list) for _ in range(3))

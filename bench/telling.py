@@ -6,8 +6,8 @@ import statistics
 
 from building import FROM_C, LIMIT, OPENS, TMPFS
 from cells import (
-    CACHE, CHANGES, COMPARED, COUNTS, CROWD, DEPTHS, HOT, LINKS, ONE_HOLD, READS, SIZES, WIDE, WIDE_FROM_C, WIDE_LIMIT, Cell, hot_names,
-    is_changing, tree_cells, tree_names,
+    CACHE, CHANGES, COMPARED, COUNTS, CROWD, DEPTHS, HOT, LINKS, ONE_HOLD, READS, SIZES, WIDE, WIDE_FROM_C, WIDE_LIMIT,
+    Cell, hot_names, tree_cells, tree_names,
 )
 
 def spread(values, digits=2):
@@ -25,7 +25,8 @@ def number(value, digits=0):
 def table(head, rows):
     widths = [max(map(len, column)) for column in zip(head, *rows)]
     for row in (head, *rows):
-        print(f"    {row[0]:{widths[0]}}" + "".join(f"  {cell:>{width}}" for cell, width in zip(row[1:], widths[1:])))
+        cells = "".join(f"  {cell:>{width}}" for cell, width in zip(row[1:], widths[1:]))
+        print(f"    {row[0]:{widths[0]}}{cells}".rstrip())
     print()
 
 
@@ -43,17 +44,18 @@ def by_threads(names, shown):
 def show_calls(measured, programs):
     names = [CACHE, *programs.built]
     if LIMIT in names:
-        print("Time of a call, as a multiple of the walk by hand, by the kind of work and the names of a path: the median of the")
-        print("rounds, and their quartiles:\n")
-        by_threads([name for name in names if name != LIMIT], lambda name, cell, n: spread(measured.ratio(name, cell, n)))
-    print("Million calls a second, of all threads together; with `change` alone, changes a second; the best round of each:\n")
+        print("Time of a call, as a multiple of the walk by hand, by the kind of work and the names of a path: the median")
+        print("of the rounds, and their quartiles:\n")
+        others = [name for name in names if name != LIMIT]
+        by_threads(others, lambda name, cell, n: spread(measured.ratio(name, cell, n)))
+    print("Million calls a second of all threads together, with `change` alone changes; the best round of each:\n")
     by_threads(names, lambda name, cell, n: number(measured.rate(name, cell, n), 2))
     if LIMIT in names:
         print("Time of a look-up through a link, as a multiple of the walk by hand, one thread:\n")
         cells = [spread(measured.ratio(CACHE, cell)) for cell in LINKS]
         table(["links", *(counted(cell.depth, "name") for cell in LINKS)], [[CACHE, *cells]])
     if FROM_C in names:
-        print("Nanoseconds that a look-up from C takes more than one of the same text in the benchmark, one thread, by pairs:\n")
+        print("Nanoseconds that a look-up from C takes more than one of the same text in the benchmark, one thread:\n")
         cells = [spread(measured.figures["texts", cell.depth], 1) for cell in READS]
         table(["texts", *(counted(cell.depth, "name") for cell in READS)], [[FROM_C, *cells]])
 
@@ -67,7 +69,7 @@ def show_times(measured, programs):
 
 
 def show_misses(measured, _):
-    print("A look-up whose last name has no row, one thread: nanoseconds, and how many hits of as many names these are:\n")
+    print("Nanoseconds of a look-up whose last name has no row, and how many hits these are, one thread:\n")
     depths, figures = [cell.depth for cell in READS], measured.figures
     rows = [["a hit", *(number(min(figures["hit", CACHE, depth])) for depth in depths)]]
     for name, call in ((CACHE, "look"), (ONE_HOLD, "resolve")):
@@ -92,13 +94,14 @@ def show_hot(measured, programs):
 
 
 def show_trees(measured, programs):
-    print("Nanoseconds of a look-up in trees with names like those of a kernel's sources, 1 to 12 names deep, one thread:\n")
+    print("Nanoseconds of a look-up in trees with names like those of a kernel's sources, one thread:\n")
     for names in SIZES:
         cells = dict(tree_cells(names))
         first = [measured.turns[ONE_HOLD, cell, 1][0].row for cell in cells.values()]
         evicted = [f"{100 * row['rows_evicted'] / row['looks']:.0f}" for row in first]
         rows = [["rows evicted, in 100", *evicted]]
-        rows += [[name, *(number(measured.best(name, cell)) for cell in cells.values())] for name in tree_names(programs)]
+        for name in tree_names(programs):
+            rows.append([name, *(number(measured.best(name, cell)) for cell in cells.values())])
         table([f"{names:,} names", *cells], rows)
 
 
@@ -107,27 +110,29 @@ SHOWN = {"calls": show_calls, "times": show_times, "misses": show_misses, "hot":
 
 def aims(measured):
     """Each aim: what it is of, the bound, whether more is better, and what was measured, in each round."""
-    figures, churn = measured.figures, Cell("churn", 4)
+    figures, churn, most = measured.figures, Cell("churn", 4), COUNTS[-1]
+    ways = {CACHE: "in Rattle", FROM_C: "from C"}
     for cell, bound in zip(READS, (1.15, 1.1, 1.05)):
         yield f"look_fast / by hand, {counted(cell.depth, 'name')}", bound, False, measured.ratio(CACHE, cell)
     for cell in READS:
-        yield f"from C, ns more than texts, {counted(cell.depth, 'name')}", 5, False, figures.get(("texts", cell.depth), [])
+        more = figures.get(("texts", cell.depth), [])
+        yield f"from C, ns more than texts, {counted(cell.depth, 'name')}", 5, False, more
     for cell in LINKS:
         yield f"through a link / by hand, {cell.depth} names", 1.3, False, measured.ratio(CACHE, cell)
     yield "mixed / by hand", 1.3, False, measured.ratio(CACHE, Cell("mixed", 4))
     yield "churn / by hand", 2.0, False, measured.ratio(CACHE, churn)
     yield "churn from C / by hand", 2.5, False, measured.ratio(FROM_C, churn)
     yield "changes from C / by hand", 2.5, False, measured.ratio(FROM_C, CHANGES)
-    most = COUNTS[-1]
     for cell, what, bound in ((Cell("read", 4), "look-ups", 3.6), (CHANGES, "changes", 0.9)):
-        for name in (CACHE, FROM_C):
+        for name, way in ways.items():
             of_rates = measured.beside((name, cell, most), (name, cell, 1), lambda turn: turn.rate)
-            yield f"{what} of {most} threads / of one, {'from C' if name == FROM_C else 'in Rattle'}", bound, True, of_rates
-    for name in (CACHE, FROM_C):
+            yield f"{what} of {most} threads / of one, {way}", bound, True, of_rates
+    for name, way in ways.items():
         of_rates = measured.beside((name, churn, most), (TMPFS, churn, most), lambda turn: turn.rate)
-        yield f"churn of {most} threads / tmpfs's calls, {'from C' if name == FROM_C else 'in Rattle'}", 1, True, of_rates
+        yield f"churn of {most} threads / tmpfs's calls, {way}", 1, True, of_rates
     for cell in READS:
-        yield f"a miss by resolve, in hits, {counted(cell.depth, 'name')}", 5, False, figures.get(("hits", ONE_HOLD, cell.depth), [])
+        hits = figures.get(("hits", ONE_HOLD, cell.depth), [])
+        yield f"a miss by resolve, in hits, {counted(cell.depth, 'name')}", 5, False, hits
     for cell in HOT:
         of_times = measured.beside((WIDE, cell, 1), (TMPFS, cell, 1), lambda turn: turn.takes)
         yield f"65,536 buckets / tmpfs, {cell.hot:,} files", 0.5, False, of_times
@@ -138,8 +143,8 @@ def show_aims(measured):
     for what, bound, is_least, values in aims(measured):
         if values:
             middle = statistics.median(values)
-            is_met = middle >= bound if is_least else middle <= bound
-            rows.append([what, f"{'at least' if is_least else 'at most'} {bound:g}", spread(values), "met" if is_met else "short"])
+            is_met, wanted = (middle >= bound, "at least") if is_least else (middle <= bound, "at most")
+            rows.append([what, f"{wanted} {bound:g}", spread(values), "met" if is_met else "short"])
     if rows:
         print("The aims, each with the median of the rounds and their quartiles, one thread unless said:\n")
         table(["aim", "wanted", "measured", ""], rows)
@@ -157,7 +162,7 @@ GIVES = {
 
 
 def drawn(measured, programs):
-    """What bench/plot draws: the names by what they give, and of each panel its title, what stands below it, and its curves."""
+    """What bench/plot draws: the names by what they give, and of each panel its title, what it is by, and its curves."""
     names = [name for name in (CACHE, *programs.built) if name != OPENS]
     growing = hot_names(programs)
     by_depth = {name: [[depth, measured.best(name, Cell("read", depth))] for depth in DEPTHS] for name in names}
@@ -186,7 +191,8 @@ def named(name, cell, threads):
 
 def middles(measured):
     """The median of each ratio, but for those of trees, which few rounds have."""
-    return {named(*key): statistics.median(values) for key, values in measured.ratios.items() if isinstance(key[1], Cell)}
+    ratios = measured.ratios.items()
+    return {named(*key): statistics.median(values) for key, values in ratios if isinstance(key[1], Cell)}
 
 
 def show_agreement(one, other):

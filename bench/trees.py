@@ -1,13 +1,14 @@
 #!/usr/bin/env python3
-"""Writes a tree with names like those of a kernel's sources, which `dcbench look --tree` and the peers of bench/peers read.
+"""Writes a tree with names like those of a kernel's sources, which `dcbench look --tree` and the peers of bench/peers
+read.
 
 usage: bench/trees.py NAMES evenly|zipf > TREE
 
-There are NAMES names, one in 16 a directory. They have 1 to 40 bytes, half of them at most 10. Paths have 1 to 12 names, five
-on average. `evenly` asks for each file once, in a random order. `zipf` asks as often, but for the file that is asked most
-twice as often as for the next, three times as often as for the third, and so on: a path that is asked more than once has as
-many lines. Programs draw evenly from the lines, and so look paths up as often as these ask for them. The same words write the
-same tree.
+There are NAMES names, one in 16 a directory. They have 1 to 40 bytes, half of them at most 10. Paths have 1 to 12
+names, five on average. `evenly` asks for each file once, in a random order. `zipf` asks as often, but for the file
+that is asked most twice as often as for the next, three times as often as for the third, and so on: a path that is
+asked more than once has as many lines. Programs draw evenly from the lines, and so look paths up as often as these
+ask for them. The same words write the same tree.
 """
 import itertools
 import random
@@ -39,7 +40,7 @@ class Names:
 
 
 def depth_of(draw, most):
-    """How many names a path has: 1, and one more for about a third of what is left."""
+    """How many names a path has, from 1 to the most."""
     return 1 + sum(draw.random() < 0.36 for _ in range(most - 1))
 
 
@@ -68,13 +69,15 @@ def lines_of(count, order):
         return lines + [f"f {path}\n" for path in files]
     weights = list(itertools.accumulate(1 / rank for rank in range(1, len(files) + 1)))
     draw.shuffle(files)
-    return lines + [f"c {path}\n" for path in files] + [f"p {path}\n" for path in draw.choices(files, cum_weights=weights, k=len(files))]
+    asked = draw.choices(files, cum_weights=weights, k=len(files))
+    return lines + [f"c {path}\n" for path in files] + [f"p {path}\n" for path in asked]
 
 
 def main():
-    if len(sys.argv) != 3 or not sys.argv[1].isdecimal() or int(sys.argv[1]) < TO_A_DIRECTORY or sys.argv[2] not in ORDERS:
+    words = sys.argv[1:]
+    if len(words) != 2 or not words[0].isdecimal() or int(words[0]) < TO_A_DIRECTORY or words[1] not in ORDERS:
         sys.exit(__doc__)
-    sys.stdout.writelines(lines_of(int(sys.argv[1]), sys.argv[2]))
+    sys.stdout.writelines(lines_of(int(words[0]), words[1]))
 
 
 if __name__ == "__main__":

@@ -2,13 +2,13 @@
  *
  * usage: weights table BUCKETS | pass | files LENGTH COUNT | names LENGTH COUNT | rows COUNT | deep COUNT | shrink COUNT
  *
- * It prints two numbers. Of a table: the bytes of a cache of so many buckets, and the nanoseconds of making and closing it. Of a
- * pass: the bytes of one more, and the nanoseconds of splitting and closing it. Of files: the bytes of a file with a name of
- * LENGTH bytes, and the nanoseconds of making it. Of names: the bytes of one name more, COUNT names of LENGTH bytes of 20 files,
- * and the nanoseconds of a link. Of rows: the bytes that a row takes more once it is
- * filled, and the nanoseconds of the look-up that fills it. Of deep: the nanoseconds of a rename of a directory into one below
- * COUNT others, and of one that is refused since it is beneath itself. Of shrink: how many rows were emptied under one hold, and
- * the nanoseconds of that.
+ * It prints two numbers. Of a table: the bytes of a cache of this many buckets, and the nanoseconds of making and
+ * closing it. Of a pass: the bytes of one more, and the nanoseconds of splitting and closing it. Of files: the bytes of
+ * a file with a name of LENGTH bytes, and the nanoseconds of making it. Of names: the bytes of one name more, COUNT
+ * names of LENGTH bytes of 20 files, and the nanoseconds of a link. Of rows: the bytes that a row takes more once it is
+ * filled, and the nanoseconds of the look-up that fills it. Of deep: the nanoseconds of a rename of a directory into one
+ * below COUNT others, and of one that is refused since it is beneath itself. Of shrink: how many rows were emptied under
+ * one hold, and the nanoseconds of that.
  */
 #include <errno.h>
 #include <gigbewu.h>
