@@ -1,6 +1,5 @@
 """The tables of bench/compare, and what bench/plot draws of it."""
 
-import collections
 import math
 import statistics
 
@@ -181,30 +180,3 @@ def drawn(measured, programs):
         *([title, "threads", curves[cell]] for cell, title in titles.items()),
     ]
     return {"groups": groups, "panels": panels}
-
-
-def named(name, cell, threads):
-    """What a ratio is of."""
-    files = f" of {cell.hot:,} files" if cell.work == "hot" else ""
-    return f"{counted(threads, 'thread')}, {cell.work} {cell.depth}{files}, {name}"
-
-
-def middles(measured):
-    """The median of each ratio, but for those of trees, which few rounds have."""
-    ratios = measured.ratios.items()
-    return {named(*key): statistics.median(values) for key, values in ratios if isinstance(key[1], Cell)}
-
-
-def show_agreement(one, other):
-    """By how much the ratios of two runs differ."""
-    print("Ratios to the walk by hand that differ by more than a tenth between the two runs:\n")
-    apart, counts = [], collections.Counter()
-    for key in sorted(one.keys() & other.keys()):
-        is_near = abs(other[key] / one[key] - 1) <= 0.1
-        counts[key.split(",")[0], is_near] += 1
-        if not is_near:
-            apart.append([key, f"{one[key]:.2f}", f"{other[key]:.2f}"])
-    table(["ratio", "first", "second"], apart)
-    rows = [[threads, str(counts[threads, True]), str(counts[threads, True] + counts[threads, False])]
-            for threads in sorted({threads for threads, _ in counts})]
-    table(["within a tenth", "ratios", "of"], rows)
