@@ -43,8 +43,8 @@ def by_threads(names, shown):
 def show_calls(measured, programs):
     names = [CACHE, *programs.built]
     if LIMIT in names:
-        print("Time of a call, as a multiple of the walk by hand, by the kind of work and the names of a path: the median")
-        print("of the rounds, and their quartiles:\n")
+        print("Time of a call, as a multiple of the walk by hand, by the kind of work and the names of a path:")
+        print("the median of the rounds, and their quartiles:\n")
         others = [name for name in names if name != LIMIT]
         by_threads(others, lambda name, cell, n: spread(measured.ratio(name, cell, n)))
     print("Million calls a second of all threads together, with `change` alone changes; the best round of each:\n")
@@ -161,7 +161,7 @@ GIVES = {
 
 
 def drawn(measured, programs):
-    """What bench/plot draws: the names by what they give, and of each panel its title, what it is by, and its curves."""
+    """What bench/plot draws: the names by what they give, and of each panel its title, what it is by, and curves."""
     names = [name for name in (CACHE, *programs.built) if name != OPENS]
     growing = hot_names(programs)
     by_depth = {name: [[depth, measured.best(name, Cell("read", depth))] for depth in DEPTHS] for name in names}
