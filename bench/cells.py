@@ -25,7 +25,7 @@ FILES = (500, 1_000, 2_000, 4_000, 8_000, 16_000, 20_000, 32_000, 90_000)
 HOT = [Cell("hot", 2, count) for count in FILES]
 CROWD = 65_536
 # By the names of a tree: the buckets of a table that fits them, and of one that doesn't, and the most rounds.
-SIZES = {100_000: (1 << 16, 1 << 13, 3), 1_000_000: (1 << 19, 1 << 16, 1)}
+SIZES = {100_000: (1 << 16, 1 << 13, 2), 1_000_000: (1 << 19, 1 << 16, 1)}
 
 
 def is_changing(cell):
