@@ -2,9 +2,27 @@
 
 import pathlib
 import re
+import subprocess
 
 FILE = pathlib.Path(__file__).resolve().parent / "results.txt"
 MARK = "==== "
+# What measuring writes.
+WRITTEN = ("bench/results.txt", "docs/lookups.svg", "docs/MEASUREMENTS.md", "README.md")
+
+
+def first_line(*words):
+    """What a program prints first, or nothing if there is none."""
+    try:
+        ran = subprocess.run(words, stdout=subprocess.PIPE, stderr=subprocess.DEVNULL, text=True, cwd=FILE.parent)
+        return ran.stdout.split("\n")[0]
+    except OSError:
+        return ""
+
+
+def commit():
+    """The commit that is checked out, and whether files differ from it, but for those that measuring writes."""
+    others = first_line("git", "status", "--porcelain", "-uno", "--", "..", *(f":!../{name}" for name in WRITTEN))
+    return (first_line("git", "rev-parse", "--short=12", "HEAD") or "unknown") + (" with changes" if others else "")
 
 
 def sections():
