@@ -344,8 +344,7 @@ static void write_trace(void)
     }
     if (fflush(stdout) != 0 || ferror(stdout))
         fail(FAULT, "the trace can't be written: %s", strerror(errno));
-    fprintf(stderr, "judge: calls %ld, refused %ld, beside another %ld, threads %ld\n", many, refused, beside,
-        judge.threads);
+    fprintf(stderr, "judge: calls %ld, refused %ld, beside another %ld\n", many, refused, beside);
 }
 
 /* Says what is wrong, if anything is, and how the program is used, and ends it. */
@@ -394,8 +393,8 @@ static void read_mix(char *text)
 /* Reads the words. Answers DIR. */
 static const char *read_words(int count, char **words)
 {
-    static const struct option options[] = {{"threads", 1, NULL, 't'}, {"seconds", 1, NULL, 's'}, {"seed", 1, NULL, 'e'},
-        {"calls", 1, NULL, 'c'}, {"depth", 1, NULL, 'd'}, {"mix", 1, NULL, 'm'}, {"help", 0, NULL, 'h'}, {0}};
+    static const struct option options[] = {{"threads", 1, 0, 't'}, {"seconds", 1, 0, 's'}, {"calls", 1, 0, 'c'},
+        {"seed", 1, 0, 'e'}, {"depth", 1, 0, 'd'}, {"mix", 1, 0, 'm'}, {"help", 0, 0, 'h'}, {0}};
     for (int verb = 0; verb < VERBS; verb++)
         judge.weights[verb] = verbs[verb].weight;
     for (int option; (option = getopt_long(count, words, "", options, NULL)) != -1;)
@@ -418,7 +417,6 @@ int main(int count, char **words)
 {
     static const int asking[] = {SIGINT, SIGTERM, SIGHUP};
     sigset_t signals;
-    int told = 0;
     const char *dir = read_words(count, words);
     sigemptyset(&signals);
     for (int i = 0; i < 3; i++) {
@@ -436,10 +434,8 @@ int main(int count, char **words)
     judge.folder = open(judge.path, O_DIRECTORY | O_RDONLY | O_NOFOLLOW | O_CLOEXEC);
     if (judge.folder < 0)
         fail(FAULT, "%s: %s", judge.path, strerror(errno));
-    if (!judge.status)
-        find_out();
-    if (!judge.status)
-        told = record(&signals);
+    find_out();
+    int told = record(&signals);
     close(judge.folder);
     if (nftw(judge.path, remove_one, MOST_THREADS, FTW_DEPTH | FTW_PHYS | FTW_MOUNT) != 0)
         fail(FAULT, "%s is left: %s", judge.path, strerror(errno));
