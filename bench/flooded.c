@@ -1,11 +1,12 @@
 /* How look-ups of one name slow down while other threads look up names of its bucket, which push its row out.
  *
- * usage: flooded [SECONDS]
+ * usage: flooded [ROUNDS]
  *
- * One thread looks up a file in the root by gb_look, without a pause, while none, one, two or three others look up names that
- * nothing has: names of the same bucket of 1,024; names of all buckets; names of the same bucket in a cache of their own.
- * Prints its look-ups a second in thousands, how many in a hundred the rows didn't answer, and the longest in microseconds.
- * Each is measured for SECONDS, 2 unless given.
+ * One thread looks up a file in the root by gb_look, without a pause: alone, and while one, two or three others look up names
+ * that nothing has: names of the same bucket of 1,024; names of all other buckets; names of the same bucket, in a cache of
+ * their own. Each runs for half a second in each of ROUNDS rounds, 5 unless given. Prints the medians: its look-ups a second
+ * in thousands, how many in a hundred of those that it makes alone in that round, how many in a hundred the rows didn't
+ * answer, and the look-ups a second of the others.
  */
 #include <gigbewu.h>
 #include <pthread.h>
@@ -14,13 +15,14 @@
 #include <stdlib.h>
 #include <string.h>
 #include <time.h>
-#include <unistd.h>
 
-enum { THREADS = 3, BUCKETS = 1024, INODES = 1024, NAMES = 64, LETTERS = 24, SECONDS = 2 };
+enum { THREADS = 3, BUCKETS = 1024, INODES = 1024, NAMES = 64, LETTERS = 24, ROUNDS = 5, MOST_ROUNDS = 99 };
 
-enum way { SAME_BUCKET, ALL_BUCKETS, OWN_CACHE, WAYS };
+static const double SECONDS = 0.5;
 
-static const char *const WAYS_TOLD[WAYS] = {"names of the same bucket", "names of all buckets", "a cache of their own"};
+enum way { SAME_BUCKET, OTHER_BUCKETS, OWN_CACHE, WAYS };
+
+static const char *const WAYS_TOLD[WAYS] = {"names of the same bucket", "names of other buckets", "a cache of their own"};
 static const char VICTIM[] = "victim";
 
 struct flooder {
@@ -31,9 +33,11 @@ struct flooder {
     unsigned long looks;
 };
 
+/* What one run tells. */
+enum figure { LOOKS, OF_ALONE, MISSED, THEIRS, FIGURES };
+
 struct told {
-    unsigned long looks, missed;
-    double longest;
+    double each[FIGURES];
 };
 
 static atomic_int ended;
@@ -50,7 +54,7 @@ static double now(void)
 {
     struct timespec time;
     clock_gettime(CLOCK_MONOTONIC, &time);
-    return (double)time.tv_sec * 1e6 + (double)time.tv_nsec / 1e3;
+    return (double)time.tv_sec + (double)time.tv_nsec / 1e9;
 }
 
 /* The bucket of a name in the root, by 64-bit FNV-1a over the eight bytes of the root's number and the name. */
@@ -67,7 +71,7 @@ static unsigned bucket_of(const char *name)
 /* Names of the victim's bucket, or of all but that. No two flooders have one. */
 static void choose(struct flooder *flooder, int number, enum way way)
 {
-    int is_same = way != ALL_BUCKETS;
+    int is_same = way != OTHER_BUCKETS;
     for (long at = 0, found = 0; found < NAMES; at++) {
         snprintf(flooder->names[found], LETTERS, "%d-%ld", number, at);
         found += (bucket_of(flooder->names[found]) == bucket_of(VICTIM)) == is_same;
@@ -86,27 +90,24 @@ static void *flood(void *given)
 }
 
 /* gb_look, which also counts what the rows don't answer. */
-static struct told look_for(struct gb_gate *gate, struct gb_pass *pass, unsigned seconds)
+static struct told look_for(struct gb_gate *gate, struct gb_pass *pass, double seconds)
 {
-    struct told told = {0, 0, 0};
+    struct told told = {{0}};
     struct gb_found found;
-    double begin = now(), end = begin + seconds * 1e6, before = begin;
-    while (before < end) {
+    double end = now() + seconds;
+    do {
         int answer = gb_look_fast(pass, GB_ROOT, VICTIM, sizeof VICTIM - 1, GB_FOLLOW, &found);
         if (answer == GB_AGAIN) {
-            told.missed++;
+            told.each[MISSED]++;
             answer = gb_look_missed(gate, pass, GB_ROOT, VICTIM, sizeof VICTIM - 1, GB_FOLLOW, &found);
         }
         must(answer == 0, "a look-up");
-        told.looks++;
-        double after = now();
-        told.longest = after - before > told.longest ? after - before : told.longest;
-        before = after;
-    }
+        told.each[LOOKS]++;
+    } while (now() < end);
     return told;
 }
 
-static void measure(enum way way, int threads, unsigned seconds)
+static struct told measure(enum way way, int threads)
 {
     static struct flooder flooders[THREADS];
     struct gb_gate gate = gb_gate_new(), own_gate = gb_gate_new();
@@ -122,27 +123,59 @@ static void measure(enum way way, int threads, unsigned seconds)
         must(gb_pass_split(way == OWN_CACHE ? &own : &pass, &flooders[at].pass) == 0, "gb_pass_split");
         must(pthread_create(&flooders[at].thread, NULL, flood, &flooders[at]) == 0, "pthread_create");
     }
-    struct told told = look_for(&gate, &pass, seconds);
+    struct told told = look_for(&gate, &pass, SECONDS);
     atomic_store(&ended, 1);
-    unsigned long looks = 0;
     for (int at = 0; at < threads; at++) {
         pthread_join(flooders[at].thread, NULL);
-        looks += flooders[at].looks;
+        told.each[THEIRS] += (double)flooders[at].looks / SECONDS / 1e3;
         must(gb_close(&flooders[at].pass) == 0, "gb_close");
     }
     must(gb_close(&pass) == 0 && gb_close(&own) == 0, "gb_close");
-    printf("%d  %-26s %8.0f %8.2f %9.0f %12.0f\n", threads, threads ? WAYS_TOLD[way] : "-",
-           (double)told.looks / seconds / 1e3, 100.0 * (double)told.missed / (double)told.looks, told.longest,
-           (double)looks / seconds / 1e3);
+    told.each[MISSED] *= 100 / told.each[LOOKS];
+    told.each[LOOKS] /= SECONDS * 1e3;
+    return told;
+}
+
+static int later(const void *one, const void *other)
+{
+    double first = *(const double *)one, second = *(const double *)other;
+    return (first > second) - (first < second);
+}
+
+static double median_of(const struct told *rounds, int count, enum figure figure)
+{
+    double sorted[MOST_ROUNDS];
+    for (int round = 0; round < count; round++)
+        sorted[round] = rounds[round].each[figure];
+    qsort(sorted, (size_t)count, sizeof *sorted, later);
+    return sorted[count / 2];
+}
+
+static void tell(int threads, const char *what, const struct told *rounds, int count)
+{
+    printf("%7d  %-24s %9.0f %8.0f %8.2f %11.0f\n", threads, what, median_of(rounds, count, LOOKS),
+           median_of(rounds, count, OF_ALONE), median_of(rounds, count, MISSED), median_of(rounds, count, THEIRS));
 }
 
 int main(int count, char **words)
 {
-    unsigned seconds = count > 1 ? (unsigned)atoi(words[1]) : SECONDS;
-    printf("%d threads beside it look up  %16s %8s %9s %12s\n", THREADS, "1000/s", "missed %", "longest us", "they, 1000/s");
-    measure(SAME_BUCKET, 0, seconds);
+    static struct told alone[MOST_ROUNDS], beside[THREADS][WAYS][MOST_ROUNDS];
+    int rounds = count > 1 ? atoi(words[1]) : ROUNDS;
+    must(count <= 2 && rounds > 0 && rounds <= MOST_ROUNDS, "its usage");
+    for (int round = 0; round < rounds; round++) {
+        alone[round] = measure(SAME_BUCKET, 0);
+        alone[round].each[OF_ALONE] = 100;
+        for (int threads = 1; threads <= THREADS; threads++)
+            for (enum way way = 0; way < WAYS; way++) {
+                struct told told = measure(way, threads);
+                told.each[OF_ALONE] = 100 * told.each[LOOKS] / alone[round].each[LOOKS];
+                beside[threads - 1][way][round] = told;
+            }
+    }
+    printf("%7s  %-24s %9s %8s %8s %11s\n", "threads", "that look up", "thousands", "of alone", "missed", "theirs");
+    tell(0, "-", alone, rounds);
     for (int threads = 1; threads <= THREADS; threads++)
         for (enum way way = 0; way < WAYS; way++)
-            measure(way, threads, seconds);
+            tell(threads, WAYS_TOLD[way], beside[threads - 1][way], rounds);
     return 0;
 }
