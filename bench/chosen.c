@@ -1,10 +1,10 @@
-/* Makes files of given names, through the library for C or in a folder of the kernel's, and prints in nanoseconds: of the
- * last 2,000 makes, of 2,000 look-ups under the lock and of 2,000 removals the average, and the longest make of all.
+/* Makes files of given names, through the library for C or in a folder of the kernel's, and prints in nanoseconds: the
+ * average of the last 2,000 makes, of 2,000 look-ups under the lock and of 2,000 removals, and the longest make.
  *
  * usage: chosen COUNT FOLDER [DIRECTORIES] < NAMES
  *
- * Names stand one a line. FOLDER is - for the library. The files are made in the root (the folder), or in so many directories
- * in it, one after the other. Files are looked up and removed here and there.
+ * Names stand one a line. FOLDER is - for the library. The files are made in the root (the folder), or in this many
+ * directories in it, one after the other. Files are looked up and removed here and there.
  */
 #define _GNU_SOURCE
 #include <fcntl.h>
@@ -113,12 +113,13 @@ static uint64_t timed(void (*call)(uint64_t, const struct name *), const uint64_
 int main(int count, char **words)
 {
     must(count == 3 || count == 4, "its usage");
-    uint64_t makes = strtoull(words[1], NULL, 10), many = count == 4 ? strtoull(words[3], NULL, 10) : 0, last = 0, longest = 0;
+    uint64_t makes = strtoull(words[1], NULL, 10), many = count == 4 ? strtoull(words[3], NULL, 10) : 0;
     if (strcmp(words[2], "-") != 0)
         must((folder = open(words[2], O_PATH | O_DIRECTORY)) >= 0, "open");
     else
         must(gb_cache_new(MOST_BUCKETS, MOST_INODES, &pass) == 0, "gb_cache_new");
     struct name *names = read_names(makes);
+    uint64_t last = 0, longest = 0;
     uint64_t *dirs = malloc((many + 1) * sizeof *dirs), in_each = many ? (makes + many - 1) / many : makes;
     dirs[0] = folder < 0 ? GB_ROOT : (uint64_t)folder;
     for (uint64_t at = 0; at < many; at++)
@@ -130,8 +131,9 @@ int main(int count, char **words)
         longest = took > longest ? took : longest;
         last += makes - made <= SOME ? took : 0;
     }
-    uint64_t looked = timed(look, dirs, in_each, names, makes);
-    printf("%llu %llu %llu %llu\n", (unsigned long long)(last / (makes < SOME ? makes : SOME)), (unsigned long long)looked,
-           (unsigned long long)timed(take, dirs, in_each, names, makes), (unsigned long long)longest);
+    last /= makes < SOME ? makes : SOME;
+    uint64_t looked = timed(look, dirs, in_each, names, makes), taken = timed(take, dirs, in_each, names, makes);
+    printf("%llu %llu %llu %llu\n", (unsigned long long)last, (unsigned long long)looked, (unsigned long long)taken,
+           (unsigned long long)longest);
     return 0;
 }

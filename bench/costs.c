@@ -2,9 +2,9 @@
  *
  * usage: costs deep LEVELS | shrink ROWS | names INODES | passes
  *
- * deep: milliseconds of a rename of a directory into one below so many others, and of one that is refused as beneath itself.
- * shrink: milliseconds of a gb_try_shrink of so many rows, and the longest of the portions of a gb_shrink.
- * names: how many names a cache of so many inodes takes, from gb_cache_new and without a limit, and what a name weighs.
+ * deep: milliseconds of a rename of a directory into one below this many others, and of one that is refused as beneath
+ * itself. shrink: milliseconds of a gb_try_shrink of this many rows, and the longest of the portions of a gb_shrink.
+ * names: how many names a cache of this many inodes takes, from gb_cache_new and without a limit, and what one weighs.
  * passes: what a pass weighs, and how long a split takes.
  */
 #include <gigbewu.h>
@@ -151,7 +151,8 @@ static void passes(void)
     double begin = now();
     for (int at = 0; at < PASSES; at++)
         must(gb_pass_split(&pass, &more[at]) == 0, "gb_pass_split");
-    printf("a pass: %.1f KB, a split: %.0f us\n", (double)(memory() - before) / PASSES / 1000, (now() - begin) / PASSES * 1e3);
+    double split = (now() - begin) / PASSES * 1e3;
+    printf("a pass: %.1f KB, a split: %.0f us\n", (double)(memory() - before) / PASSES / 1000, split);
 }
 
 int main(int count, char **words)

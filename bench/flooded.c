@@ -2,11 +2,11 @@
  *
  * usage: flooded [ROUNDS]
  *
- * One thread looks up a file in the root by gb_look, without a pause: alone, and while one, two or three others look up names
- * that nothing has: names of the same bucket of 1,024; names of all other buckets; names of the same bucket, in a cache of
- * their own. Each runs for half a second in each of ROUNDS rounds, 5 unless given. Prints the medians: its look-ups a second
- * in thousands, how many in a hundred of those that it makes alone in that round, how many in a hundred the rows didn't
- * answer, and the look-ups a second of the others.
+ * One thread looks up a file in the root by gb_look, without a pause: alone, and while one, two or three others look up
+ * names that nothing has: names of the same bucket of 1,024; names of all other buckets; names of the same bucket, in a
+ * cache of their own. Each runs for half a second in each of ROUNDS rounds, 5 unless given. Prints the medians: its
+ * look-ups a second in thousands, how many in a hundred of those that it makes alone in that round, how many in a
+ * hundred the rows didn't answer, and the look-ups a second of the others.
  */
 #include <gigbewu.h>
 #include <pthread.h>
@@ -22,7 +22,7 @@ static const double SECONDS = 0.5;
 
 enum way { SAME_BUCKET, OTHER_BUCKETS, OWN_CACHE, WAYS };
 
-static const char *const WAYS_TOLD[WAYS] = {"names of the same bucket", "names of other buckets", "a cache of their own"};
+static const char *const TOLD[WAYS] = {"names of the same bucket", "names of other buckets", "a cache of their own"};
 static const char VICTIM[] = "victim";
 
 struct flooder {
@@ -176,6 +176,6 @@ int main(int count, char **words)
     tell(0, "-", alone, rounds);
     for (int threads = 1; threads <= THREADS; threads++)
         for (enum way way = 0; way < WAYS; way++)
-            tell(threads, WAYS_TOLD[way], beside[threads - 1][way], rounds);
+            tell(threads, TOLD[way], beside[threads - 1][way], rounds);
     return 0;
 }
