@@ -3,15 +3,15 @@
 
 usage: examples/collide.py COUNT [BLOCKS]
 
-The names are of letters and digits, made of BLOCKS blocks of eight bytes: as few as COUNT names need, unless it is given,
-and at most 31, as a name has 255 bytes. If there are more blocks than that, the names begin alike. It takes a few
-milliseconds.
+The names are of letters and digits, made of BLOCKS blocks of eight bytes: as few as COUNT names need, unless it is
+given, and at most 31, as a name has 255 bytes. If there are more blocks than that, the names begin alike. It takes a
+few milliseconds.
 
-64-bit FNV-1a makes h into (h ^ byte) * PRIME for each byte. Here h ^ byte is h + d, where d depends on the byte and on the
-last byte of h alone. So n bytes make h into h * PRIME^n + d1 * PRIME^n + .. + dn * PRIME. Two blocks of n bytes lead from
-one hash to one hash, whatever came before, if e1 * PRIME^(n-1) + .. + en is a multiple of 2^64, where e1 to en say by how
-much their d's differ. Small numbers e are a short vector of a lattice. The two blocks are then searched byte by byte. As
-both leave the last byte of h as it was, any row of such blocks is a name with the same hash.
+64-bit FNV-1a makes h into (h ^ byte) * PRIME for each byte. Here h ^ byte is h + d, where d depends on the byte and on
+the last byte of h alone. So n bytes make h into h * PRIME^n + d1 * PRIME^n + .. + dn * PRIME. Two blocks of n bytes
+make the same of it if e1 * PRIME^(n-1) + .. + en is a multiple of 2^64, where e1 to en are the differences of their
+d's. Small numbers e are a short vector of a lattice. Bytes with these differences are then searched one after the
+other. As both blocks leave the last byte of h as it was, all names of such blocks have one hash.
 """
 import itertools
 import random
@@ -34,7 +34,7 @@ def dot(one, other):
 
 
 def short_vectors():
-    """Short rows of numbers e as above, the shortest first: each is made shorter by multiples of the others, until none is."""
+    """Small numbers e as above, the shortest first: rows that are made shorter by multiples of others, until none is."""
     rows = [[int(at == of) for at in range(LENGTH)] for of in range(LENGTH)]
     for of in range(LENGTH - 1):
         rows[of][-1] = -pow(PRIME, LENGTH - 1 - of, WORD) % WORD
