@@ -34,7 +34,7 @@ def dot(one, other):
 
 
 def short_vectors():
-    """Small numbers e as above, the shortest first: rows that are made shorter by multiples of others, until none is."""
+    """Small numbers e as above, the shortest first: rows are made shorter by multiples of others, until none is."""
     rows = [[int(at == of) for at in range(LENGTH)] for of in range(LENGTH)]
     for of in range(LENGTH - 1):
         rows[of][-1] = -pow(PRIME, LENGTH - 1 - of, WORD) % WORD
