@@ -1,5 +1,6 @@
 /* Makes files of given names, through the library for C or in a folder of the kernel's, and prints in nanoseconds: the
- * average of the last 2,000 makes, of 2,000 look-ups under the lock and of 2,000 removals, and the longest make.
+ * medians of the last 2,000 makes, of 2,000 look-ups under the lock and of 2,000 removals, and what time of the processor
+ * the longest make took.
  *
  * usage: chosen COUNT FOLDER [DIRECTORIES] < NAMES
  *
@@ -26,10 +27,10 @@ struct name {
 static struct gb_pass pass;
 static int folder = -1;
 
-static uint64_t now(void)
+static uint64_t now(clockid_t clock)
 {
     struct timespec time;
-    clock_gettime(CLOCK_MONOTONIC, &time);
+    clock_gettime(clock, &time);
     return (uint64_t)time.tv_sec * 1000000000u + (uint64_t)time.tv_nsec;
 }
 
@@ -98,16 +99,30 @@ static struct name *read_names(uint64_t count)
     return names;
 }
 
-/* The average time of a call for some names, one in each directory or so, from here and there. */
+static int later(const void *one, const void *other)
+{
+    uint64_t first = *(const uint64_t *)one, second = *(const uint64_t *)other;
+    return (first > second) - (first < second);
+}
+
+static uint64_t median(uint64_t *times, uint64_t count)
+{
+    qsort(times, count, sizeof *times, later);
+    return times[count / 2];
+}
+
+/* The median time of a call for some names from here and there. */
 static uint64_t timed(void (*call)(uint64_t, const struct name *), const uint64_t *dirs, uint64_t in_each,
                       const struct name *names, uint64_t count)
 {
-    uint64_t begin = now(), some = count < SOME ? count : SOME;
+    static uint64_t times[SOME];
+    uint64_t some = count < SOME ? count : SOME;
     for (uint64_t done = 0; done < some; done++) {
-        uint64_t at = done * (count / some);
+        uint64_t at = done * (count / some), begin = now(CLOCK_MONOTONIC);
         call(dirs[at / in_each], &names[at]);
+        times[done] = now(CLOCK_MONOTONIC) - begin;
     }
-    return (now() - begin) / some;
+    return median(times, some);
 }
 
 int main(int count, char **words)
@@ -119,21 +134,22 @@ int main(int count, char **words)
     else
         must(gb_cache_new(MOST_BUCKETS, MOST_INODES, &pass) == 0, "gb_cache_new");
     struct name *names = read_names(makes);
-    uint64_t last = 0, longest = 0;
     uint64_t *dirs = malloc((many + 1) * sizeof *dirs), in_each = many ? (makes + many - 1) / many : makes;
+    static uint64_t last[SOME];
+    uint64_t longest = 0;
     dirs[0] = folder < 0 ? GB_ROOT : (uint64_t)folder;
     for (uint64_t at = 0; at < many; at++)
         dirs[at] = make_directory(at);
     for (uint64_t made = 0; made < makes; made++) {
-        uint64_t begin = now();
+        uint64_t used = now(CLOCK_THREAD_CPUTIME_ID), begin = now(CLOCK_MONOTONIC);
         make(dirs[made / in_each], &names[made]);
-        uint64_t took = now() - begin;
-        longest = took > longest ? took : longest;
-        last += makes - made <= SOME ? took : 0;
+        last[made % SOME] = now(CLOCK_MONOTONIC) - begin;
+        used = now(CLOCK_THREAD_CPUTIME_ID) - used;
+        longest = used > longest ? used : longest;
     }
-    last /= makes < SOME ? makes : SOME;
+    uint64_t made = median(last, makes < SOME ? makes : SOME);
     uint64_t looked = timed(look, dirs, in_each, names, makes), taken = timed(take, dirs, in_each, names, makes);
-    printf("%llu %llu %llu %llu\n", (unsigned long long)last, (unsigned long long)looked, (unsigned long long)taken,
+    printf("%llu %llu %llu %llu\n", (unsigned long long)made, (unsigned long long)looked, (unsigned long long)taken,
            (unsigned long long)longest);
     return 0;
 }

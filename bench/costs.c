@@ -5,7 +5,7 @@
  * deep: milliseconds of a rename of a directory into one below this many others, and of one that is refused as beneath
  * itself. shrink: milliseconds of a gb_try_shrink of this many rows, and the longest of the portions of a gb_shrink.
  * names: how many names a cache of this many inodes takes, from gb_cache_new and without a limit, and what one weighs.
- * passes: what a pass weighs, and how long a split takes.
+ * passes: what a pass weighs, and how long a split takes. All times are the processor's.
  */
 #include <gigbewu.h>
 #include <malloc.h>
@@ -24,7 +24,7 @@ static struct gb_gone gone;
 static double now(void)
 {
     struct timespec time;
-    clock_gettime(CLOCK_MONOTONIC, &time);
+    clock_gettime(CLOCK_THREAD_CPUTIME_ID, &time);
     return (double)time.tv_sec * 1e3 + (double)time.tv_nsec / 1e6;
 }
 
