@@ -138,7 +138,7 @@ struct gb_gone {
  * is how many may live at once, the root among them, from 1 to 1,048,576. A name that is looked up takes a row: with
  * twice as many rows as such names 4 look-ups in 100 miss, with four times as many 4 in 1,000. A row weighs 380 bytes,
  * and 64 more once it is filled; if its name has 32 bytes or more, also these and some 45 besides. In the tree a name
- * weighs some 70 bytes, and one of more than 16 bytes some 80 besides its own. There may be twice as many names as
+ * weighs some 70 bytes, and one of more than 16 bytes some 90 besides its own. There may be twice as many names as
  * inodes, in all directories together.
  * The pass must be blank, and no other thread may have its address yet.
  * Proved: the cache is of these sizes, and `blank` is its first pass then.
