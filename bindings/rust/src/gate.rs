@@ -42,7 +42,7 @@ impl Gate {
     }
 
     /// Wakes a sleeper, if there is one, and all while a ticket is out.
-    fn call(&self) {
+    pub(crate) fn call(&self) {
         if self.sleepers.load(SeqCst) == 0 {
             return;
         }

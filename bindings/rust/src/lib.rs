@@ -36,7 +36,11 @@
 //!
 //! A cache of 1,024 buckets weighs 1.5 MB: a row takes 380 bytes, and 64 more once it is filled, and four rows are a
 //! bucket. A [`Pass`] weighs 43 KB and takes 20 to 70 microseconds to make: keep one for each thread, not one for each
-//! request. Beside the call of the library, this crate copies the answer alone; [`Pass::readlink`], [`Pass::list`] and
+//! request. A cache keeps spare ones, which [`Cache::pass`] splits: from the start as many as the machine runs threads at
+//! once, up to 16. Passes that were dropped are handed out again, which takes some 0.1 microseconds; no more than 64 are
+//! there at once.
+//!
+//! Beside the call of the library, this crate copies the answer alone; [`Pass::readlink`], [`Pass::list`] and
 //! [`Pass::read_dir`] take memory for it. A call that may wait also loads two numbers before it and one after it, which
 //! tell whether threads sleep.
 //!
@@ -86,6 +90,7 @@ mod names;
 mod pass;
 mod path;
 mod raw;
+mod spares;
 
 pub use answer::{Done, Found, Gone, Kind, Made, Stat};
 pub use cache::Cache;

@@ -4,31 +4,61 @@ use crate::answer::{Done, Made};
 use crate::error::Error;
 use crate::gate::Gate;
 use crate::raw;
+use crate::spares::Spares;
 use std::os::raw::{c_char, c_int};
-use std::sync::{Arc, Mutex, PoisonError};
-use std::{fmt, ptr};
+use std::sync::Arc;
+use std::{fmt, mem};
 
 /// How many rows [`Pass::shrink`] empties under one hold of the lock, as the header's `GB_PORTION`.
 const PORTION: u64 = 1024;
 
-/// What the passes of a cache share.
-#[derive(Default)]
+/// What a cache shares with its passes. Each keeps it until its last call has returned: so all calls come before its end.
 pub(crate) struct Shared {
     pub(crate) gate: Gate,
-    closing: Mutex<()>,
+    pub(crate) spares: Spares,
 }
 
-/// A thread's way into a cache. It may move to another thread. It ends as it is dropped.
+impl Shared {
+    /// With the first pass of a cache, and `more`.
+    pub(crate) fn of(first: raw::Pass, more: usize) -> Shared {
+        Shared {
+            gate: Gate::default(),
+            spares: Spares::of(first, more),
+        }
+    }
+
+    /// Opens a blank pass. A thread that finds no spare waits for one, and makes one more, since so many ask at once.
+    fn open(&self, blank: &mut raw::Pass) -> c_int {
+        let mut answer = self.spares.open(blank);
+        if answer == raw::BUSY {
+            answer = self.gate.answer(|| self.spares.open(blank));
+            if answer == 0 {
+                self.spares.keep_one_more(blank);
+            }
+        }
+        self.gate.call();
+        answer
+    }
+
+    fn end(&self, pass: raw::Pass) {
+        self.spares.give(pass);
+        self.gate.call();
+    }
+}
+
+/// A thread's way into a cache. It may move to another thread.
 ///
-/// Making one takes 43 KB and 20 to 70 microseconds: keep one for each thread.
+/// A new one takes 43 KB and 20 to 70 microseconds: keep one for each thread.
 ///
 /// # How it ends
 ///
-/// The last pass that ends takes the cache with it, and frees the tree and all memory. What other threads did with the
-/// cache has to come before that, also if nobody waits for these threads. It does: a thread drops a pass behind its calls
-/// with it, and the passes of one cache are closed one after the other, by a lock that only closing takes. So before the
-/// last one is closed, all others have been, and all their calls have returned. A pass that is [joined](Pass::join) ends
-/// before the pass that takes it in does.
+/// A pass that is dropped goes back to its cache, which hands it to the next thread that [asks](crate::Cache::pass). If the
+/// cache has 64 of them already, the pass is closed.
+///
+/// Once the [`Cache`](crate::Cache) and all passes are dropped, the cache ends: the passes that came back are closed, and
+/// the tree and all memory are freed. What threads did with the cache has to come before that, also if nobody waits for
+/// these threads. It does: a call borrows its pass, and a pass keeps the cache from ending until it is dropped. A pass that
+/// is [joined](Pass::join) is closed before the pass that takes it in is.
 ///
 /// ```
 /// use gigbewu::{Cache, ROOT};
@@ -64,17 +94,18 @@ pub(crate) fn done(answer: c_int, found: raw::Found) -> Result<raw::Found, Error
 }
 
 impl Pass {
-    pub(crate) fn blank(shared: &Arc<Shared>) -> Pass {
+    fn blank(shared: &Arc<Shared>) -> Pass {
         Pass {
-            raw: raw::Pass {
-                at: ptr::null_mut(),
-            },
+            raw: raw::Pass::blank(),
             shared: shared.clone(),
         }
     }
 
-    pub(crate) fn raw(&mut self) -> &mut raw::Pass {
-        &mut self.raw
+    /// A pass that no other thread has.
+    pub(crate) fn spare(shared: &Arc<Shared>) -> Result<Pass, Error> {
+        let mut pass = Pass::blank(shared);
+        let answer = shared.open(&mut pass.raw);
+        done(answer, raw::Found::default()).map(|_| pass)
     }
 
     /// Makes a call once. `call` hands pointers on that are good for its length.
@@ -233,15 +264,11 @@ impl fmt::Debug for Pass {
 }
 
 impl Drop for Pass {
-    /// The header wants all that other threads did with the cache to come before the close that frees it. Under this lock
-    /// each close comes before the next one, and each thread's calls come before its own close.
     fn drop(&mut self) {
-        let _one_by_one = self
-            .shared
-            .closing
-            .lock()
-            .unwrap_or_else(PoisonError::into_inner);
-        // SAFETY: nobody else has the pass. A blank one is refused.
-        unsafe { raw::gb_close(&mut self.raw) };
+        let pass = mem::replace(&mut self.raw, raw::Pass::blank());
+        // One that was joined to another is blank.
+        if !pass.at.is_null() {
+            self.shared.end(pass);
+        }
     }
 }

@@ -2,6 +2,7 @@
 
 use std::ffi::c_void;
 use std::os::raw::{c_char, c_int};
+use std::ptr;
 
 pub const BUSY: c_int = -1;
 pub const AGAIN: c_int = -2;
@@ -13,6 +14,13 @@ pub const NOT_YET: c_int = -8;
 #[repr(C)]
 pub struct Pass {
     pub at: *mut c_void,
+}
+
+impl Pass {
+    pub fn blank() -> Pass {
+        let at = ptr::null_mut();
+        Pass { at }
+    }
 }
 
 #[repr(C)]

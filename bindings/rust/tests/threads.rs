@@ -15,26 +15,51 @@ fn what_may_move_and_be_shared() {
     is_shared::<Error>();
 }
 
-/// Threads that ask one cache for passes at once all get theirs.
+/// Threads that ask one cache for passes at once all get theirs, and each is a pass of its own.
 #[test]
 fn threads_ask_for_passes() -> Result<(), Error> {
-    const PASSES: u64 = 50;
-    let cache = Cache::new(64, 100)?;
-    cache.pass()?.mkdir(ROOT, "/a")?;
-    let begin = Barrier::new(THREADS);
-    let ask = || {
+    const ASKING: u64 = 8;
+    const PASSES: u64 = 100;
+    let cache = Cache::new(1_024, 2_000)?;
+    let begin = Barrier::new(ASKING as usize);
+    let ask = |thread| {
         begin.wait();
-        let looked = |_| cache.pass()?.look(ROOT, "/a", Follow::Yes);
-        (0..PASSES).map(looked).collect::<Result<Vec<_>, _>>()
+        let passes = (0..PASSES).map(|_| cache.pass()).collect::<Result<_, _>>();
+        let mut passes: Vec<Pass> = passes.unwrap();
+        begin.wait();
+        for (number, pass) in passes.iter_mut().enumerate() {
+            pass.create(ROOT, format!("{thread}_{number}")).unwrap();
+        }
     };
     thread::scope(|threads| {
-        let asking: Vec<_> = (0..THREADS).map(|_| threads.spawn(ask)).collect();
-        for thread in asking {
-            let found = thread.join().unwrap()?;
-            assert!(found.iter().all(|found| (found.number, found.at) == (2, 1)));
+        for thread in 0..ASKING {
+            let ask = &ask;
+            threads.spawn(move || ask(thread));
         }
-        Ok(())
-    })
+    });
+    assert_eq!(cache.pass()?.learn(0)?, ASKING * PASSES);
+    assert_eq!(cache.pass()?.list(ROOT, "/")?.iter().count(), 800);
+    Ok(())
+}
+
+/// Passes that are taken and dropped over and over, on caches that are new each time.
+#[test]
+fn threads_take_passes_and_drop_them() -> Result<(), Error> {
+    const ASKING: usize = 8;
+    for _ in 0..20 {
+        let cache = Cache::new(64, 100)?;
+        cache.pass()?.mkdir(ROOT, "/a")?;
+        let begin = Barrier::new(ASKING);
+        let ask = || {
+            begin.wait();
+            for _ in 0..500 {
+                let found = cache.pass().unwrap().look(ROOT, "/a", Follow::Yes);
+                assert_eq!(found.map(|it| (it.number, it.at)), Ok((2, 1)));
+            }
+        };
+        thread::scope(|threads| (0..ASKING).for_each(|_| drop(threads.spawn(ask))));
+    }
+    Ok(())
 }
 
 /// Threads that take the lock at once get all their changes done.

@@ -1,6 +1,5 @@
--- Lemmas about reads, look-ups of links, names in known directories, and what a change takes away.
+-- Lemmas about reads, look-ups of links, and what a change takes away.
 pub mod Tellings
 pub mod ReadLinks
 pub mod Taken
 pub mod Takes
-pub mod LastNames

@@ -47,20 +47,6 @@ refused_at : (t : Tree) (found : Result Target Refusal) → ((place : Target) �
 refused_at t (Err refusal) lives n k apart e = absurd cc
 refused_at t (Ok place) lives n k apart e = let kind : place.1 ≡ k = cc in ap (by_text t) (no_text place.0 (inode_of t place.0) place (lives place refl) (λ is. apart (sym kind ∙ is)))
 
--- a reply that finds nothing
-abbrev pub IsNoPlace : Answer → Type 0
-IsNoPlace (Found number kind) = ⊥
-IsNoPlace (Done number) = Unit {0}
-IsNoPlace Nothing = Unit {0}
-IsNoPlace (Bytes bytes) = Unit {0}
-IsNoPlace (Names names) = Unit {0}
-IsNoPlace (Counted number kind count) = Unit {0}
-IsNoPlace (Refused number) = Unit {0}
-
-refused_too : (t : Tree) (found : Result Target Refusal) (looked : Answer) → IsNoPlace looked → looked_by t found ≡ looked → read_by t found ≡ looked
-refused_too t (Ok place) looked nowhere e = absurd (subst IsNoPlace (sym e) nowhere)
-refused_too t (Err refusal) looked nowhere e = e
-
 pub read_refused : WalksLeadToTheLiving → KeepsRunsWellFormed → IsWellFormed empty_tree → (base : ℕ) (text : List ℕ) (n : ℕ) (k : Kind) → k ≢ Link → ReadsAs base text (Found n k) (Refused (refusal_number Invalid))
 read_refused living runs opened base text n k apart limit history e = let t = tree_of limit history in
     refused_at t (walk_on t base text follow.No) (λ place found. living t base text follow.No place (runs limit empty_tree history opened) found) n k apart e
@@ -73,9 +59,6 @@ no_link k (inr file) e = let no : File ≡ Link = sym file ∙ e in absurd cc
 pub read_invalid : WalksLeadToTheLiving → KeepsRunsWellFormed → IsWellFormed empty_tree → (base : ℕ) (text : List ℕ) (n : ℕ) (k : Kind) → k ≢ Link → (looked : Answer) (number : ℕ) → looked ≡ Found n k → number ≡ refusal_number Invalid
     → ReadsAs base text looked (Refused number)
 read_invalid living runs opened base text n k apart looked number is told = subst (λ m. ReadsAs base text looked (Refused m)) (sym told) (subst (λ a. ReadsAs base text a (Refused (refusal_number Invalid))) (sym is) (read_refused living runs opened base text n k apart))
-
-pub read_too : (base : ℕ) (text : List ℕ) (looked : Answer) → IsNoPlace looked → ReadsAs base text looked looked
-read_too base text looked nowhere limit history e = let t = tree_of limit history in refused_too t (walk_on t base text follow.No) looked nowhere e
 
 -- what was recorded of the look-up, with what is told by it
 reads_by : (base : ℕ) (text : List ℕ) (buckets : ℕ) (before now : View) (found : Stamped) (told : rust_link.FastLink) → TellsOf base text found told → Keeps base text follow.No buckets before now (fasts.Done found)

@@ -1,8 +1,7 @@
 -- What a change takes away: what stood at the name that goes, or that another inode gets.
+use Rattle.std.specs.Result.{result_ok}
 use Rattle.std.specs.Prelude.{◌≡◌, ℕ, ◌==◌, ◌||◌, List, Bool, Option, Some, None, option_map, if◌then◌else◌, Result, Ok, Err, IsTrue}
-use Rattle.dc_names.specs.declared.refusal.Refusal.{Refusal}
 use Rattle.dc_plain.specs.Facts.{Target}
-use Rattle.dc_plain.specs.Facts.Label.{Entry}
 use Rattle.dc_plain.specs.IsWellFormed.{IsWellFormed}
 use Rattle.dc_plain.specs.Operations.{same_inode}
 use Rattle.dc_plain.specs.Refusals.{walk_on}
@@ -10,13 +9,11 @@ use Rattle.dc_plain.specs.Requests.{Request, Answer, answer_of}
 use Rattle.dc_plain.specs.Requests.Answer.{Found, Done, Nothing, Bytes, Names, Counted, Refused}
 use Rattle.dc_plain.specs.Requests.Request.{Look, Readlink, Stat, List_names, Mkdir, Create, Hard_link, Symlink, Unlink, Rmdir, Rename}
 use Rattle.dc_plain.specs.Resolution.{is_directory}
-use Rattle.dc_plain.specs.Trees.{Tree, entry_of, names_of, target_at}
+use Rattle.dc_plain.specs.Trees.{Tree, names_of, target_at}
 use Rattle.dc_plain.specs.declared.call.Follow.TheVariants as follow
 use Rattle.dc_plain.specs.declared.call.Reply.{Reply}
 use Rattle.dc_plain.specs.declared.call.Stamped.{Stamped}
 use Rattle.dc_events.specs.Standing.{tree_of}
-use Rattle.dc_ops.specs.Knowing.{IsKnownOn}
-use Rattle.dc_ops.specs.declared.known.Known.{Known}
 use Rattle.dc_table.specs.Passes as seats
 use Rattle.dc_table.specs.Passes.{Pass as Seat}
 use Rattle.dc_table.specs.Shares.{HadOnce}
@@ -27,18 +24,9 @@ use Rattle.dc_cache.specs.Passes.{known, share}
 use Rattle.dc_cache.specs.declared.cache.Pass.{Pass}
 use Rattle.dc_cache.specs.declared.gone.Gone.{Gone}
 
--- what a walk found, if anything
-abbrev pub found : Result Target Refusal → Option Target
-found (Ok place) = Some place
-found (Err refusal) = None
-
 -- what a path leads to, if anything; a last link isn't followed
 abbrev pub leads_to : Tree → ℕ → List ℕ → Option Target
-leads_to t base path = found (walk_on t base path follow.No)
-
--- a path is a name in this known directory: where that name leads, it does
-abbrev pub IsNameIn : Known → ℕ → List ℕ → List ℕ → Type 0
-IsNameIn known base path name = (t : Tree) → IsKnownOn t known → leads_to t base path ≡ entry_of t known.dir (Entry name)
+leads_to t base path = result_ok (walk_on t base path follow.No)
 
 -- what stands where an inode is moved to, unless it is that inode
 abbrev pub replaced : Option Target → Option Target → Option Target

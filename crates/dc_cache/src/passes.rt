@@ -12,7 +12,7 @@ ghost use Rattle.dc_table.specs.Ends.{Ends};
 ghost use Rattle.dc_table.specs.Shares.{IsWhole, first_known, kept_half, new_half, both};
 
 use crate::cache::{Cache, Ended, NotYet, Pass};
-use dc_table::{Counts, MakeFault, Shared, Wakes};
+use dc_table::{Counts, MakeFault, Pass as Seat, Shared, Wakes};
 use dc_walk::Room;
 use std::alloc::Global;
 use std::marker::PhantomData;
@@ -27,12 +27,7 @@ impl<W: Wakes> Cache<W> {
         ensures size { (result ≡ Err BadSize) ↔ (are_right buckets max_inodes ≡ false) }
     {
         let (shared, seat) = Shared::new(alloc, buckets, max_inodes)?;
-        let cache = Cache {
-            shared,
-            wakes: PhantomData,
-        };
-        let room = Room::new();
-        Ok((cache, Pass { seat, room }))
+        Ok(Cache::over(shared, seat))
     }
 
     /// A cache as `new` makes it, with rows for as many names as the work looks up: `buckets` may be any
@@ -66,12 +61,20 @@ impl<W: Wakes> Cache<W> {
         ensures size { (result ≡ Err BadSize) ↔ (fit_a_table buckets max_inodes ≡ false) }
     {
         let (shared, seat) = Shared::with_names(alloc, buckets, max_inodes, max_names)?;
+        Ok(Cache::over(shared, seat))
+    }
+
+    /// The cache of a table, and a pass with this seat at it.
+    fn over(shared: Shared, seat: Seat) -> (Cache<W>, Pass)
+        ensures shared { result.0.shared ≡ shared.entry }
+        ensures seat { result.1.seat ≡ seat.entry }
+    {
         let cache = Cache {
             shared,
             wakes: PhantomData,
         };
         let room = Room::new();
-        Ok((cache, Pass { seat, room }))
+        (cache, Pass { seat, room })
     }
 
     /// What the cache has counted so far. The `sleeps` of a `Sleepless` are 0.

@@ -1,4 +1,4 @@
--- Lemmas about plans, what they touch, and what they leave of a tree.
+-- Lemmas about plans, what they touch, what they leave of a tree, and names in known directories.
 pub mod Rooms
 pub mod Goes
 pub mod Looks
@@ -7,3 +7,4 @@ pub mod Renamed
 pub mod Distinct
 pub mod Alters
 pub mod Knowing
+pub mod LastNames

@@ -20,4 +20,4 @@ pub use effects::carry;
 pub use finder::StoreFinder;
 pub use known::Known;
 pub use plans::{Moved, Plan};
-pub use reads::{ask, look_by, seek};
+pub use reads::{ask, leads_to, look_by, seek};

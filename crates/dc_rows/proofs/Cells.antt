@@ -1,8 +1,9 @@
 -- The words of a row after a write.
-use Rattle.std.proofs.Common.{◌≡◌, ◌≢◌, ℕ, zero, suc, ◌+◌, ◌<◌, ◌≤◌, List, ◌∷◌, length, set, get_or, refl, sym, ap, ap₂, ◌∙◌, arith, get_or-set_other, get_or-set_same, length-set, Option}
+use Rattle.std.proofs.Common.{◌≡◌, ◌≢◌, ℕ, zero, suc, ◌+◌, ◌<◌, ◌≤◌, List, ◌∷◌, length, set, get_or, refl, sym, ap, ap₂, ◌∙◌, arith, get_or-set_other, get_or-set_same, length-set, Bool, true, false, if◌then◌else◌, Option, None}
 use Rattle.dc_plain.specs.Facts.{Fact}
 use Rattle.dc_row.specs.Spelling.{Spells}
 use Rattle.dc_names.specs.declared.limits.TheConstants.{ROW_WORDS}
+use Rattle.dc_row.specs.declared.TheConstants.{EMPTY_ROW}
 use Rattle.dc_events.specs.Rows.{base_of, count, words_from, row_words}
 use Rattle.dc_table.specs.Rows.{cell}
 use Rattle.dc_rows.specs.Rows.{Writing, Wrote}
@@ -37,16 +38,13 @@ spells_too words own row fact s same = record {
   spelled = λ i some few. at_cell words row i few ∙ (same i some few ∙ s.spelled i some few);
 }
 
+-- and none, if it was emptied
+pub spells_none : (words : List ℕ) (row : ℕ) (more : Bool) → Spells EMPTY_ROW None → ((i : ℕ) → 0 < i → i < ROW_WORDS → cell words row i ≡ get_or (if more then EMPTY_ROW else EMPTY_ROW) i 0) → Spells (row_words words row) None
+spells_none words row true empty own = spells_too words EMPTY_ROW row None empty own
+spells_none words row false empty own = spells_too words EMPTY_ROW row None empty own
+
 pub count_now : (words : List ℕ) (rows row x : ℕ) → row < rows → length words ≡ base_of rows → count (set words (base_of row) x) row ≡ x
 count_now words rows row x inside size = get_or-set_same words (base_of row) x 0 (omega arith)
-
-pub opened : (before after : List ℕ) (rows row : ℕ) (words : List ℕ) → row < rows → length before ≡ base_of rows → Writing before after row words ROW_WORDS → Wrote before (set after (base_of row) (count after row + 1)) row words 1
-opened before after rows row words inside size g = let len = g.size in let n : ℕ = count after row + 1 in let z : base_of row + 0 ≡ base_of row = omega arith in record {
-  size = length-set after (base_of row) n ∙ g.size;
-  others = λ r ne. words_from_set after (base_of r) ROW_WORDS (base_of row) n (λ j a b e. ne (omega arith)) ∙ g.others r ne;
-  count = count_now after rows row n inside (omega arith) ∙ ap (λ m. m + 1) g.count;
-  own = λ i some few. get_or-set_other after (base_of row) (base_of row + i) n 0 (λ e. omega arith) ∙ g.own i some few;
-}
 
 -- one row's count changes
 pub row_raised : (words : List ℕ) (row r x : ℕ) → r ≢ row → row_words (set words (base_of row) x) r ≡ row_words words r

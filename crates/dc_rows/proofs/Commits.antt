@@ -1,9 +1,9 @@
 -- A commit while the rows of the touched keys are odd.
-use Rattle.std.proofs.Common.{◌≡◌, ℕ, ◌<◌, List, length, get_or, Option, Some, None, refl, sym, ap, ◌∙◌, subst, arith, suc-ne-zero}
+use Rattle.std.proofs.Common.{◌≡◌, ℕ, ◌<◌, List, length, get_or, Option, Some, None, refl, sym, ap, ◌∙◌, subst, arith}
 use Rattle.std.specs.List.{Contains}
 use Rattle.std.proofs.Math.Logic.{∥∥₁_elim, ∥∥₁_map}
 use mathlib.Core.HLevel.{⊥_prop}
-use Rattle.std.proofs.lemmas.Option.{slice_get-get_or}
+use Rattle.std.proofs.lemmas.Option.{none-some, same_Some, slice_get-get_or}
 use Rattle.dc_plain.specs.Facts.{Fact, Key, key_of}
 use Rattle.dc_plain.specs.FactLaws.{UntouchedStay}
 use Rattle.dc_plain.specs.Laws.{TouchesTheListed}
@@ -24,28 +24,19 @@ use Rattle.dc_rows.specs.Rows.{Between, Stage}
 use Rattle.dc_rows.proofs.Narrow.{rest_narrow}
 use Rattle.dc_rows.proofs.Shuts.{odd_even}
 
-some_fact : (a b : Option Fact) → Some a ≡ Some b → a ≡ b
-some_fact a b e = ap (λ (o : Option (Option Fact)). elim o [ None ↦ a | Some x ↦ x ]) e
-
-none_fact : (fact : Fact) → None ≡ Some fact → ⊥
-none_fact fact e = suc-ne-zero 0 (ap (λ (o : Option Fact). elim o [ None ↦ 1 | Some x ↦ 0 ]) e)
-
-same_fact : (a b : Fact) → Some a ≡ Some b → a ≡ b
-same_fact a b e = ap (λ (o : Option Fact). elim o [ None ↦ a | Some x ↦ x ]) e
-
 -- words spell one fact
 pub one_fact : SpelledIsRead → (words : List ℕ) (a b : Option Fact) → Spells words a → Spells words b → a ≡ b
-one_fact read words a b s t = some_fact a b (sym (read words a s) ∙ read words b t)
+one_fact read words a b s t = same_Some a b (sym (read words a s) ∙ read words b t)
 
 pub among : (keys : List Key) (n : ℕ) → n ≡ length keys → (key : Key) → Contains keys key → Between 0 n keys key
 among keys n len key c = let l = c.1 in (c.0, omega arith, omega arith, slice_get-get_or keys c.0 key c.1 ∙ ap Some c.2)
 
 -- an even row tells of none of the keys
 by_slot : SpelledIsRead → (t : Tree) (shut : Key → Type 0) (row : List ℕ) (slot : Slot) → ((key : Key) → slot ≡ Held key → shut key → IsOdd row) → IsEven row → FitsSlot t row slot → (fact : Fact) → Spells row (Some fact) → shut (key_of fact) → ⊥
-by_slot read t shut row Free odd even fits fact s among = none_fact fact (one_fact read row None (Some fact) fits s)
-by_slot read t shut row Retired odd even fits fact s among = none_fact fact (one_fact read row None (Some fact) fits s)
+by_slot read t shut row Free odd even fits fact s among = none-some fact (one_fact read row None (Some fact) fits s)
+by_slot read t shut row Retired odd even fits fact s among = none-some fact (one_fact read row None (Some fact) fits s)
 by_slot read t shut row (Held key) odd even fits fact s among =
-    let same : fits.fact ≡ fact = same_fact fits.fact fact (one_fact read row (Some fits.fact) (Some fact) fits.spelled s) in
+    let same : fits.fact ≡ fact = same_Some fits.fact fact (one_fact read row (Some fits.fact) (Some fact) fits.spelled s) in
     odd_even (get_or row 0 0) (odd key refl (subst shut (ap key_of (sym same) ∙ fits.about) among)).0 even
 
 -- what an even row tells stays true

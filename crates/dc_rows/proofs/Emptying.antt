@@ -15,7 +15,7 @@ use Rattle.dc_rows.specs.Guards.{rows_at}
 use Rattle.dc_rows.specs.Narrow.{HasFrom, most_words}
 use Rattle.dc_rows.specs.RowChanges.{EmptiesRow, UnpinsRow}
 use Rattle.dc_rows.proofs.Held.{home_is, home_on, rest_of}
-use Rattle.dc_rows.proofs.Placed.{has_emptied, keyed_within, keyed_open, pinned_keyed, placed_empty}
+use Rattle.dc_rows.proofs.Placed.{has_emptied, keyed_within, pinned_keyed, placed_empty}
 use Rattle.dc_rows.proofs.Pinning.{unpins_one, unpins_last}
 use Rattle.dc_rows.proofs.SameRows.{empties_row}
 
@@ -40,7 +40,7 @@ module _ (p : Pass) {k g : Guarded} (same : k ≡ g) (home : Home (known p) g) (
 
     pub home_emptied : Home (known q) y
     home_emptied = home_on p q k y y.shrinker (home_is p same home) w (record { tree = t.tree; clock = t.clock; same_limit = t.same_limit })
-        (placed_empty _ _ _ k.index k.shrinker (rest_of p k (home_is p same home)) row (keyed_within k.index row key) (keyed_open _ key) nothing _ _ _ e sets (ap (λ (u : Listing). u.rows) (stay ∙ gone)))
+        (placed_empty _ _ _ k.index k.shrinker (rest_of p k (home_is p same home)) row (keyed_within k.index row key) nothing _ _ _ e sets (ap (λ (u : Listing). u.rows) (stay ∙ gone)))
 
     pub row_emptied : EmptiesRow row (rows_at p g) (rows_at q y)
     row_emptied = subst (λ (x : Guarded). EmptiesRow row (rows_at p x) (rows_at q y)) same (empties_row _ _ row (keyed_within k.index row key) nothing e (stay ∙ gone) sets)

@@ -7,14 +7,11 @@ use Rattle.dc_shrink.specs.Uses.{SetsUse}
 use Rattle.dc_table.specs.RowStates.{RowState}
 use Rattle.dc_rows.specs.Filling.{Redone, Emptied}
 use Rattle.dc_rows.specs.RowChanges.{OnlyRow}
-use Rattle.dc_rows.proofs.Lists.{without_twice, without_first, pins_unused, pins_dropped}
+use Rattle.dc_rows.proofs.Lists.{without_twice, without_first, pins_dropped}
 
 -- a row that is in use now, and was out of use between
 pub used_since : {was between now : Listing} {row : ℕ} → SetsUse row false was between → SetsUse row true was now → SetsUse row true between now
 used_since left taken = record { here = taken.here; others = λ r ne. taken.others r ne ∙ sym (left.others r ne) }
-
-pub no_pins : (was used : Listing) (row : ℕ) → SetsUse row false was used → pins_of used row ≡ 0
-no_pins was used row unused = pins_unused used row unused.here
 
 module _ (s t : RowState) (row : ℕ) where
   other_slot : (slot : Slot) → t.slots ≡ slice_set s.slots row slot → (r : ℕ) → r ≢ row → slot_of t.slots r ≡ slot_of s.slots r

@@ -5,61 +5,20 @@ use Rattle.std.specs.Option.{unwrap_or}
 use Rattle.std.specs.Cmp.{nat_cmp_total, nat_eq_equiv, unsigned_tied}
 use Rattle.std.specs.FinMap as finmap
 use Rattle.std.specs.FinMap.{get-insert, get-remove}
-use Rattle.std.proofs.lemmas.Bool.{eqb-true, eq-eqb, ne_eqb, or_parts}
+use Rattle.std.proofs.lemmas.Bool.{eqb-true, eq-eqb, ne_eqb, or_parts, or_right}
+use Rattle.std.proofs.lemmas.Option.{none-some, same_Some}
 use Rattle.std.proofs.lemmas.Map.Keys.{IsDistinct-head, IsDistinct-tail}
 use Rattle.dc_shrink.specs.Listings.{Listing, is_in, is_used, pins_of, without, dropped, with_pins}
-
--- a test that the row fails
-pub filter_past : (p : ℕ → Bool) (row : ℕ) → p row ≡ false → (xs : List ℕ) → filter p (without row xs) ≡ filter p xs
-filter_past p row fails [] = refl
-filter_past p row fails (x ∷ xs) = let e = filter_past p row fails xs in (elim (nat_eq row x) as (λ a. nat_eq row x ≡ a → filter p (cond (not a) (x ∷ without row xs) (without row xs)) ≡ cond (p x) (x ∷ filter p xs) (filter p xs)) [
-  | true ↦ λ s. let same : p x ≡ false = subst (λ y. p y ≡ false) (eqb-true row x s) fails in rw same e
-  | false ↦ λ s. ap (λ r. cond (p x) (x ∷ r) r) e
-]) refl
-
-pub without_twice : (row : ℕ) (xs : List ℕ) → without row (without row xs) ≡ without row xs
-without_twice row xs = filter_past (λ r. not (nat_eq row r)) row (ap not (eq-eqb row row refl)) xs
-
-pub without_first : (row : ℕ) (xs : List ℕ) → without row (row ∷ xs) ≡ without row xs
-without_first row xs = rw (eq-eqb row row refl) refl
-
--- a row that isn't there
-pub without_absent : (row : ℕ) (xs : List ℕ) → is_in xs row ≡ false → without row xs ≡ xs
-without_absent row [] h = refl
-without_absent row (x ∷ xs) h = (elim (nat_eq row x) as (λ a. (a || is_in xs row) ≡ false → cond (not a) (x ∷ without row xs) (without row xs) ≡ x ∷ xs) [
-  | true ↦ λ s. cc
-  | false ↦ λ s. ap (λ r. x ∷ r) (without_absent row xs s)
-]) h
-
-or_second : (a b : Bool) → b ≡ true → (a || b) ≡ true
-or_second true b e = refl
-or_second false b e = e
 
 pub in_first : (x : ℕ) (xs : List ℕ) → is_in (x ∷ xs) x ≡ true
 in_first x xs = rw (eq-eqb x x refl) refl
 
 pub in_later : (x : ℕ) (xs : List ℕ) (r : ℕ) → is_in xs r ≡ true → is_in (x ∷ xs) r ≡ true
-in_later x xs r e = or_second (nat_eq r x) (is_in xs r) e
-
-pub in_take : (n : ℕ) (xs : List ℕ) (r : ℕ) → is_in (take n xs) r ≡ true → is_in xs r ≡ true
-in_take zero xs r e = absurd (true≢false (sym e))
-in_take (suc n) [] r e = e
-in_take (suc n) (x ∷ xs) r e = (elim (nat_eq r x) as (λ a. (a || is_in (take n xs) r) ≡ true → (a || is_in xs r) ≡ true) [
-  | true ↦ λ s. refl
-  | false ↦ λ s. in_take n xs r s
-]) e
+in_later x xs r e = or_right (nat_eq r x) (is_in xs r) e
 
 pub all_pass : (p : ℕ → Bool) (xs : List ℕ) → ((r : ℕ) → is_in xs r ≡ true → p r ≡ true) → filter p xs ≡ xs
 all_pass p [] h = refl
 all_pass p (x ∷ xs) h = rw (h x (in_first x xs)) (ap (λ r. x ∷ r) (all_pass p xs (λ r e. h r (in_later x xs r e))))
-
--- all pass but the row
-pub all_but : (p : ℕ → Bool) (row : ℕ) → p row ≡ false → (xs : List ℕ) → ((r : ℕ) → is_in xs r ≡ true → r ≢ row → p r ≡ true) → filter p xs ≡ without row xs
-all_but p row fails [] h = refl
-all_but p row fails (x ∷ xs) h = let e = all_but p row fails xs (λ r i. h r (in_later x xs r i)) in (elim (nat_eq row x) as (λ a. nat_eq row x ≡ a → cond (p x) (x ∷ filter p xs) (filter p xs) ≡ cond (not a) (x ∷ without row xs) (without row xs)) [
-  | true ↦ λ s. let same : p x ≡ false = subst (λ y. p y ≡ false) (eqb-true row x s) fails in rw same e
-  | false ↦ λ s. let passes : p x ≡ true = h x (in_first x xs) (λ q. true≢false (sym (eq-eqb row x (sym q)) ∙ s)) in rw passes (ap (λ r. x ∷ r) e)
-]) refl
 
 -- a test that is stricter than another
 pub filter_then : (p q : ℕ → Bool) → ((r : ℕ) → q r ≡ true → p r ≡ true) → (xs : List ℕ) → filter q (filter p xs) ≡ filter q xs
@@ -72,21 +31,45 @@ filter_then p q stricter (x ∷ xs) = let e = filter_then p q stricter xs in (el
   ]) refl
 ]) refl
 
-some_one : (a b : ℕ) → Some a ≡ Some b → a ≡ b
-some_one a b e = ap (λ (o : Option ℕ). elim o [ None ↦ a | Some x ↦ x ]) e
+-- a test that the row fails
+pub filter_past : (p : ℕ → Bool) (row : ℕ) → p row ≡ false → (xs : List ℕ) → filter p (without row xs) ≡ filter p xs
+filter_past p row fails = filter_then (λ r. not (nat_eq row r)) p (λ r e. ap not (ne_eqb row r (λ same. true≢false (sym e ∙ (ap p (sym same) ∙ fails)))))
 
-none_one : (a : ℕ) → None ≡ Some a → ⊥
-none_one a e = cc
+pub without_twice : (row : ℕ) (xs : List ℕ) → without row (without row xs) ≡ without row xs
+without_twice row xs = filter_past (λ r. not (nat_eq row r)) row (ap not (eq-eqb row row refl)) xs
+
+pub without_first : (row : ℕ) (xs : List ℕ) → without row (row ∷ xs) ≡ without row xs
+without_first row xs = rw (eq-eqb row row refl) refl
+
+-- a row that isn't there
+pub without_absent : (row : ℕ) (xs : List ℕ) → is_in xs row ≡ false → without row xs ≡ xs
+without_absent row xs out = all_pass (λ r. not (nat_eq row r)) xs (λ r e. ap not (ne_eqb row r (λ same. true≢false (sym e ∙ (ap (is_in xs) (sym same) ∙ out)))))
+
+pub in_take : (n : ℕ) (xs : List ℕ) (r : ℕ) → is_in (take n xs) r ≡ true → is_in xs r ≡ true
+in_take zero xs r e = absurd (true≢false (sym e))
+in_take (suc n) [] r e = e
+in_take (suc n) (x ∷ xs) r e = (elim (nat_eq r x) as (λ a. (a || is_in (take n xs) r) ≡ true → (a || is_in xs r) ≡ true) [
+  | true ↦ λ s. refl
+  | false ↦ λ s. in_take n xs r s
+]) e
+
+-- all pass but the row
+pub all_but : (p : ℕ → Bool) (row : ℕ) → p row ≡ false → (xs : List ℕ) → ((r : ℕ) → is_in xs r ≡ true → r ≢ row → p r ≡ true) → filter p xs ≡ without row xs
+all_but p row fails [] h = refl
+all_but p row fails (x ∷ xs) h = let e = all_but p row fails xs (λ r i. h r (in_later x xs r i)) in (elim (nat_eq row x) as (λ a. nat_eq row x ≡ a → cond (p x) (x ∷ filter p xs) (filter p xs) ≡ cond (not a) (x ∷ without row xs) (without row xs)) [
+  | true ↦ λ s. let same : p x ≡ false = subst (λ y. p y ≡ false) (eqb-true row x s) fails in rw same e
+  | false ↦ λ s. let passes : p x ≡ true = h x (in_first x xs) (λ q. true≢false (sym (eq-eqb row x (sym q)) ∙ s)) in rw passes (ap (λ r. x ∷ r) e)
+]) refl
 
 apart_at : (x : ℕ) (xs : List ℕ) (at row : ℕ) → AllByRecursion (λ y. nat_eq x y ≡ false) xs → slice_get xs at ≡ Some row → nat_eq x row ≡ false
-apart_at x [] at row h e = absurd (none_one row e)
-apart_at x (y ∷ ys) zero row h e = subst (λ z. nat_eq x z ≡ false) (some_one y row e) h.0
+apart_at x [] at row h e = absurd (none-some row e)
+apart_at x (y ∷ ys) zero row h e = subst (λ z. nat_eq x z ≡ false) (same_Some y row e) h.0
 apart_at x (y ∷ ys) (suc at) row h e = apart_at x ys at row h.1 e
 
 -- the last of rows that differ
 pub without_last : (row : ℕ) (xs : List ℕ) (at : ℕ) → at + 1 ≡ length xs → slice_get xs at ≡ Some row → IsDistinct nat_eq xs → without row xs ≡ take at xs
-without_last row [] at n e d = absurd (none_one row e)
-without_last row (x ∷ []) zero n e d = rw (eq-eqb row x (sym (some_one x row e))) refl
+without_last row [] at n e d = absurd (none-some row e)
+without_last row (x ∷ []) zero n e d = rw (eq-eqb row x (sym (same_Some x row e))) refl
 without_last row (x ∷ y ∷ ys) zero n e d = absurd (omega arith)
 without_last row (x ∷ xs) (suc at) n e d = let apart : nat_eq row x ≡ false = nat_eq_equiv.symm row x ∙ apart_at x xs at row (IsDistinct-head nat_eq x xs d) e in
     rw apart (ap (λ r. x ∷ r) (without_last row xs at (omega arith) e (IsDistinct-tail nat_eq x xs d)))

@@ -94,16 +94,9 @@ narrow_raised words row x end z = record {
   zeros = λ i some past few. at_cell (set words (base_of row) x) row i few ∙ (get_or-set_other words (base_of row) (base_of row + i) x 0 (λ e. omega arith) ∙ (sym (at_cell words row i few) ∙ z.zeros i some past few));
 }
 
-pub has_raised : (words ws : List ℕ) (row x end : ℕ) (own : List ℕ) → ws ≡ set words (base_of row) x → HasFrom end words row own → HasFrom end ws row own
-has_raised words ws row x end own is h = subst (λ (z : List ℕ). HasFrom end z row own) (sym is)
-    record { few = h.few; same = λ i some past few. get_or-set_other words (base_of row) (base_of row + i) x 0 (λ e. omega arith) ∙ h.same i some past few }
-
 -- if the row and the words are zero they are the same
 pub has_zeros : (table : List ℕ) (row : ℕ) (own : List ℕ) (end : ℕ) → end ≤ ROW_WORDS → ZeroFrom end (row_words table row) → ZeroFrom end own → HasFrom end table row own
 has_zeros table row own end few z w = record { few = few; same = λ i some past lt. sym (at_cell table row i lt) ∙ (z.zeros i some past lt ∙ sym (w.zeros i some past lt)) }
-
-pub has_none_left : (table : List ℕ) (row : ℕ) (own : List ℕ) → HasFrom ROW_WORDS table row own
-has_none_left table row own = record { few = omega arith; same = λ i some past lt. absurd (omega arith) }
 
 pub zero_later : (a b : ℕ) (row : List ℕ) → a ≤ b → ZeroFrom a row → ZeroFrom b row
 zero_later a b row le z = record { zeros = λ i some past few. z.zeros i some (omega arith) few }

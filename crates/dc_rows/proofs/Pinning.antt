@@ -21,9 +21,6 @@ use Rattle.dc_rows.specs.RowChanges.{SameRow, KeepsWords, OnlyRow, IsEmpty, Unpi
 use Rattle.dc_rows.proofs.Lists.{filter_past, without_twice, without_first, pins_dropped, pins_dropped_here, pins_with, pins_with_here}
 use Rattle.dc_rows.proofs.SameRows.{same_row, same_then, empty_still, empties_row, row_dropped}
 
-pub only_none : (s : RowState) (row : ℕ) → OnlyRow row s s
-only_none s row = record { others = λ r ne. same_row s r; order = refl }
-
 pub only_then : (s t u : RowState) (row : ℕ) → OnlyRow row s t → OnlyRow row t u → OnlyRow row s u
 only_then s t u row a b = record { others = λ r ne. same_then s t u r (a.others r ne) (b.others r ne); order = b.order ∙ a.order }
 
@@ -63,9 +60,6 @@ module _ (u : Listing) (row : ℕ) where
 
 -- a row loses a pin
 module _ (s t : RowState) (row : ℕ) where
-  pub unpins_none : pins_of s.used row ≡ 0 → UnpinsRow row s s
-  unpins_none none = record { pins = omega arith; own = inl (same_words s s row (same_row s row)); only = only_none s row }
-
   pub unpins_one : t.words ≡ s.words → t.slots ≡ s.slots → t.used ≡ unpinned_once s.used row → KeepsUse s.used t.used → UnpinsRow row s t
   unpins_one words slots is inuse = record {
     pins = ap (λ (u : Listing). pins_of u row) is ∙ fewer_here s.used row (pins_of s.used row == 1) refl;
@@ -86,9 +80,6 @@ pub record UnpinsFirst (n : ℕ) (rows : List ℕ) (s t : RowState) : Type 0 whe
   pub pins : (row : ℕ) → pins_of t.used row ≡ pins_of s.used row - count_by (nat_eq row) (take n rows)
   pub own : (row : ℕ) → KeepsWords s t row ⊎ (IsEmpty t row × (0 < pins_of s.used row))
   pub order : filter (λ row. not (is_in rows row)) t.used.listed ≡ filter (λ row. not (is_in rows row)) s.used.listed
-
-pub unpins_first_none : (rows : List ℕ) (s : RowState) → UnpinsFirst 0 rows s s
-unpins_first_none rows s = record { pins = λ row. omega arith; own = λ row. inl (same_words s s row (same_row s row)); order = refl }
 
 pub unpins_all : (rows : List ℕ) (s t : RowState) (n : ℕ) → take n rows ≡ rows → UnpinsFirst n rows s t → UnpinsAll rows s t
 unpins_all rows s t n all a = record { pins = λ row. a.pins row ∙ ap (λ (xs : List ℕ). pins_of s.used row - count_by (nat_eq row) xs) all; own = a.own; order = a.order }
@@ -127,19 +118,6 @@ module _ (rows : List ℕ) (n row : ℕ) (less : n < length rows) (is : get_or r
         order = sym (past u.used.listed) ∙ (ap (filter (λ r. not (is_in rows r))) b.only.order ∙ (past t.used.listed ∙ a.order));
       }
 
--- a key that has a row, or gets none
-pub gets_had : (key : Key) (s : RowState) (row : ℕ) → slot_of s.slots row ≡ Held key → HasGot key 0 s s row
-gets_had key s row held = record { has = held; pins = omega arith; own = inl (same_words s s row (same_row s row)); only = only_none s row }
-
-pub gets_none : (key : Key) (s t : RowState) → t.words ≡ s.words → t.slots ≡ s.slots → t.used ≡ s.used → MayFill key s t
-gets_none key s t words slots used = let same = λ (r : ℕ). ap (λ (u : Listing). pins_of u r) used in
-    let kept = words_stay s t 0 words slots (λ r. ap (λ (u : Listing). is_used u r) used) in record {
-      row = 0;
-      pins = same 0;
-      own = inl (with_same_pins s t 0 (kept 0) (same 0));
-      only = pins_only s t 0 words slots (λ r. ap (λ (u : Listing). is_used u r) used) (λ r ne. same r) (ap (λ (u : Listing). without 0 u.listed) used);
-    }
-
 -- the row that is chosen gets the key, and is filled or emptied
 module _ (key : Key) (s m u : RowState) (row : ℕ) (chosen : IsChosen key s row) (below : row < length s.slots) (words : m.words ≡ s.words) (slots : m.slots ≡ slice_set s.slots row (Held key)) (used : m.used ≡ dropped s.used row) (sets : SetsUse row false s.used m.used) (only : OnlyRow row m u) (unpinned : pins_of u.used row ≡ 0) where
   all_only : OnlyRow row s u
@@ -172,23 +150,20 @@ module _ (key : Key) (s t u : RowState) (row : ℕ) (got : HasGot key 0 s t row)
         (ap (λ (z : Listing). without row z.listed) is ∙ without_twice row t.used.listed));
   }
 
-none_came : (key : Key) (s t : RowState) → MayFill key s t → (r : ℕ) → pins_of t.used r ≡ pins_of s.used r
-none_came key s t m r = elim (cases_eq r m.row) [
-  | inl same ↦ subst (λ (k : ℕ). pins_of t.used k ≡ pins_of s.used k) (sym same) m.pins
-  | inr ne ↦ (m.only.others r ne).pins
+none_came : (s t : RowState) (row : ℕ) → pins_of t.used row ≡ pins_of s.used row → OnlyRow row s t → SamePins s t
+none_came s t row here only r = elim (cases_eq r row) [
+  | inl same ↦ subst (λ (k : ℕ). pins_of t.used k ≡ pins_of s.used k) (sym same) here
+  | inr ne ↦ (only.others r ne).pins
 ]
 
 -- which pins have come when a key gets a row
 pub gets_pins : (key : Key) (s t : RowState) (result : Result (Option ℕ) NoMemory) → Gets key 1 s t result → PinsAnswered s t result
 gets_pins key s t (Ok (Some row)) got = record { one = got.pins; others = λ r ne. (got.only.others r ne).pins }
-gets_pins key s t (Ok None) got = none_came key s t got
-gets_pins key s t (Err fault) got = none_came key s t got
+gets_pins key s t (Ok None) got = none_came s t got.row got.pins got.only
+gets_pins key s t (Err fault) got = none_came s t got.row got.pins got.only
 
 -- no pin has come or gone when a key gets a row and no pin
 pub gets_no_pin : (key : Key) (s t : RowState) (result : Result (Option ℕ) NoMemory) → Gets key 0 s t result → SamePins s t
-gets_no_pin key s t (Ok (Some row)) got = λ r. elim (cases_eq r row) [
-  | inl same ↦ subst (λ (k : ℕ). pins_of t.used k ≡ pins_of s.used k) (sym same) (let p = got.pins in omega arith)
-  | inr ne ↦ (got.only.others r ne).pins
-]
-gets_no_pin key s t (Ok None) got = none_came key s t got
-gets_no_pin key s t (Err fault) got = none_came key s t got
+gets_no_pin key s t (Ok (Some row)) got = none_came s t row (let p = got.pins in omega arith) got.only
+gets_no_pin key s t (Ok None) got = none_came s t got.row got.pins got.only
+gets_no_pin key s t (Err fault) got = none_came s t got.row got.pins got.only

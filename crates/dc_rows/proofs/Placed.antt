@@ -1,6 +1,6 @@
 -- A row is written anew, and gets another slot.
-use Rattle.std.proofs.Common.{◌≡◌, ◌≢◌, ◌↔◌, ℕ, ◌+◌, ◌%◌, ◌-◌, ◌<◌, ◌≤◌, Bool, true, false, ◌||◌, List, length, slice_set, set, Option, Some, None, is_some, refl, sym, ap, ◌∙◌, subst, arith, ⊎_elim, nat_eq, true≢false, length-set, set-set, get_or, get_or-set_same, get_or-set_other, if◌then◌else◌}
-use Rattle.std.proofs.lemmas.Bool.{cases_lt, eq-eqb}
+use Rattle.std.proofs.Common.{◌≡◌, ◌≢◌, ◌↔◌, ℕ, ◌+◌, ◌%◌, ◌-◌, ◌<◌, ◌≤◌, Bool, true, false, List, length, slice_set, set, Option, Some, None, is_some, refl, sym, ap, ◌∙◌, subst, arith, ⊎_elim, nat_eq, true≢false, length-set, set-set, get_or, get_or-set_same, get_or-set_other, if◌then◌else◌}
+use Rattle.std.proofs.lemmas.Bool.{cases_lt, eq-eqb, or_left, or_right}
 use Rattle.std.proofs.lemmas.List.{get_or_past}
 use Rattle.std.proofs.lemmas.Map.Keys.{any_passes_from_place}
 use Rattle.std.specs.Option.{unwrap_or}
@@ -19,10 +19,9 @@ use Rattle.dc_table.specs.Rows.{At, is_retired, OfNone, Agree, FitsSlot, IsOf, R
 use Rattle.dc_rows.specs.Rows.{MayTell, Wrote}
 use Rattle.dc_rows.specs.Filling.{Redone, Emptied, Given}
 use Rattle.dc_rows.specs.Narrow.{ZeroFrom, HasFrom, most_words}
-use Rattle.dc_rows.proofs.Cells.{row_raised, count_now, spells_too}
+use Rattle.dc_rows.proofs.Cells.{row_raised, spells_none, spells_too}
 use Rattle.dc_rows.proofs.Narrow.{has_zeros, past_empty, past_text, rest_narrow, zero_later}
 use Rattle.dc_rows.proofs.Slots.{moved, agrees}
-use Rattle.dc_rows.proofs.Shuts.{below_end}
 
 -- what a row was used for and is
 pub then_use : (row : ℕ) (a b : Bool) (u v w : Listing) → SetsUse row a u v → SetsUse row b v w → SetsUse row b u w
@@ -31,23 +30,12 @@ then_use row a b u v w s t = record { here = t.here; others = λ r ne. t.others 
 pub keyed_within : (slots : List Slot) (row : ℕ) → has_key (slot_of slots row) ≡ true → row < length slots
 keyed_within slots row e = ⊎_elim (λ (l : row < length slots). l) (λ (out : length slots ≤ row). absurd (true≢false (sym e ∙ ap has_key (get_or_past slots row Free out)))) (cases_lt row (length slots))
 
-pub keyed_open : (slot : Slot) → has_key slot ≡ true → slot ≢ Retired
-keyed_open slot e gone = true≢false (sym e ∙ ap has_key gone)
-
-not_retired : (slot : Slot) → slot ≢ Retired → is_retired slot ≡ false
-not_retired Free open_still = refl
-not_retired Retired open_still = absurd (open_still refl)
-not_retired (Held key) open_still = refl
-
-module _ (t : Tree) (rows : ℕ) (words : List ℕ) (slots : List Slot) (used : Listing) (s : Rest t rows words slots used) (row : ℕ) (below : row < length slots) (open_still : slot_of slots row ≢ Retired) where
+module _ (t : Tree) (rows : ℕ) (words : List ℕ) (slots : List Slot) (used : Listing) (s : Rest t rows words slots used) (row : ℕ) (below : row < length slots) where
   pub inside : row < rows
   inside = subst (λ (m : ℕ). row < m) s.fit.indexed below
 
   pub even_row : count words row % 2 ≡ 0
   even_row = (s.rest row inside).even (λ key e never. never)
-
-  pub low_row : count words row < most
-  low_row = below_end words row (slot_of slots row) (not_retired (slot_of slots row) open_still) (s.rest row inside).ended
 
   -- the row has other words and another slot, in use or not
   pub placed : (u : List ℕ) (own : List ℕ) (more : Bool) (slot : Slot) (after : Listing) (ss : List Slot) → Redone words u row own more → FitsSlot t (row_words u row) slot → (is_retired slot ≡ true) ↔ (most ≤ count u row)
@@ -64,13 +52,9 @@ module _ (t : Tree) (rows : ℕ) (words : List ℕ) (slots : List Slot) (used : 
             }) s.rest;
       }
 
-  empty_words : (more : Bool) → (if more then EMPTY_ROW else EMPTY_ROW) ≡ EMPTY_ROW
-  empty_words true = refl
-  empty_words false = refl
-
   -- it was emptied
   pub placed_empty : Spells EMPTY_ROW None → (u : List ℕ) (ss : List Slot) (after : Listing) → Emptied words u slots ss row → SetsUse row false used after → after.rows ≡ used.rows → Rest t rows u ss after
-  placed_empty empty u ss after e sets same = let sp : Spells (row_words u row) None = spells_too u EMPTY_ROW row None empty (λ i some few. e.redone.own i some few ∙ ap (λ ws. get_or ws i 0) (empty_words e.more)) in
+  placed_empty empty u ss after e sets same = let sp = spells_none u row e.more empty e.redone.own in
       ⊎_elim (λ (f : e.slot ≡ Free). placed u EMPTY_ROW e.more e.slot after ss e.redone (subst (FitsSlot t (row_words u row)) (sym f) sp) e.ended (subst (λ b. SetsUse row b used after) (sym (ap has_key f)) sets) same e.is)
       (λ (f : e.slot ≡ Retired). placed u EMPTY_ROW e.more e.slot after ss e.redone (subst (FitsSlot t (row_words u row)) (sym f) sp) e.ended (subst (λ b. SetsUse row b used after) (sym (ap has_key f)) sets) same e.is) e.keyless
 
@@ -89,31 +73,6 @@ module _ (t : Tree) (rows : ℕ) (words : List ℕ) (slots : List Slot) (used : 
   has_told law below own key of end told past few = let size = (law own of.fact of.spelled).size in
       has_zeros words row own end few (zero_later _ end _ past (row_zero below)) (past_text own (Some of.fact) of.spelled end (omega arith))
 
--- the count of a row that is shut and to be opened again
-module _ (t : Tree) (rows : ℕ) (words : List ℕ) (row : ℕ) (inside : row < rows) (even : count words row % 2 ≡ 0) (low : count words row < most) (size : length words ≡ base_of rows) (ws : List ℕ) (is : ws ≡ set words (base_of row) (count words row + 1)) where
-  pub one_up : count ws row ≡ count words row + 1
-  one_up = ap (λ z. count z row) is ∙ count_now words rows row (count words row + 1) inside size
-
-  pub sized : length ws ≡ base_of rows
-  sized = ap length is ∙ (length-set words (base_of row) (count words row + 1) ∙ size)
-
-  pub redone : (u own : List ℕ) (words' : List ℕ) (more : Bool) → Wrote ws u row own 1 → own ≡ (if more then words' else EMPTY_ROW) → (more ≡ true → count words row + 2 < most) → (more ≡ false → most ≤ count words row + 2) → Redone words u row words' more
-  redone u own words' more w e further last = let c = one_up in let n = w.count in record {
-    size = w.size ∙ (ap length is ∙ length-set words (base_of row) (count words row + 1));
-    others = λ r ne. w.others r ne ∙ (ap (λ z. row_words z r) is ∙ row_raised words row r (count words row + 1) ne);
-    counted = omega arith;
-    own = λ i some few. w.own i some few ∙ ap (λ z. get_or z i 0) e;
-    further = λ m. further m;
-    last = λ m. last m;
-  }
-
-pub may_tell : (t : Tree) (words : List ℕ) (key : Key) → IsOf t words key → MayTell t words
-may_tell t words key of = record { fact = Some of.fact; spelled = of.spelled; now = of.now }
-
-or_left : (a b : Bool) → a ≡ true → (a || b) ≡ true
-or_left true b e = refl
-or_left false b e = absurd (true≢false (sym e))
-
 -- the row that goes next has a key
 pub victim_keyed : (slots : List Slot) (used : Listing) (row : ℕ) → Agree slots used → last_of used.listed ≡ Some row → has_key (slot_of slots row) ≡ true
 victim_keyed slots used row agree h = agree row ∙ or_left (is_in used.listed row) _ (any_passes_from_place (nat_eq row) used.listed (length used.listed - 1) row h (eq-eqb row row refl))
@@ -125,27 +84,23 @@ module _ (t : Tree) (rows : ℕ) (words : List ℕ) (slots : List Slot) (before 
 
   pub told_now : (u own : List ℕ) (after : Listing) → IsOf t own key → Redone words u row own true → SetsUse row true used after → after.rows ≡ used.rows → Rest t rows u slots after
   told_now u own after of r sets same = let n = r.counted in let few = r.further refl in
-      placed t rows words g.before_slots before g.rest row g.inside g.open_still u own true (Held key) after slots r
+      placed t rows words g.before_slots before g.rest row g.inside u own true (Held key) after slots r
       record { fact = of.fact; about = of.about; now = of.now; spelled = spells_too u own row (Some of.fact) of.spelled r.own } (λ gone. absurd (true≢false (sym gone)), λ full. absurd (omega arith))
       (then_use row false true before used after unused sets) (same ∙ same_rows) g.given
 
   pub told_last : Spells EMPTY_ROW None → (u own : List ℕ) (between after : Listing) (ss : List Slot) → Redone words u row own false → SetsUse row true used between → SetsUse row false between after → after.rows ≡ used.rows
       → ss ≡ slice_set slots row Retired → Rest t rows u ss after
   told_last empty u own between after ss r taken left same is = let n = r.counted in let past = r.last refl in
-      placed t rows words g.before_slots before g.rest row g.inside g.open_still u own false Retired after ss r (spells_too u EMPTY_ROW row None empty r.own) (λ gone. omega arith, λ full. refl)
+      placed t rows words g.before_slots before g.rest row g.inside u own false Retired after ss r (spells_too u EMPTY_ROW row None empty r.own) (λ gone. omega arith, λ full. refl)
       (then_use row true false before between after (then_use row false true before used between unused taken) left) (same ∙ same_rows) (over Retired ss is)
 
   pub told_nothing : Spells EMPTY_ROW None → (u : List ℕ) (ss : List Slot) (after : Listing) → Emptied words u slots ss row → after ≡ used → Rest t rows u ss after
-  told_nothing empty u ss after e same = placed_empty t rows words g.before_slots before g.rest row g.inside g.open_still empty u ss after
+  told_nothing empty u ss after e same = placed_empty t rows words g.before_slots before g.rest row g.inside empty u ss after
       record { slot = e.slot; more = e.more; is = over e.slot ss e.is; keyless = e.keyless; redone = e.redone; ended = e.ended } (subst (λ z. SetsUse row false before z) (sym same) unused) (ap (λ (z : Listing). z.rows) same ∙ same_rows)
 
 some_there : (o : Option ℕ) → 0 < unwrap_or o 0 → is_some o ≡ true
 some_there None l = absurd (omega arith)
 some_there (Some n) l = refl
-
-or_right : (a b : Bool) → b ≡ true → (a || b) ≡ true
-or_right true b e = refl
-or_right false b e = e
 
 -- a pinned row has a key
 pub pinned_keyed : (slots : List Slot) (used : Listing) (row : ℕ) → Agree slots used → 0 < pins_of used row → has_key (slot_of slots row) ≡ true

@@ -15,7 +15,7 @@ use Rattle.dc_rows.specs.Narrow.{ZeroFrom, HasFrom, most_words}
 use Rattle.dc_rows.specs.Rows.{Between, Stage, Wrote}
 use Rattle.dc_rows.proofs.Cells.{spells_too}
 use Rattle.dc_rows.proofs.Narrow.{fits_narrow, has_zeros, narrow_moved, past_empty, past_nothing}
-use Rattle.dc_rows.proofs.Slots.{held_two, held_inside, held_within, only_row, free_held, unheld, at_for, moved, rest_less, agrees}
+use Rattle.dc_rows.proofs.Slots.{held_two, held_inside, held_within, keyless_held, only_row, unheld, at_for, moved, rest_less, agrees}
 
 -- what an odd row may be opened with
 module _ (t : Tree) (words : List ℕ) (slots : List Slot) (x : Key) (row : ℕ) (held : slot_of slots row ≡ Held x) (odd : IsOdd (row_words words row)) where
@@ -86,7 +86,7 @@ module _ (t : Tree) (rows : ℕ) (words : List ℕ) (slots : List Slot) (used : 
             fit = record { indexed = length-set slots row Free ∙ s.fit.indexed; listed = rows_stay ∙ s.fit.listed; agree = agrees slots used after row Free false below refl sets s.fit.agree; size = w.size ∙ s.fit.size };
             rest = moved t rows words u slots (slice_set slots row Free) (Between i n keys) (Between (i + 1) n keys) row w.others (λ r ne. get_or-set_other slots row r Free Free ne) other_key
                 (subst (λ (slot : Slot). At t (Between (i + 1) n keys) (row_words u row) slot) (sym gone) record {
-                  odd = λ key f b. absurd (free_held key f);
+                  odd = λ key f b. absurd (keyless_held Free key refl f);
                   even = λ none. omega arith;
                   fits = λ even. ∣ spells_too u EMPTY_ROW row None empty w.own ∣₁;
                   ended = (λ now. absurd (true≢false (sym now)), λ full. absurd (omega arith));

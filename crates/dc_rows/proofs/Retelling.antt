@@ -29,9 +29,6 @@ pins_before s t u row a k = record { slot = k.slot ∙ a.slot; pins = k.pins ∙
 pins_after : (s t u : RowState) (row : ℕ) → KeepsPins s t row → SameRow t u row → KeepsPins s u row
 pins_after s t u row k a = record { slot = a.slot ∙ k.slot; pins = a.pins ∙ k.pins; used = a.used ∙ k.used }
 
-of_still : (tree : Tree) (s t : RowState) (row : ℕ) (key : Key) → SameRow s t row → IsOf tree (row_words s.words row) key → IsOf tree (row_words t.words row) key
-of_still tree s t row key a of = subst (λ (ws : List ℕ). IsOf tree ws key) (sym a.words) of
-
 pub shut_goes : GoesOn Shut
 shut_goes = record {
   before = λ s t u row key a r. let c = count_same s t row a in elim r [
@@ -57,7 +54,7 @@ refilled_goes tree = record {
   after = λ s t u row key r a. record {
     counted = count_same t u row a ∙ r.counted;
     own = elim r.own [
-      | inl k ↦ inl (pins_after s t u row k.0 a, of_still tree t u row key a k.1)
+      | inl k ↦ inl (pins_after s t u row k.0 a, subst (λ (ws : List ℕ). IsOf tree ws key) (sym a.words) k.1)
       | inr e ↦ inr (empty_still t u row a e.0, e.1)
     ];
   };

@@ -17,7 +17,7 @@ use Rattle.dc_table.specs.Rows.{is_retired}
 use Rattle.dc_table.specs.RowStates.{RowState}
 use Rattle.dc_rows.specs.Filling.{Emptied}
 use Rattle.dc_rows.specs.RowChanges.{SameRow, OnlyRow, IsEmpty, EmptiesRow, EmptiesLast}
-use Rattle.dc_rows.proofs.Cells.{spells_too}
+use Rattle.dc_rows.proofs.Cells.{spells_none}
 use Rattle.dc_rows.proofs.Lists.{without_twice, without_absent, without_last, in_take, pins_unused, pins_dropped}
 
 pub same_row : (s : RowState) (row : ℕ) → SameRow s s row
@@ -34,13 +34,6 @@ empty_still s t row a e = record {
   unpinned = a.pins ∙ e.unpinned;
   ended = subst₂ (λ (slot : Slot) (ws : List ℕ). (is_retired slot ≡ true) ↔ (most ≤ get_or ws 0 0)) (sym a.slot) (sym a.words) e.ended;
 }
-
-either_empty : (more : Bool) → (if more then EMPTY_ROW else EMPTY_ROW) ≡ EMPTY_ROW
-either_empty true = refl
-either_empty false = refl
-
-keyless_slot : (slot : Slot) → (slot ≡ Free) ⊎ (slot ≡ Retired) → has_key slot ≡ false
-keyless_slot slot k = elim k [ inl e ↦ ap has_key e | inr e ↦ ap has_key e ]
 
 -- a row gets a slot without a key, and goes out of use
 module _ (s t : RowState) (row : ℕ) (below : row < length s.slots) (slot : Slot) (is : t.slots ≡ slice_set s.slots row slot) (used : t.used ≡ dropped s.used row) (sets : SetsUse row false s.used t.used) where
@@ -71,7 +64,7 @@ module _ (s t : RowState) (row : ℕ) (below : row < length s.slots) (slot : Slo
 pub empties_row : (s t : RowState) (row : ℕ) → row < length s.slots → Spells EMPTY_ROW None → Emptied s.words t.words s.slots t.slots row → t.used ≡ dropped s.used row → SetsUse row false s.used t.used → EmptiesRow row s t
 empties_row s t row below empty e used sets = record {
   counted = e.redone.counted;
-  own = row_emptied s t row below e.slot e.is used sets (keyless_slot e.slot e.keyless) (spells_too t.words EMPTY_ROW row None empty (λ i some few. e.redone.own i some few ∙ ap (λ ws. get_or ws i 0) (either_empty e.more))) e.ended;
+  own = row_emptied s t row below e.slot e.is used sets (elim e.keyless [ inl f ↦ ap has_key f | inr f ↦ ap has_key f ]) (spells_none t.words row e.more empty e.redone.own) e.ended;
   only = row_dropped s t row below e.slot e.is used sets e.redone.others;
 }
 
@@ -106,6 +99,3 @@ module _ (n : ℕ) (s t u : RowState) (row : ℕ) (e : EmptiesLast n s t) (some 
       ]
     ];
   }
-
-pub emptied_none : (s : RowState) → EmptiesLast 0 s s
-emptied_none s = record { listed = let all : length s.used.listed ≤ length s.used.listed - 0 = omega arith in sym (take_all (length s.used.listed - 0) s.used.listed all); rows = λ row. inl (same_row s row) }

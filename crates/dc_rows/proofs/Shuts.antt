@@ -16,7 +16,7 @@ use Rattle.dc_rows.specs.Rows.{Between, Stage, Wrote}
 use Rattle.std.proofs.lemmas.Bool.{cases_lt}
 use Rattle.dc_rows.proofs.Cells.{count_now, row_raised, spells_too}
 use Rattle.dc_rows.proofs.Narrow.{narrow_moved, narrow_raised, past_nothing}
-use Rattle.dc_rows.proofs.Slots.{held_two, held_inside, held_within, only_row, retired_held, unheld, at_for, moved, first_more, agrees}
+use Rattle.dc_rows.proofs.Slots.{held_two, held_inside, held_within, keyless_held, only_row, unheld, at_for, moved, first_more, agrees}
 use Rattle.dc_rows.proofs.Turning.{not_before}
 
 -- a row that isn't retired has a count that may still grow
@@ -27,16 +27,7 @@ pub odd_even : (n : ℕ) → n % 2 ≡ 1 → n % 2 ≡ 0 → ⊥
 odd_even n o e = suc-ne-zero 0 (sym o ∙ e)
 
 module _ (t : Tree) (rows : ℕ) (words : List ℕ) (slots : List Slot) (used : Listing) (i : ℕ) (keys : List Key) (x : Key) (here : slice_get keys i ≡ Some x) (s : Stage t rows words slots used 0 i keys) where
-  -- no row has the key
-  pub none_more : IsRowOf slots x None → Stage t rows words slots used 0 (i + 1) keys
-  none_more missing = record {
-    fit = s.fit;
-    rest = λ r l. at_for t (Between 0 i keys) (Between 0 (i + 1) keys) (row_words words r) (slot_of slots r)
-        (λ key e. first_more keys i x key here (λ same. unheld slots x missing r (e ∙ ap Held same))) (s.rest r l);
-    narrow = s.narrow;
-  }
-
-  -- one that has it can be shut
+  -- a row that has the key can be shut
   pub can_shut : AreDistinct keys → (row : ℕ) → slot_of slots row ≡ Held x → (count words row % 2 ≡ 0) × (count words row < most)
   can_shut distinct row held = let within = held_inside rows words slots used row x s.fit held in (
     (s.rest row within).even (λ key e b. not_before keys i x here distinct key b (held_two (slot_of slots row) key x e held)),
@@ -87,7 +78,7 @@ module _ (words : List ℕ) (rows row : ℕ) (within : row < rows) (size : lengt
           fit = record { indexed = length-set slots row Retired ∙ s.fit.indexed; listed = rows_stay ∙ s.fit.listed; agree = agrees slots used after row Retired false below refl sets s.fit.agree; size = w.size ∙ sized };
           rest = moved t rows words u slots (slice_set slots row Retired) (Between 0 i keys) (Between 0 (i + 1) keys) row (λ r ne. w.others r ne ∙ others r ne) (λ r ne. get_or-set_other slots row r Retired Free ne) other_key
               (subst (λ (slot : Slot). At t (Between 0 (i + 1) keys) (row_words u row) slot) (sym gone) record {
-                odd = λ key f b. absurd (retired_held key f);
+                odd = λ key f b. absurd (keyless_held Retired key refl f);
                 even = λ none. omega arith;
                 fits = λ even. ∣ spells_too u EMPTY_ROW row None empty w.own ∣₁;
                 ended = (λ gone. omega arith, λ past. refl);

@@ -1,7 +1,8 @@
 -- Which rows are odd, as one row changes.
-use Rattle.std.proofs.Common.{◌≡◌, ◌≢◌, ◌↔◌, ℕ, ◌+◌, ◌<◌, Bool, List, length, slice_get, slice_set, Option, Some, None, sym, ap, ◌∙◌, subst, subst₂, arith, inl, inr, true≢false, suc-ne-zero, get_or-set_other, get_or-set_same}
+use Rattle.std.proofs.Common.{◌≡◌, ◌≢◌, ◌↔◌, ℕ, ◌+◌, ◌<◌, Bool, false, List, length, slice_get, slice_set, Some, None, refl, sym, ap, ◌∙◌, subst, subst₂, arith, inl, inr, true≢false, get_or-set_other, get_or-set_same}
 use Rattle.std.proofs.lemmas.Bool.{cases_eq, cases_lt}
 use Rattle.std.proofs.lemmas.List.{get_or_past}
+use Rattle.std.proofs.lemmas.Option.{none-some, same_Some}
 use Rattle.dc_plain.specs.Facts.{Key}
 use Rattle.dc_plain.specs.Trees.{Tree}
 use Rattle.dc_index.specs.Slots.{Slot, slot_of, has_key, IsRowOf}
@@ -21,18 +22,12 @@ key_in (Held key) _ = key
 pub held_two : (slot : Slot) (a b : Key) → slot ≡ Held a → slot ≡ Held b → a ≡ b
 held_two slot a b e f = ap (λ s. key_in s a) (sym e ∙ f)
 
-pub free_held : (key : Key) → Free ≡ Held key → ⊥
-free_held key e = true≢false (sym (ap has_key e))
-
-pub retired_held : (key : Key) → Retired ≡ Held key → ⊥
-retired_held key e = true≢false (sym (ap has_key e))
-
-pub none_some : (row : ℕ) → None ≡ Some row → ⊥
-none_some row e = suc-ne-zero 0 (ap (λ (o : Option ℕ). elim o [ None ↦ 1 | Some x ↦ 0 ]) e)
+pub keyless_held : (slot : Slot) (key : Key) → has_key slot ≡ false → slot ≡ Held key → ⊥
+keyless_held slot key none e = true≢false (sym (ap has_key e) ∙ none)
 
 -- a key that no row has
 pub unheld : (slots : List Slot) (key : Key) → IsRowOf slots key None → (row : ℕ) → slot_of slots row ≡ Held key → ⊥
-unheld slots key missing row e = none_some row ((missing row).1 e)
+unheld slots key missing row e = none-some row ((missing row).1 e)
 
 -- and one that one row has
 pub only_row : (slots : List Slot) (key : Key) (row : ℕ) → IsRowOf slots key (Some row) → (r : ℕ) → slot_of slots r ≡ Held key → r ≡ row
@@ -41,9 +36,9 @@ only_row slots key row has r e = let same = (has r).1 e in cc
 -- which loses it
 pub none_left : (slots : List Slot) (key : Key) (row : ℕ) → IsRowOf slots key (Some row) → row < length slots → IsRowOf (slice_set slots row Retired) key None
 none_left slots key row has below r = (
-  λ e. absurd (none_some r e),
+  λ e. absurd (none-some r e),
   λ e. elim (cases_eq r row) [
-    | inl same ↦ absurd (retired_held key (sym (get_or-set_same slots row Retired Free below) ∙ (ap (slot_of (slice_set slots row Retired)) (sym same) ∙ e)))
+    | inl same ↦ absurd (keyless_held Retired key refl (sym (get_or-set_same slots row Retired Free below) ∙ (ap (slot_of (slice_set slots row Retired)) (sym same) ∙ e)))
     | inr ne ↦ absurd (ne (only_row slots key row has r (sym (get_or-set_other slots row r Retired Free ne) ∙ e)))
   ],
 )
@@ -51,7 +46,7 @@ none_left slots key row has below r = (
 pub held_within : (slots : List Slot) (row : ℕ) (key : Key) → slot_of slots row ≡ Held key → row < length slots
 held_within slots row key e = elim (cases_lt row (length slots)) [
   | inl l ↦ l
-  | inr out ↦ absurd (free_held key (sym (get_or_past slots row Free out) ∙ e))
+  | inr out ↦ absurd (keyless_held Free key refl (sym (get_or_past slots row Free out) ∙ e))
 ]
 
 -- a row of the table
@@ -79,16 +74,13 @@ moved t rows words ws slots ss P Q row others beside same here o r l = elim (cas
   | inr ne ↦ subst₂ (λ (x : List ℕ) (y : Slot). At t Q x y) (sym (others r ne)) (sym (beside r ne)) (at_for t P Q (row_words words r) (slot_of slots r) (λ key e. same r key ne e) (o r l))
 ]
 
-pub some_one : (a b : Key) → Some a ≡ Some b → a ≡ b
-some_one a b e = ap (λ (o : Option Key). elim o [ None ↦ a | Some x ↦ x ]) e
-
 -- one place more at the end, or one less at the head, makes no difference to another key
 module _ (keys : List Key) (i : ℕ) (x key : Key) (here : slice_get keys i ≡ Some x) (other : key ≢ x) where
   pub first_more : Between 0 i keys key ↔ Between 0 (i + 1) keys key
   first_more = (
     λ b. let l = b.2 in (b.0, b.1, omega arith, b.3),
     λ b. elim (cases_eq b.0 i) [
-      | inl e ↦ absurd (other (some_one key x (sym b.3 ∙ (ap (slice_get keys) e ∙ here))))
+      | inl e ↦ absurd (other (same_Some key x (sym b.3 ∙ (ap (slice_get keys) e ∙ here))))
       | inr ne ↦ let l = b.2 in (b.0, b.1, omega arith, b.3)
     ],
   )
@@ -96,7 +88,7 @@ module _ (keys : List Key) (i : ℕ) (x key : Key) (here : slice_get keys i ≡ 
   pub rest_less : (n : ℕ) → Between i n keys key ↔ Between (i + 1) n keys key
   rest_less n = (
     λ b. elim (cases_eq b.0 i) [
-      | inl e ↦ absurd (other (some_one key x (sym b.3 ∙ (ap (slice_get keys) e ∙ here))))
+      | inl e ↦ absurd (other (same_Some key x (sym b.3 ∙ (ap (slice_get keys) e ∙ here))))
       | inr ne ↦ let l = b.1 in (b.0, omega arith, b.2, b.3)
     ],
     λ b. let l = b.1 in (b.0, omega arith, b.2, b.3),

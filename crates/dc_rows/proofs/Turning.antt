@@ -1,6 +1,7 @@
 -- The rows of keys become other rows, one after another.
 use Rattle.std.proofs.Common.{◌≡◌, ◌≢◌, ◌⊎◌, ◌↔◌, ℕ, ◌+◌, true, false, true≢false, List, filter, slice_get, Option, Some, None, refl, sym, ap, ◌∙◌, subst, arith, inl, inr}
 use Rattle.std.proofs.lemmas.Bool.{cases_eq, or_left}
+use Rattle.std.proofs.lemmas.Option.{same_Some}
 use Rattle.dc_plain.specs.Facts.{Key}
 use Rattle.dc_ops.specs.Keys.{AreDistinct}
 use Rattle.dc_index.specs.Slots.{Slot, slot_of, has_key, IsRowOf}
@@ -11,7 +12,7 @@ use Rattle.dc_table.specs.RowStates.{RowState}
 use Rattle.dc_rows.specs.Rows.{Between}
 use Rattle.dc_rows.specs.RowChanges.{SameRow, OnlyRow}
 use Rattle.dc_rows.specs.Refills.{Turns, Is}
-use Rattle.dc_rows.proofs.Slots.{held_two, only_row, some_one, unheld}
+use Rattle.dc_rows.proofs.Slots.{held_two, only_row, unheld}
 use Rattle.dc_rows.proofs.Lists.{all_pass, all_but, filter_then}
 use Rattle.dc_rows.proofs.SameRows.{same_row, same_then}
 
@@ -117,7 +118,7 @@ module _ (R : RowState → RowState → ℕ → Key → Type 0) (g : GoesOn R) (
     others = λ row none. let first : SameRow s t row = a.others row (λ key e bt. let l = bt.2 in none key e (bt.0, bt.1, omega arith, bt.3)) in
         same_then s t u row first (b.others row (λ key e p. none key (sym first.slot ∙ e) (i, omega arith, omega arith, here ∙ ap Some (sym p))));
     own = λ row key e bt. elim (cases_eq bt.0 i) [
-      | inl same ↦ latest row key e (some_one key x (sym bt.3 ∙ (ap (slice_get keys) same ∙ here)))
+      | inl same ↦ latest row key e (same_Some key x (sym bt.3 ∙ (ap (slice_get keys) same ∙ here)))
       | inr ne ↦ let l = bt.2 in earlier row key e (bt.0, bt.1, omega arith, bt.3)
     ];
     order = order_then R (Is x) t u b s a.order;

@@ -41,10 +41,12 @@
 //! loads the clock.
 //!
 //! Each step that frees the lock takes a `Wakes`, which says whether threads sleep until it is free: it is
-//! `Sleepers` for a table on which any thread calls `lock`, else `Nobody`.
+//! `Sleepers` for a table on which any thread calls `lock`, else `Nobody`. A pass that is passed over
+//! in `lock` is let first, but no clause says that it ever gets the lock.
 #![tactic(auto)]
 
 mod holder;
+mod late;
 mod passing;
 mod plays;
 mod shared;
@@ -73,7 +75,7 @@ pub(crate) const FREE: u64 = 0;
 /// A pass has the lock.
 pub(crate) const TAKEN: u64 = 1;
 
-/// How often a pass that found the lock taken looks at its word before it sleeps.
+/// How often a pass that found the lock taken looks at its word before it sleeps for the first time.
 pub(crate) const MOST_LOOKS: u64 = 20;
 
 /// How many pauses of the processor come after the first of its looks. Each is some 5 to 60 nanoseconds.
@@ -81,6 +83,15 @@ pub(crate) const FEWEST_PAUSES: u64 = 64;
 
 /// How often that number doubles.
 pub(crate) const MOST_DOUBLINGS: u64 = 5;
+
+/// After how many milliseconds a sleeper tries again, if nobody wakes it.
+pub(crate) const NAP: u64 = 2;
+
+/// How often a pass has slept in vain when it is late.
+pub(crate) const PATIENCE: u64 = 3;
+
+/// How often a pass has slept in vain when it waits for no late pass any longer.
+pub(crate) const MOST_SLEEPS: u64 = 64;
 
 /// The first word of the rows.
 pub(crate) const FIRST_ROW: usize = 2;

@@ -10,6 +10,7 @@ ghost use Rattle.dc_table.specs.Kept.{IsNew};
 ghost use Rattle.dc_table.specs.Passes.{known, share, Fits, IsIdle};
 ghost use Rattle.dc_table.specs.Shares.{IsWhole, first_known, kept_half, new_half, both};
 
+use crate::late::Late;
 use crate::plays::Halves;
 use crate::shared::{Counts, Shared};
 use crate::table::{Guarded, Limits, Pass};
@@ -109,6 +110,7 @@ impl Shared {
                     table,
                     limits: *limits,
                     waiting: AtomicU64::new(0),
+                    late: Late::new(),
                     sleeps: AtomicU64::new(0),
                     evictions: AtomicU64::new(0),
                 },
@@ -177,6 +179,7 @@ impl Shared {
             table,
             limits: _,
             waiting: _,
+            late: _,
             sleeps: _,
             evictions: _,
         } = self;

@@ -3,6 +3,7 @@
 ghost use Rattle.std.specs.Prelude.{◌≡◌};
 ghost use Rattle.dc_events.specs.Rows.{base_of};
 
+use crate::late::Late;
 use crate::sheet::Sheet;
 use crate::table::{Guarded, Limits, Protocol};
 use atomic_table::Table;
@@ -24,8 +25,10 @@ pub struct Counts {
 pub struct Shared {
     pub(crate) table: Table<Option<Box<Guarded>>, Sheet, Limits, Protocol, Global>,
     pub(crate) limits: Limits,
-    /// How many passes sleep until the lock is free.
+    /// How many passes sleep until the lock is free, and how many are late.
     pub(crate) waiting: AtomicU64,
+    /// The passes that are late.
+    pub(crate) late: Late,
     /// How often a pass has gone to sleep.
     pub(crate) sleeps: AtomicU64,
     /// How many rows have lost their key to another.

@@ -12,25 +12,18 @@ ghost use Rattle.dc_table.specs.Plays.{Took, Home};
 ghost use Rattle.dc_table.specs.Walking.{HasNoted, IsTrueNow};
 
 use crate::holder::Holder;
+use crate::late::Turn;
 use crate::plays::{Answer, Asked, Commit, Compare, Give, Put, Raise, Take};
 use crate::shared::Shared;
 use crate::table::{Guarded, Pass};
 use crate::wakes::Wakes;
-use crate::{CLOCK, FEWEST_PAUSES, FIRST_ROW, FREE, LOCK, MOST_DOUBLINGS, MOST_LOOKS, TAKEN};
+use crate::{CLOCK, FIRST_ROW, FREE, LOCK, TAKEN};
 use dc_events::events_keep_the_rule;
 use dc_plain::Call;
 use dc_row::ROW_WORDS;
-use std::hint;
 use std::marker::Brand;
 use std::sync::Wait;
-use std::sync::atomic::Ordering::{Relaxed, SeqCst};
-
-/// Lets the time of this many pauses of the processor go by.
-fn pause(times: u64) {
-    for _ in 0..times {
-        hint::spin_loop();
-    }
-}
+use std::sync::atomic::Ordering::Relaxed;
 
 impl Shared {
     /// Tries the lock, and takes what it guards out of its slot.
@@ -60,13 +53,15 @@ impl Shared {
         ensures same { IsSamePass pass.old pass.new }
         ensures taken { IsHolder pass.new × Took (known pass.old) (known pass.new) result.value }
     {
+        let mut turn = Turn::new();
         for _ in rt.forever() {
-            if let Some(guarded) = self.try_take(pass) {
-                return guarded;
+            if self.may_try(&turn) {
+                if let Some(guarded) = self.try_take(pass) {
+                    self.leave(&turn);
+                    return guarded;
+                }
             }
-            if !self.comes_free() {
-                self.wait(rt);
-            }
+            self.wait(rt, &mut turn);
         }
         // The loop above ends by its return alone.
         unreachable!()
@@ -101,30 +96,6 @@ impl Shared {
     {
         let guarded = self.take(rt, pass);
         (Holder { shared: self, pass }, guarded)
-    }
-
-    /// Watches the lock for a while, and answers whether it was seen free. A holder needs it for far less
-    /// time than a thread takes to fall asleep and to be woken.
-    fn comes_free(&self) -> bool {
-        for look in 0..MOST_LOOKS {
-            if self.table.shared.peek(LOCK) == FREE {
-                return true;
-            }
-            // A look takes the word's cache line from the holder, who has to wait for it at its next step
-            // there. So the pauses double, and the holder has the line to itself most of the time.
-            pause(FEWEST_PAUSES << look.min(MOST_DOUBLINGS));
-        }
-        false
-    }
-
-    /// Sleeps while the lock is held.
-    fn wait<R: Wait>(&self, rt: &R) {
-        // A giver that sees no sleeper, once the lock is free, wakes nobody. It sees each that counted itself
-        // before; one that does so later finds the lock free, and doesn't sleep.
-        self.waiting.fetch_add(1, SeqCst);
-        self.sleeps.fetch_add(1, Relaxed);
-        self.table.shared.park(rt, LOCK, TAKEN as u32);
-        self.waiting.fetch_sub(1, SeqCst);
     }
 
     /// Where a word of a row stands in the table.

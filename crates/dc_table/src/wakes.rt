@@ -5,18 +5,18 @@
 //! that counts the sleepers before the lock is free misses the thread that comes in between. So waking is
 //! no call of its own: each step that frees the lock takes a `Wakes`, and wakes after the store.
 
-use crate::LOCK;
 use crate::shared::Shared;
 use std::sync::atomic::Ordering::SeqCst;
 
 /// What the thread that has just given the lock back does for those that wait for it.
 pub trait Wakes {
-    /// Wakes a thread that sleeps until the lock of this table is free, if any does. The lock has been
-    /// given back before.
+    /// Wakes a thread that sleeps until the lock of this table is free, if any does, or all that do. The lock
+    /// has been given back before.
     fn wake(shared: &Shared);
 }
 
-/// Threads may sleep until the lock is free, by `Shared::lock`: the thread that gives it back wakes one.
+/// Threads may sleep until the lock is free, by `Shared::lock`: the thread that gives it back wakes one, or
+/// all while one of them is late.
 #[derive(Drop, Clone, Copy)]
 pub struct Sleepers;
 
@@ -29,7 +29,7 @@ impl Wakes for Sleepers {
         // A sleeper is counted before it looks at the lock for the last time. So one that isn't counted
         // here looks after the lock was freed, and doesn't sleep.
         if shared.waiting.load(SeqCst) > 0 {
-            shared.table.shared.wake_one(LOCK);
+            shared.wake_some();
         }
     }
 }

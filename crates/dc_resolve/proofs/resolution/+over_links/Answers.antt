@@ -1,9 +1,8 @@
-use Rattle.std.proofs.Common.{◌<◌, ◌+◌, ◌-◌, ◌*◌, ◌≤◌, Some, ap, sym, arith, rules, ◌∙◌}
-use Rattle.dc_resolve.specs.Steps.{met_shown}
-use Rattle.dc_resolve.proofs.Needed.{first_over, text_of, text_over}
-use Rattle.dc_resolve.proofs.Passing.{from_first, none_first, came_over, came_to_end, if_ok_all, kept_at_link, over_text, refused_at_link}
-use Rattle.dc_resolve.proofs.Spending.{may_over, may_text, over_link}
-use Rattle.dc_resolve.proofs.Walking.{link_said, may_follow, may_next, may_through, spent_all, walk_ended, walked_on, walked_through}
+use Rattle.std.proofs.Common.{◌<◌, ◌+◌, ◌-◌, ◌*◌, refl, arith, rules, ◌∙◌}
+use Rattle.dc_resolve.proofs.Needed.{first_over, text_of}
+use Rattle.dc_resolve.proofs.Passing.{kept_at_link, refused_at_link}
+use Rattle.dc_resolve.proofs.Spending.{may_text, over_link}
+use Rattle.dc_resolve.proofs.Walking.{may_next, may_go_over, may_pass, spent_all, text_leads, walk_ended, walk_over, walk_stops, walked_on, walked_through}
 use Rattle.dc_resolve.proofs.resolution.+over_links.Goals as goal
 
 pub walk_bytes-ask_first-requires-clause-may : goal.walk_bytes-ask_first-requires-clause-may
@@ -13,40 +12,29 @@ pub walk_bytes-ask_first-requires-clause-spend : goal.walk_bytes-ask_first-requi
 walk_bytes-ask_first-requires-clause-spend g t c = may_next g.F.Finder c.parts.invariant c.requires.spend
 
 pub walk_bytes-returns-in_default-clause-left : goal.walk_bytes-returns-in_default-clause-left
-walk_bytes-returns-in_default-clause-left g t c = let went = c.in_ok-reached.ensures in spent_all g.F.Finder c.parts.invariant went.left c.in_default.is c.at_end.result c.at_end.ensures.left
+walk_bytes-returns-in_default-clause-left g t c = spent_all g.F.Finder c.parts.invariant c.in_ok-reached.ensures c.in_default.is c.at_end.result c.at_end.ensures.left
 
 pub walk_bytes-returns-in_default-clause-leads : goal.walk_bytes-returns-in_default-clause-leads
-walk_bytes-returns-in_default-clause-leads g t c =
-    let went = c.in_ok-reached.ensures in let said = g.F.Finder.said c.ask_first.new.finder in
-    came_over c.parts.invariant.came (g.met.F.Finder.keeps _ _ went.kept.becomes) (none_first said c.parts.place c.parts.rest.now went.taken c.in_default.is) (c.at_end.ensures.leads said)
+walk_bytes-returns-in_default-clause-leads g t c = walk_over g.F.Finder c.parts.invariant c.in_ok-reached.ensures g.met.F.Finder.keeps c.in_default.is (c.at_end.ensures.leads _)
 
 pub walk_bytes-parts-preserved-in-Dir : goal.walk_bytes-parts-preserved-in-Dir
-walk_bytes-parts-preserved-in-Dir g t c = let went = c.in_ok-reached.ensures in
-    walked_on g.F.Finder g.met.F.Finder.goes_on g.met.F.Finder.keeps c.parts.invariant went.kept.becomes went.taken c.in-Some.is went.left (ap met_shown c.in-Dir.is)
+walk_bytes-parts-preserved-in-Dir g t c = let m = g.met.F.Finder in walked_on g.F.Finder m.goes_on m.keeps c.parts.invariant c.in_ok-reached.ensures c.in-Some.is c.in-Dir.is refl
 
 pub walk_bytes-parts-preserved-in-File : goal.walk_bytes-parts-preserved-in-File
-walk_bytes-parts-preserved-in-File g t c = let went = c.in_ok-reached.ensures in
-    walked_on g.F.Finder g.met.F.Finder.goes_on g.met.F.Finder.keeps c.parts.invariant went.kept.becomes went.taken c.in-Some.is went.left (ap met_shown c.in-File.is)
+walk_bytes-parts-preserved-in-File g t c = let m = g.met.F.Finder in walked_on g.F.Finder m.goes_on m.keeps c.parts.invariant c.in_ok-reached.ensures c.in-Some.is c.in-File.is refl
 
 pub walk_bytes-returns-in-Stops-clause-leads : goal.walk_bytes-returns-in-Stops-clause-leads
-walk_bytes-returns-in-Stops-clause-leads g t c = let went = c.in_ok-reached.ensures in
-    came_to_end c.parts.invariant.came (g.met.F.Finder.keeps _ _ went.kept.becomes) (from_first went.taken c.in-Some.is) (ap met_shown c.in-Stops.is)
+walk_bytes-returns-in-Stops-clause-leads g t c = let m = g.met.F.Finder in walk_stops g.F.Finder m.goes_on m.keeps c.parts.invariant c.in_ok-reached.ensures c.in-Some.is c.in-Stops.is
 
 pub walk_bytes-walk_link-requires : goal.walk_bytes-walk_link-requires
-walk_bytes-walk_link-requires g t c = let went = c.in_ok-reached.ensures in
-    let may = may_through g.F.Finder g.met.F.Finder.goes_on g.met.F.Finder.keeps c.parts.invariant went.kept.becomes went.taken c.in-Some.is went.left c.in-Meets.is c.is_end-is_last.ensures c.requires.may in
-    let said = link_said g.F.Finder g.met.F.Finder.goes_on g.met.F.Finder.keeps c.parts.invariant went.kept.becomes went.taken c.in-Some.is went.left c.in-Meets.is in
-    let less : 2 * c.parts.left < t = omega (arith, c.parts.invariant.fewer) in
-    let spend = may_follow g.F.Finder g.met.F.Finder.goes_on g.met.F.Finder.keeps c.parts.invariant went.kept.becomes went.taken c.in-Some.is went.left c.in-Meets.is c.requires.spend in
-    search (rules, less, may, said, spend)
+walk_bytes-walk_link-requires g t c = let m = g.met.F.Finder in let less : 2 * c.parts.left < t = omega (arith, c.parts.invariant.fewer) in
+    let may = may_pass g.F.Finder m.goes_on m.keeps c.parts.invariant c.in_ok-reached.ensures c.in-Some.is c.in-Meets.is c.is_end-is_last.ensures c.requires.may c.requires.spend in search (rules, less, may.0, may.1.0, may.1.1)
 
 pub walk_bytes-returns-in-Ended-clause-leads : goal.walk_bytes-returns-in-Ended-clause-leads
-walk_bytes-returns-in-Ended-clause-leads g t c = let went = c.in_ok-reached.ensures in let over = c.in_ok-end-in-Meets.ensures in
-    walk_ended g.F.Finder g.met.F.Finder.goes_on g.met.F.Finder.keeps c.parts.invariant went.kept.becomes went.taken c.in-Some.is went.left c.in-Meets.is c.is_end-is_last.ensures over.kept.becomes over.leads c.in-Ended.is
+walk_bytes-returns-in-Ended-clause-leads g t c = let m = g.met.F.Finder in walk_ended g.F.Finder m.goes_on m.keeps c.parts.invariant c.in_ok-reached.ensures c.in-Some.is c.in-Meets.is c.is_end-is_last.ensures c.in_ok-end-in-Meets.ensures c.in-Ended.is
 
 pub walk_bytes-parts-preserved : goal.walk_bytes-parts-preserved
-walk_bytes-parts-preserved g t c = let went = c.in_ok-reached.ensures in let over = c.in_ok-end-in-Meets.ensures in
-    walked_through g.F.Finder g.met.F.Finder.goes_on g.met.F.Finder.keeps c.parts.invariant went.kept.becomes went.taken c.in-Some.is went.left c.in-Meets.is c.is_end-is_last.ensures over.kept.becomes over.leads over.through over.left c.in-Through.is
+walk_bytes-parts-preserved g t c = let m = g.met.F.Finder in walked_through g.F.Finder m.goes_on m.keeps c.parts.invariant c.in_ok-reached.ensures c.in-Some.is c.in-Meets.is c.is_end-is_last.ensures c.in_ok-end-in-Meets.ensures c.in-Through.is
 
 pub walk_link-returns-then-is_kept-clause-leads : goal.walk_link-returns-then-is_kept-clause-leads
 walk_link-returns-then-is_kept-clause-leads g t c = kept_at_link (let is = c.is_kept.ensures in cc)
@@ -61,18 +49,12 @@ pub walk_link-link_text-requires-clause-spend : goal.walk_link-link_text-require
 walk_link-link_text-requires-clause-spend g t c = may_text g.F.Finder c.args.links (omega arith) c.requires.spend
 
 pub walk_link-walk_bytes-requires : goal.walk_link-walk_bytes-requires
-walk_link-walk_bytes-requires g t c = let text = c.in_ok-text.ensures in
-    let may = text_over g.F.Finder c.args.follow c.args.slash c.args.at g.met.F.Finder.goes_on g.met.F.Finder.keeps c.requires.may text.becomes (let is = c.is_kept.ensures in cc) (omega arith) (text.told ∙ ap Some (sym (c.known-path.ensures ∙ c.bytes.ensures))) c.bytes-2.ensures.bytes c.base_of-base.ensures c.slash_after-ends.ensures in
-    let less : 2 * (c.args.links - 1) + 1 < t = omega arith in
-    let same = c.bytes-2.ensures.bytes ∙ c.known-path.ensures ∙ c.bytes.ensures in
-    let spend = may_over g.F.Finder g.met.F.Finder.spends_less c.args.links (omega arith) same text.left c.requires.spend in
-    search (rules, less, may, spend)
+walk_link-walk_bytes-requires g t c = let m = g.met.F.Finder in let text = c.in_ok-text.ensures in let less : 2 * (c.args.links - 1) + 1 < t = omega arith in
+    let may = may_go_over g.F.Finder m.goes_on m.keeps c.args.follow c.args.slash c.args.is_last c.args.at (let is = c.is_kept.ensures in cc) (omega arith) text.told (c.known-path.ensures ∙ c.bytes.ensures) c.bytes-2.ensures.bytes c.base_of-base.ensures c.slash_after-ends.ensures m.spends_less c.requires.may c.requires.spend text.becomes text.left in search (rules, less, may.0, may.1)
 
 pub walk_link-returns-clause-leads : goal.walk_link-returns-clause-leads
-walk_link-returns-clause-leads g t c = let text = c.in_ok-text.ensures in let over = c.walk_bytes.ensures in
-    if_ok_all c.walk_bytes.result _ _ _ _ (λ on way leads middle. over_text (λ left. left ≤ c.args.links - 1) (let is = c.is_kept.ensures in cc) (omega arith)
-    ((g.met.F.Finder.keeps _ _ on).text _ _ text.told ∙ ap Some (sym (c.known-path.ensures ∙ c.bytes.ensures))) c.bytes-2.ensures.bytes c.base_of-base.ensures c.slash_after-ends.ensures leads middle) over.kept.becomes over.leads over.through
+walk_link-returns-clause-leads g t c = let m = g.met.F.Finder in let text = c.in_ok-text.ensures in let over = c.walk_bytes.ensures in
+    text_leads g.F.Finder m.goes_on m.keeps c.args.follow c.args.slash c.args.is_last c.args.at (let is = c.is_kept.ensures in cc) (omega arith) text.told (c.known-path.ensures ∙ c.bytes.ensures) c.bytes-2.ensures.bytes c.base_of-base.ensures c.slash_after-ends.ensures c.walk_bytes.result over.kept over.leads over.through
 
 pub walk_link-returns-clause-left : goal.walk_link-returns-clause-left
-walk_link-returns-clause-left g t c = let text = c.in_ok-text.ensures in let over = c.walk_bytes.ensures in
-    over_link g.F.Finder g.met.F.Finder.spends_less c.args.links (omega arith) (c.bytes-2.ensures.bytes ∙ c.known-path.ensures ∙ c.bytes.ensures) text.left c.walk_bytes.new.finder c.walk_bytes.result over.left
+walk_link-returns-clause-left g t c = over_link g.F.Finder g.met.F.Finder.spends_less c.args.links (omega arith) (c.bytes-2.ensures.bytes ∙ c.known-path.ensures ∙ c.bytes.ensures) c.in_ok-text.ensures.left c.walk_bytes.new.finder c.walk_bytes.result c.walk_bytes.ensures.left

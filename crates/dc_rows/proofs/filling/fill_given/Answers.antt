@@ -5,7 +5,7 @@ use Rattle.dc_rows.specs.Filling.{Redone}
 use Rattle.dc_rows.proofs.Placed.{told_now, told_last, told_nothing}
 use Rattle.dc_shrink.specs.Listings.{pins_of}
 use Rattle.dc_rows.proofs.Lists.{pins_dropped_here}
-use Rattle.dc_rows.proofs.Fills.{no_pins, used_since, filled_first, filled_last, filled_none}
+use Rattle.dc_rows.proofs.Fills.{used_since, filled_first, filled_last, filled_none}
 use Rattle.dc_rows.proofs.Stages.{rest_on}
 use Rattle.dc_rows.proofs.filling.fill_given.Goals as goal
 
@@ -29,13 +29,13 @@ pub returns-in_default-clause-rows : goal.returns-in_default-clause-rows
 returns-in_default-clause-rows c = filled_none _ _ c.args.row c.empty.ensures.emptied (c.empty.ensures.shrinker ∙ c.in_default.ensures.err)
 
 pub returns-in_default-clause-unpinned : goal.returns-in_default-clause-unpinned
-returns-in_default-clause-unpinned c = ap (λ u. pins_of u c.args.row) (c.empty.ensures.shrinker ∙ c.in_default.ensures.err) ∙ no_pins _ _ c.args.row c.in_default.ensures.unused
+returns-in_default-clause-unpinned c = ap (λ u. pins_of u c.args.row) (c.empty.ensures.shrinker ∙ c.in_default.ensures.err) ∙ pins_dropped_here c.args.kept.now.shrinker c.args.row
 
 pub returns-then-rewrite-clause-rows : goal.returns-then-rewrite-clause-rows
 returns-then-rewrite-clause-rows c = filled_first _ _ c.args.row _ _ c.rewrite.ensures.redone refl c.in-Ok.ensures.first (used_since c.in-Ok.ensures.unused c.in-Ok.ensures.used)
 
 pub returns-then-rewrite-clause-unpinned : goal.returns-then-rewrite-clause-unpinned
-returns-then-rewrite-clause-unpinned c = ap (λ u. pins_of u c.args.row) c.in-Ok.ensures.first ∙ no_pins _ _ c.args.row c.in-Ok.ensures.unused
+returns-then-rewrite-clause-unpinned c = ap (λ u. pins_of u c.args.row) c.in-Ok.ensures.first ∙ pins_dropped_here c.args.kept.now.shrinker c.args.row
 
 pub returns-clause-rows : goal.returns-clause-rows
 returns-clause-rows c = filled_last _ _ c.args.row _ _ c.renew.new.self c.rewrite.ensures.redone c.retire.ensures c.in-Ok.ensures.first (used_since c.in-Ok.ensures.unused c.in-Ok.ensures.used) c.remove.ensures.dropped c.remove.ensures.unused
