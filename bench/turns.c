@@ -13,7 +13,8 @@
 #include <string.h>
 #include <time.h>
 
-enum { CALLS = 512, FILES = 1000, PAIRS = 32, BUCKETS = 1024, INODES = 1 << 20, ROOT = 1, MOST_TURNS = 1 << 16, ROOM = 128 };
+enum { CALLS = 512, FILES = 1000, PAIRS = 32, MOST_TURNS = 1 << 16, ROOM = 128 };
+enum { ROOT = 1, BUCKETS = 1024, INODES = 1 << 20 };
 
 struct text {
     char bytes[ROOM];

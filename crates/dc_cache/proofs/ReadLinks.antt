@@ -14,7 +14,7 @@ use Rattle.dc_plain.specs.LivingLaws.{WalksLeadToTheLiving}
 use Rattle.dc_plain.specs.Operations.{settled, left_alone}
 use Rattle.dc_plain.specs.Refusals.{◌>>=◌, walk_on}
 use Rattle.dc_plain.specs.Requests.{Answer, answer_of}
-use Rattle.dc_plain.specs.Requests.Answer.{Found, Done, Nothing, Bytes, Names, Counted, Refused}
+use Rattle.dc_plain.specs.Requests.Answer.{Found, Bytes, Refused}
 use Rattle.dc_plain.specs.Trees.{Tree, Inode, empty_tree, inode_of, kind_of, target_at, text_in, text_of}
 use Rattle.dc_plain.specs.Trees.Inode.{Directory, Regular, Symbolic}
 use Rattle.dc_events.specs.Standing.{tree_of}

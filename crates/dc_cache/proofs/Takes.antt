@@ -1,6 +1,6 @@
 -- A change that was made under the lock was made from before the lock was got, and what it took away was told.
 use Rattle.std.specs.Borrow.{MutBor}
-use Rattle.std.proofs.Common.{◌≡◌, ℕ, ◌++◌, ◌∷◌, [], List, true, Option, Bool, IsTrue, Result, Ok, Err, arith, refl, ap, sym, subst, ◌∙◌}
+use Rattle.std.proofs.Common.{◌≡◌, ℕ, ◌++◌, ◌∷◌, [], true, Option, Bool, IsTrue, Result, Ok, Err, arith, refl, ap, sym, subst, ◌∙◌}
 use Rattle.dc_plain.specs.Requests.{Request, answer_of}
 use Rattle.dc_plain.specs.Runs.{alters, reply_of}
 use Rattle.dc_plain.specs.Trees.{Tree}
@@ -21,7 +21,7 @@ use Rattle.dc_table.specs.Shares.{Known, Share, HadOnce, one_more}
 use Rattle.dc_table.specs.declared.table.Guarded.{Guarded}
 use Rattle.dc_walk.specs.Becomings.{nothing_again}
 use Rattle.dc_cache.specs.Answers.{Made}
-use Rattle.dc_cache.specs.Losses.{gone_of, if_made, parted, LeavesWarm, MakesOnce, TakesAway}
+use Rattle.dc_cache.specs.Losses.{gone_of, if_made, parted, MakesOnce, TakesAway}
 use Rattle.dc_cache.specs.declared.cache.Pass.{Pass}
 use Rattle.dc_cache.specs.declared.gone.Gone.{Gone}
 use Rattle.dc_cache.proofs.Tellings.{nothing_took}

@@ -66,8 +66,8 @@ impl<W: Wakes> Cache<W> {
 
     /// The cache of a table, and a pass with this seat at it.
     fn over(shared: Shared, seat: Seat) -> (Cache<W>, Pass)
-        ensures shared { result.0.shared ≡ shared.entry }
-        ensures seat { result.1.seat ≡ seat.entry }
+        ensures shared { result.0.shared ≡ shared }
+        ensures seat { result.1.seat ≡ seat }
     {
         let cache = Cache {
             shared,

@@ -1,12 +1,11 @@
 -- The words of a row after a write.
-use Rattle.std.proofs.Common.{◌≡◌, ◌≢◌, ℕ, zero, suc, ◌+◌, ◌<◌, ◌≤◌, List, ◌∷◌, length, set, get_or, refl, sym, ap, ap₂, ◌∙◌, arith, get_or-set_other, get_or-set_same, length-set, Bool, true, false, if◌then◌else◌, Option, None}
+use Rattle.std.proofs.Common.{◌≡◌, ◌≢◌, ℕ, zero, suc, ◌+◌, ◌<◌, ◌≤◌, List, ◌∷◌, length, set, get_or, refl, sym, ap, ap₂, ◌∙◌, arith, get_or-set_other, get_or-set_same, Bool, true, false, if◌then◌else◌, Option, None}
 use Rattle.dc_plain.specs.Facts.{Fact}
 use Rattle.dc_row.specs.Spelling.{Spells}
 use Rattle.dc_names.specs.declared.limits.TheConstants.{ROW_WORDS}
 use Rattle.dc_row.specs.declared.TheConstants.{EMPTY_ROW}
 use Rattle.dc_events.specs.Rows.{base_of, count, words_from, row_words}
 use Rattle.dc_table.specs.Rows.{cell}
-use Rattle.dc_rows.specs.Rows.{Writing, Wrote}
 
 words_from_set : (words : List ℕ) (k n i x : ℕ) → ((j : ℕ) → k ≤ j → j < k + n → i ≢ j) → words_from (set words i x) k n ≡ words_from words k n
 words_from_set words k zero i x apart = refl

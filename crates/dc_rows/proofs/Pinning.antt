@@ -12,14 +12,14 @@ use Rattle.dc_row.specs.Spelling.{Spells}
 use Rattle.dc_row.specs.declared.TheConstants.{EMPTY_ROW}
 use Rattle.dc_index.specs.Slots.{Slot, slot_of}
 use Rattle.dc_index.specs.Slots.Slot.{Holds as Held}
-use Rattle.dc_shrink.specs.Listings.{Listing, listing, is_in, is_used, pins_of, without, dropped, with_pins, pinned_once, unpinned_once}
+use Rattle.dc_shrink.specs.Listings.{Listing, listing, is_in, pins_of, without, dropped, with_pins, pinned_once, unpinned_once}
 use Rattle.dc_shrink.specs.Uses.{KeepsUse, SetsUse}
 use Rattle.dc_events.specs.Rows.{row_words}
 use Rattle.dc_table.specs.RowStates.{RowState}
 use Rattle.dc_rows.specs.Filling.{Emptied}
-use Rattle.dc_rows.specs.RowChanges.{SameRow, KeepsWords, OnlyRow, IsEmpty, UnpinsRow, UnpinsAll, IsChosen, HasGot, MayFill, Gets, IsFilled, PinsAnswered, SamePins}
+use Rattle.dc_rows.specs.RowChanges.{SameRow, KeepsWords, OnlyRow, IsEmpty, UnpinsRow, UnpinsAll, IsChosen, HasGot, Gets, IsFilled, PinsAnswered, SamePins}
 use Rattle.dc_rows.proofs.Lists.{filter_past, without_twice, without_first, pins_dropped, pins_dropped_here, pins_with, pins_with_here}
-use Rattle.dc_rows.proofs.SameRows.{same_row, same_then, empty_still, empties_row, row_dropped}
+use Rattle.dc_rows.proofs.SameRows.{same_then, empty_still, empties_row, row_dropped}
 
 pub only_then : (s t u : RowState) (row : ℕ) → OnlyRow row s t → OnlyRow row t u → OnlyRow row s u
 only_then s t u row a b = record { others = λ r ne. same_then s t u r (a.others r ne) (b.others r ne); order = b.order ∙ a.order }

@@ -1,5 +1,5 @@
 -- A row is written anew, and gets another slot.
-use Rattle.std.proofs.Common.{◌≡◌, ◌≢◌, ◌↔◌, ℕ, ◌+◌, ◌%◌, ◌-◌, ◌<◌, ◌≤◌, Bool, true, false, List, length, slice_set, set, Option, Some, None, is_some, refl, sym, ap, ◌∙◌, subst, arith, ⊎_elim, nat_eq, true≢false, length-set, set-set, get_or, get_or-set_same, get_or-set_other, if◌then◌else◌}
+use Rattle.std.proofs.Common.{◌≡◌, ◌↔◌, ℕ, ◌%◌, ◌-◌, ◌<◌, ◌≤◌, Bool, true, false, List, length, slice_set, Option, Some, None, is_some, refl, sym, ap, ◌∙◌, subst, arith, ⊎_elim, nat_eq, true≢false, length-set, set-set, get_or-set_same, get_or-set_other}
 use Rattle.std.proofs.lemmas.Bool.{cases_lt, eq-eqb, or_left, or_right}
 use Rattle.std.proofs.lemmas.List.{get_or_past}
 use Rattle.std.proofs.lemmas.Map.Keys.{any_passes_from_place}
@@ -14,12 +14,11 @@ use Rattle.dc_index.specs.Slots.{Slot, slot_of, has_key}
 use Rattle.dc_index.specs.Slots.Slot.{Free, Retired, Holds as Held}
 use Rattle.dc_shrink.specs.Listings.{Listing, is_in, last_of, pins_of}
 use Rattle.dc_shrink.specs.Uses.{SetsUse}
-use Rattle.dc_events.specs.Rows.{most, base_of, count, row_words}
+use Rattle.dc_events.specs.Rows.{most, count, row_words}
 use Rattle.dc_table.specs.Rows.{At, is_retired, OfNone, Agree, FitsSlot, IsOf, Rest}
-use Rattle.dc_rows.specs.Rows.{MayTell, Wrote}
 use Rattle.dc_rows.specs.Filling.{Redone, Emptied, Given}
 use Rattle.dc_rows.specs.Narrow.{ZeroFrom, HasFrom, most_words}
-use Rattle.dc_rows.proofs.Cells.{row_raised, spells_none, spells_too}
+use Rattle.dc_rows.proofs.Cells.{spells_none, spells_too}
 use Rattle.dc_rows.proofs.Narrow.{has_zeros, past_empty, past_text, rest_narrow, zero_later}
 use Rattle.dc_rows.proofs.Slots.{moved, agrees}
 

@@ -1,15 +1,15 @@
 -- Rows that are as they were, and rows that are emptied.
-use Rattle.std.proofs.Common.{◌≡◌, ◌≢◌, ◌⊎◌, ◌↔◌, ℕ, ◌+◌, ◌-◌, ◌<◌, ◌≤◌, Bool, true, false, if◌then◌else◌, List, length, take, slice_set, get_or, Some, None, refl, sym, ap, ◌∙◌, subst, subst₂, arith, inl, inr, nat_eq, length-take, get_or-set_same, get_or-set_other}
+use Rattle.std.proofs.Common.{◌≡◌, ◌≢◌, ◌↔◌, ℕ, ◌+◌, ◌-◌, ◌<◌, ◌≤◌, true, false, List, length, take, slice_set, get_or, Some, None, refl, sym, ap, ◌∙◌, subst, subst₂, arith, inl, inr, nat_eq, length-take, get_or-set_same, get_or-set_other}
 use Rattle.std.specs.List.{IsDistinct}
 use Rattle.std.proofs.lemmas.Bool.{cases_eq, or_parts}
-use Rattle.std.proofs.lemmas.List.{take-take, take_all}
+use Rattle.std.proofs.lemmas.List.{take-take}
 use Rattle.std.proofs.lemmas.Map.Keys.{any_passes_from_place}
 use Rattle.std.proofs.lemmas.Option.{slice_get_within}
 use Rattle.std.proofs.lemmas.Bool.{eq-eqb}
 use Rattle.dc_row.specs.Spelling.{Spells}
 use Rattle.dc_row.specs.declared.TheConstants.{EMPTY_ROW}
 use Rattle.dc_index.specs.Slots.{Slot, slot_of, has_key}
-use Rattle.dc_index.specs.Slots.Slot.{Free, Retired}
+use Rattle.dc_index.specs.Slots.Slot.{Free}
 use Rattle.dc_shrink.specs.Listings.{Listing, is_in, dropped, last_of, pins_of, without}
 use Rattle.dc_shrink.specs.Uses.{SetsUse}
 use Rattle.dc_events.specs.Rows.{most, count, row_words}

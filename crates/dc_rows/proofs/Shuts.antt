@@ -16,7 +16,7 @@ use Rattle.dc_rows.specs.Rows.{Between, Stage, Wrote}
 use Rattle.std.proofs.lemmas.Bool.{cases_lt}
 use Rattle.dc_rows.proofs.Cells.{count_now, row_raised, spells_too}
 use Rattle.dc_rows.proofs.Narrow.{narrow_moved, narrow_raised, past_nothing}
-use Rattle.dc_rows.proofs.Slots.{held_two, held_inside, held_within, keyless_held, only_row, unheld, at_for, moved, first_more, agrees}
+use Rattle.dc_rows.proofs.Slots.{held_two, held_inside, held_within, keyless_held, only_row, moved, first_more, agrees}
 use Rattle.dc_rows.proofs.Turning.{not_before}
 
 -- a row that isn't retired has a count that may still grow

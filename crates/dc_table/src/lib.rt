@@ -88,7 +88,7 @@ pub(crate) const MOST_DOUBLINGS: u64 = 5;
 pub(crate) const NAP: u64 = 2;
 
 /// How often a pass has slept in vain when it is late.
-pub(crate) const PATIENCE: u64 = 3;
+pub(crate) const PATIENCE: u64 = 2;
 
 /// How often a pass has slept in vain when it waits for no late pass any longer.
 pub(crate) const MOST_SLEEPS: u64 = 64;

@@ -1,5 +1,6 @@
 //! A table as it is made and ended, its lock, and its steps by hand.
 
+mod late;
 mod lock;
 
 ghost use Rattle.dc_table.specs.Passes.{Fits, IsIdle};

@@ -1,7 +1,7 @@
 //! The words of the command line.
 
 use crate::fault::Fault;
-use crate::work::{ChangeTask, LookTask, Miss, RaceTask, Shape, Sort, Style, Task, Work};
+use crate::work::{ChangeTask, LookTask, Miss, RaceTask, Shape, Sort, Style, Task, WaitTask, Work};
 use clap::builder::ValueParser;
 use clap::{Arg, ArgAction, ArgMatches, Command, Error};
 use dc_names::MOST_TABLE_BUCKETS;
@@ -89,6 +89,25 @@ const SHAPE: [Choice; 4] = [
 
 const CHANGE: [Choice; 3] = [THREADS, SECONDS, JSON];
 
+const WAITS: [Choice; 4] = [
+    Choice(
+        "hogs",
+        Given::Value("N", "3", ValueParser::Unsigned(1, 62)),
+        "Threads that hold the lock, from 1 to 62",
+    ),
+    Choice(
+        "hold",
+        Given::Value("MS", "5", ValueParser::Unsigned(1, 100)),
+        "For how many milliseconds they hold it at a time, about, from 1 to 100",
+    ),
+    Choice(
+        "seconds",
+        Given::Value("S", "5", ValueParser::Float),
+        "How long each row of the table is timed, as 0.5",
+    ),
+    JSON,
+];
+
 const RACE: [Choice; 6] = [
     Choice("RACE", Given::Race, "What is renamed above the path"),
     Choice(
@@ -123,12 +142,18 @@ struct Deed(
     &'static [Choice],
 );
 
-static DEEDS: [Deed; 4] = [
+static DEEDS: [Deed; 5] = [
     Deed("look", "Times look-ups by 1 to N threads", &LOOK, &SHAPE),
     Deed(
         "change",
         "Times changes by 1 to N threads, each of which makes and unlinks a file of its own",
         &CHANGE,
+        &[],
+    ),
+    Deed(
+        "waits",
+        "Times changes and missed look-ups beside 1 to N threads that hold the lock for long",
+        &WAITS,
         &[],
     ),
     Deed(
@@ -273,6 +298,15 @@ fn change_of(matches: &ArgMatches<'_>) -> ChangeTask {
     }
 }
 
+fn waits_of(matches: &ArgMatches<'_>) -> WaitTask {
+    WaitTask {
+        hogs: number_of(matches, "hogs"),
+        time: time_of(matches),
+        hold: Duration::from_millis(number_of(matches, "hold")),
+        json: matches.get_flag("json"),
+    }
+}
+
 /// What a command and its options ask for.
 fn task_in<'a>(matches: &ArgMatches<'a>) -> Task<'a> {
     let Some((name, found)) = matches.subcommand() else {
@@ -281,6 +315,7 @@ fn task_in<'a>(matches: &ArgMatches<'a>) -> Task<'a> {
     match name {
         "look" => Task::Look(look_of(found)),
         "change" => Task::Change(change_of(found)),
+        "waits" => Task::Waits(waits_of(found)),
         "race" => Task::Race(race_of(found)),
         _ => Task::Tree(shape_of(found, Miss::NameByName)),
     }

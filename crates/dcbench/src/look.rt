@@ -177,7 +177,7 @@ fn look_texts<R: Wait>(
 }
 
 /// Makes the thread's next change, and counts it if the tree was asked.
-fn change_next<R: Wait>(
+pub fn change_next<R: Wait>(
     rt: &R,
     alloc: Global,
     cache: &Dcache,

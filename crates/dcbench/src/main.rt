@@ -1,4 +1,5 @@
-//! Times the cache by its public calls alone, and races look-ups against changes.
+//! Times the cache by its public calls alone, also beside threads that hold the lock for long, and races
+//! look-ups against changes.
 #![tactic(auto)]
 
 mod answers;
@@ -18,6 +19,8 @@ mod table;
 mod tally;
 mod threads;
 mod tree;
+mod waiting;
+mod waits;
 mod work;
 
 ghost use Rattle.std.specs.Thread.{IsSync};

@@ -97,6 +97,18 @@ impl fmt::Display for Nanoseconds {
     }
 }
 
+/// A number of picoseconds, shown in milliseconds with three digits behind the point.
+#[derive(Clone, Copy)]
+struct Milliseconds(u64);
+
+impl fmt::Display for Milliseconds {
+    fn fmt<W: fmt::Write>(&self, f: &mut fmt::Formatter<W>) -> fmt::Result {
+        let micros = self.0 / 1_000_000;
+        let (whole, rest) = (micros / 1_000, micros % 1_000);
+        write!(f, "{whole:>5}.{rest:03}")
+    }
+}
+
 /// Writes numbers, each behind a space and at the right of this many places.
 fn write_cells<W: fmt::Write>(f: &mut fmt::Formatter<W>, cells: &[(usize, u64)]) -> fmt::Result {
     for cell in cells {
@@ -232,6 +244,56 @@ impl Row for ChangeRow {
         members.numbers(&[
             ("changes_a_second", tally.rate),
             ("changes", tally.changes),
+            ("changes_refused", tally.wrong),
+        ])?;
+        members.line()
+    }
+}
+
+/// A row of waits: those of one kind of call.
+#[derive(Drop)]
+pub struct WaitRow {
+    /// `change` or `miss`.
+    pub call: &'static str,
+    /// How many threads hold the lock.
+    pub hogs: u64,
+    /// How many names they list, and how many picoseconds a list takes alone.
+    pub names: u64,
+    pub hold: u64,
+    pub tally: Tally,
+}
+
+/// What stands above the rows of waits.
+pub const WAIT_HEAD: &str = "waits   hogs   hold ms median ms      99th   longest  holds";
+
+impl fmt::Display for WaitRow {
+    fn fmt<W: fmt::Write>(&self, f: &mut fmt::Formatter<W>) -> fmt::Result {
+        let tally = &self.tally;
+        write!(f, "{:<6}", self.call)?;
+        write_cells(f, &[(5, self.hogs)])?;
+        write!(f, " {}", Milliseconds(self.hold))?;
+        for hundredths in [50, 99, 100] {
+            write!(f, " {}", Milliseconds(tally.quantile(hundredths)))?;
+        }
+        write_cells(f, &[(6, tally.passed)])
+    }
+}
+
+impl Row for WaitRow {
+    fn json(&self, alloc: Global) -> Result<String, AllocError> {
+        let tally = &self.tally;
+        let mut members = Members::of(alloc, "waits")?;
+        members.text("call", self.call)?;
+        members.numbers(&[
+            ("hogs", self.hogs),
+            ("names", self.names),
+            ("hold_ps", self.hold),
+        ])?;
+        members.times(tally)?;
+        members.numbers(&[
+            ("longest_ps", tally.quantile(100)),
+            ("holds", tally.passed),
+            ("calls", tally.calls()),
             ("changes_refused", tally.wrong),
         ])?;
         members.line()

@@ -7,10 +7,11 @@ use crate::drawing::draw;
 use crate::fault::Fault;
 use crate::order::{ordered, texts_of};
 use crate::racing::race_row;
-use crate::report::{CHANGE_HEAD, LOOK_HEAD, RACE_HEAD, Row};
+use crate::report::{CHANGE_HEAD, LOOK_HEAD, RACE_HEAD, Row, WAIT_HEAD};
 use crate::rows::{Plan, change_row, look_row};
 use crate::tree::{asked_in, lines_in, parsed};
-use crate::work::{ChangeTask, LookTask, Miss, RaceTask, Shape, Sort, Style, Task, Work};
+use crate::waiting::wait_rows;
+use crate::work::{ChangeTask, LookTask, Miss, RaceTask, Shape, Sort, Style, Task, WaitTask, Work};
 use std::alloc::{AllocError, Global};
 use std::fs;
 use std::io::Write;
@@ -134,6 +135,23 @@ fn change_by<R: Threads + Wait + Clock + Sync + Print>(
     Ok(())
 }
 
+/// Times calls beside 1 to this many threads that hold the lock.
+fn waits<R: Threads + Wait + Clock + Sync + Print>(
+    rt: &R,
+    alloc: Global,
+    task: &WaitTask,
+) -> Result<(), Fault>
+    requires { IsSync R.row }
+{
+    head(rt, WAIT_HEAD, task.json)?;
+    for hogs in 0..task.hogs {
+        let (changes, misses) = wait_rows(rt, alloc, task, hogs.saturating_add(1))?;
+        tell(rt, alloc, &changes, task.json)?;
+        tell(rt, alloc, &misses, task.json)?;
+    }
+    Ok(())
+}
+
 /// Tells a race in its style.
 fn race<R: Threads + Wait + Clock + Sync + Print>(
     rt: &R,
@@ -231,6 +249,13 @@ fn all<R: Threads + Wait + Clock + Sync + Print + Eprint + Files + AllocGlobal>(
         json: false,
     };
     change_by(rt, alloc, &task, &[1, 2, 4])?;
+    let task = WaitTask {
+        hogs: 3,
+        time: Duration::from_secs(1),
+        hold: Duration::from_millis(5),
+        json: false,
+    };
+    waits(rt, alloc, &task)?;
     races(rt, alloc)?;
     explain(rt, &answers);
     Ok(())
@@ -280,6 +305,7 @@ pub fn perform<R: Threads + Wait + Clock + Sync + Print + Eprint + Files + Alloc
             head(rt, CHANGE_HEAD, change.json)?;
             change_by(rt, alloc, change, &up_to(alloc, change.threads)?)
         }
+        Task::Waits(task) => waits(rt, alloc, task),
         Task::Race(task) => {
             head(rt, RACE_HEAD, !matches!(task.style, Style::Table))?;
             race(rt, alloc, task)

@@ -27,6 +27,8 @@ pub struct Tally {
     pub by_lock: u64,
     /// Look-ups by a call that doesn't tell how it was answered.
     pub untold: u64,
+    /// The most holds of the lock by others that ended within one call.
+    pub passed: u64,
     /// Calls a second, of all threads.
     pub rate: u64,
     /// Picoseconds of a call, by turn.
@@ -67,6 +69,7 @@ impl Tally {
             by_rows: 0,
             by_lock: 0,
             untold: 0,
+            passed: 0,
             rate: 0,
             turns: Vec::with_capacity(alloc, FIRST_TURNS).unwrap_or(Vec::new(alloc)),
         }
@@ -101,6 +104,7 @@ impl Tally {
         self.by_rows = self.by_rows.saturating_add(other.by_rows);
         self.by_lock = self.by_lock.saturating_add(other.by_lock);
         self.untold = self.untold.saturating_add(other.untold);
+        self.passed = self.passed.max(other.passed);
         self.rate = self.rate.saturating_add(other.rate);
         let _ = self.turns.extend_from_slice(&other.turns);
     }

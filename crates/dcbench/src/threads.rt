@@ -6,6 +6,7 @@ ghost use Rattle.std.specs.Thread.{IsSync};
 use crate::look::Looks;
 use crate::race::Race;
 use crate::tally::Tally;
+use crate::waits::Waits;
 use dc_cache::{Dcache, Pass};
 use std::rt::Clock;
 use std::sync::Wait;
@@ -16,6 +17,7 @@ use std::thread::{Threads, join};
 pub enum Job<'a> {
     Look(Looks<'a>),
     Race(Race<'a>),
+    Wait(Waits<'a>),
 }
 
 /// What one thread does.
@@ -31,6 +33,7 @@ fn work<R: Wait + Clock>(
     match job {
         Job::Look(looks) => looks.run(rt, cache, &mut pass, thread),
         Job::Race(race) => race.run(rt, cache, &mut pass, thread),
+        Job::Wait(waits) => waits.run(rt, cache, &mut pass, thread),
     }
 }
 
@@ -62,4 +65,29 @@ pub fn spread<R: Threads + Wait + Clock + Sync>(
     );
     tally.take_in(more);
     tally
+}
+
+/// Does a job in a thread, and in this many others at the same time, and tells the first one's tally from
+/// those of the others.
+pub fn first_and_others<R: Threads + Wait + Clock + Sync>(
+    rt: &R,
+    cache: &Dcache,
+    job: &Job<'_>,
+    mut pass: Pass,
+    others: u64,
+) -> (Tally, Tally)
+    requires sync { IsSync R.row }
+    requires pass { Fits cache.now pass }
+{
+    let other = cache.split(&mut pass);
+    let rest = others.saturating_sub(1);
+    join(
+        rt,
+        move || -> Tally
+            requires { Fits cache.now pass }
+        { work(rt, cache, job, pass, 0) },
+        move || -> Tally
+            requires { IsSync R.row × Fits cache.now other }
+        { spread(rt, cache, job, other, 1, rest) },
+    )
 }

@@ -129,6 +129,15 @@ pub struct ChangeTask {
     pub json: bool,
 }
 
+/// Calls beside 1 to this many threads that hold the lock for about this long at a time.
+#[derive(Clone, Copy)]
+pub struct WaitTask {
+    pub hogs: u64,
+    pub time: Duration,
+    pub hold: Duration,
+    pub json: bool,
+}
+
 /// A race of this many look-ups by this many threads.
 #[derive(Clone, Copy)]
 pub struct RaceTask {
@@ -155,6 +164,7 @@ pub enum Task<'a> {
     All,
     Look(LookTask<'a>),
     Change(ChangeTask),
+    Waits(WaitTask),
     Race(RaceTask),
     /// The lines of a tree that is drawn.
     Tree(Shape),
