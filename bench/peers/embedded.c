@@ -8,7 +8,11 @@
 
 const char *const peer_name = "embedded";
 
-enum { ROOT = 1, BUCKETS = 1024, INODES = 1048576 };
+#ifndef BUCKETS
+#define BUCKETS 1024
+#endif
+
+enum { ROOT = 1, INODES = 1048576 };
 
 static struct gb_gate gate;
 static struct gb_pass first;

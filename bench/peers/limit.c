@@ -3,7 +3,7 @@
  * Word 0 is the clock, word 1 the lock, and row r has the words from 2 + 36r on: its count, its header (tag 1, the
  * length from bit 8, the kind from bit 24), the number of its directory, the target's number or 0, and the name in 32
  * words. The row of a link's text has tag 2, the link's number, a 0, and the text, which begins at the root. A bucket
- * has four rows. Each load and each store is sequentially consistent.
+ * has four rows. Each load and each store is sequentially consistent. There are 1,024 buckets, or -DBUCKETS=N.
  *
  * It is the quickest walk over such rows that we know: of a name it packs the words that the name fills and no more, and
  * of a row that it uses it reads all words. With -DWHOLE it clears and packs all 32 words of each name, as it did until
@@ -22,21 +22,29 @@
 #include <sys/syscall.h>
 #include <unistd.h>
 
-enum { BUCKETS = 1024, BUCKET_ROWS = 4, ROW = 36, NAME_WORDS = 32, MOST_NOTES = 256, ENTRY = 1, TEXT = 2, ROOT = 1 };
+#ifndef BUCKETS
+#define BUCKETS 1024
+#endif
+#ifndef HEADS
+#define HEADS (1 << 17)
+#endif
+
+enum { BUCKET_ROWS = 4, ROW = 36, NAME_WORDS = 32, MOST_NOTES = 256, ENTRY = 1, TEXT = 2, ROOT = 1 };
 enum { NONE, DIRECTORY, PLAIN_FILE, LINK };
 enum { MOST_LINKS = 40, MOST_PATH = 4095, TEXT_ROOM = 8 * NAME_WORDS, LINK_TEXTS = 1 << 13 };
-enum { HEADS = 1 << 17, WALKS = 8, TRIES = 20, MOST_DOUBLINGS = 9 };
+enum { WALKS = 8, TRIES = 20, MOST_DOUBLINGS = 9 };
 
 /* What a walk by rows finds: what the path leads to or that it leads nowhere, that a name has no row, or that a row
  * was changed meanwhile. */
 enum answer { ABSENT, FOUND, MISSED, DISTURBED };
 
 #define PRIME 1099511628211u
-#define PRIME_TO_6TH (PRIME * PRIME * PRIME * PRIME * PRIME * PRIME)
+#define PRIME_TO_4TH (PRIME * PRIME * PRIME * PRIME)
+#define PRIME_TO_6TH (PRIME_TO_4TH * PRIME * PRIME)
 
 const char *const peer_name = "limit";
 
-static _Atomic uint64_t words[2 + BUCKETS * BUCKET_ROWS * ROW];
+static _Atomic uint64_t words[2 + (size_t)BUCKETS * BUCKET_ROWS * ROW];
 static uint64_t next_number;
 
 /* What a walk remembers of a row that it used. */
@@ -81,9 +89,10 @@ static inline uint64_t hash_number(uint64_t number)
         hash = (hash ^ (number & 255)) * PRIME;
         return (hash ^ (number >> 8)) * PRIME * PRIME_TO_6TH;
     }
-    for (int i = 0; i < 8; i++)
+    int bytes = number >> 32 ? 8 : 4;
+    for (int i = 0; i < bytes; i++)
         hash = (hash ^ (number >> 8 * i & 255)) * PRIME;
-    return hash;
+    return bytes == 4 ? hash * PRIME_TO_4TH : hash;
 }
 
 /* A name in the words that it fills, the first byte lowest, and how many these are. The last is filled up with zeros. */

@@ -7,7 +7,10 @@
 #include <stdlib.h>
 #include <string.h>
 
-enum { SLOTS = 1 << 18 };
+/* Twice as many as names may come, or more. */
+#ifndef SLOTS
+#define SLOTS (1 << 18)
+#endif
 
 const char *const peer_name = "rwlock";
 

@@ -2,13 +2,11 @@
  *
  * usage: judge DIR [--threads N] [--seconds S] [--calls N] [--seed N] [--depth N] [--mix CALL=N,..]
  *
- * It makes a folder of its own below DIR, works nowhere else, and removes it, also after a fault and when it is told to
- * stop (SIGINT, SIGTERM, SIGHUP). The trace (docs/FORMATS.md) goes to standard output, that folder its root. README.md
- * says the rest.
- *
- * The status: 0, the trace is written. 2, wrong words. 3, memory or a thread was refused. 4, a call failed by no fault of
- * its path (EIO, ENOSPC, EINTR ..), or the folder can't be made or removed, or the trace not be written; there is no
- * trace then. Told to stop, it ends by that signal, without a trace.
+ * It makes a folder of its own below DIR, works nowhere else, and removes it, also after a fault and when it is told
+ * to stop (SIGINT, SIGTERM, SIGHUP). The trace (docs/FORMATS.md) goes to standard output, that folder its root. It ends
+ * with 0; with 2 for wrong words; with 3 if memory or a thread was refused; with 4 if a call failed by no fault of its
+ * path (EIO, ENOSPC, EINTR ..), the folder can't be made or removed, or the trace not be written; or told to stop, by
+ * that signal. Only if it ends with 0 is there a whole trace.
  */
 #define _GNU_SOURCE
 #include <errno.h>
@@ -28,35 +26,43 @@
 #include <time.h>
 #include <unistd.h>
 
-enum { MOST_THREADS = 16, MOST_CALLS = 1000000, DEEPEST = 4, NAMES = 4, FREE_MOVES = 64 };
-enum { LONGEST = 24, LONGEST_FOLDER = 4096 };
+enum { MOST_THREADS = 16, MANY_CALLS = 1000000, MOST_CALLS = 10 * MANY_CALLS, LONGEST_TIME = 86400, DEEPEST = 4 };
+enum { NAMES = 4, FREE_MOVES = 64, LONGEST = 24, LONGEST_FOLDER = 4096, SECOND = 1000000000, TICK = 10000000 };
 enum { WRONG_WORDS = 2, REFUSED = 3, FAULT = 4 };
-enum { SECOND = 1000000000, TICK = 10000000 };
 
-/* What is called: first what only reads, then what names an inode that it tells, then what may take a name away. */
-enum verb { LOOK, LLOOK, READLINK, LINK, MKDIR, CREATE, OPEN, SYMLINK, UNLINK, RMDIR, RENAME, NO_REPLACE, EXCHANGE, VERBS };
+/* What is called, in the order in which it is found out whether the mount has it. */
+enum verb {
+    LOOK, LLOOK, MKDIR, OPEN, CREATE, LINK, SYMLINK, READLINK, EXCHANGE, NO_REPLACE, RENAME, UNLINK, RMDIR, VERBS
+};
+
+/* What a call does: it tells what it found; names an inode, which is to be told; may take a name away; moves one. */
+enum { TELLS = 1, GIVES = 2, TAKES = 4, MOVES = 8 };
 
 /* Which names a call mostly asks of: a and b are mostly directories, c and d mostly not. */
 enum likes { DIRECTORIES, OTHERS, ANY };
 
-/* Each by its word of --mix, the words of the trace, and how often it is called if --mix isn't given. */
+/* Each by its word of --mix and that of the trace, with how often it is called if --mix isn't given, what its last name
+ * mostly is, what it does, the flags of its system call, and a call that shows whether the mount has it. */
 static const struct {
     const char *word, *line;
     long weight;
+    enum likes likes;
+    int does, flags;
+    const char *from, *to;
 } verbs[VERBS] = {
-    [LOOK] = {"look", "look", 20},
-    [LLOOK] = {"llook", "llook", 10},
-    [READLINK] = {"readlink", "readlink", 6},
-    [LINK] = {"link", "link", 6},
-    [MKDIR] = {"mkdir", "mkdir", 12},
-    [CREATE] = {"create", "create", 5},
-    [OPEN] = {"open", "create", 5},
-    [SYMLINK] = {"symlink", "symlink", 5},
-    [UNLINK] = {"unlink", "unlink", 12},
-    [RMDIR] = {"rmdir", "rmdir", 8},
-    [RENAME] = {"rename", "rename", 9},
-    [NO_REPLACE] = {"no-replace", "rename2 n", 3},
-    [EXCHANGE] = {"exchange", "rename2 x", 3},
+    [LOOK] = {"look", "look", 20, ANY, TELLS, 0, "", ""},
+    [LLOOK] = {"llook", "llook", 10, ANY, TELLS, AT_SYMLINK_NOFOLLOW, "", ""},
+    [MKDIR] = {"mkdir", "mkdir", 12, DIRECTORIES, GIVES, 0, "a", ""},
+    [OPEN] = {"open", "create", 5, OTHERS, GIVES, 0, "b", ""},
+    [CREATE] = {"create", "create", 5, OTHERS, GIVES, 0, "c", ""},
+    [LINK] = {"link", "link", 6, OTHERS, GIVES, 0, "b", "d"},
+    [SYMLINK] = {"symlink", "symlink", 5, OTHERS, GIVES, 0, "b", "e"},
+    [READLINK] = {"readlink", "readlink", 6, OTHERS, 0, 0, "e", ""},
+    [EXCHANGE] = {"exchange", "rename2 x", 3, ANY, TAKES | MOVES, RENAME_EXCHANGE, "a", "b"},
+    [NO_REPLACE] = {"no-replace", "rename2 n", 3, ANY, TAKES | MOVES, RENAME_NOREPLACE, "a", "f"},
+    [RENAME] = {"rename", "rename", 9, ANY, TAKES | MOVES, 0, "b", "g"},
+    [UNLINK] = {"unlink", "unlink", 12, OTHERS, TAKES, 0, "", ""},
+    [RMDIR] = {"rmdir", "rmdir", 8, DIRECTORIES, TAKES, AT_REMOVEDIR, "", ""},
 };
 
 /* A call: when it began and had ended, its errno or 0, the inode that it made or found, if that is known. */
@@ -65,44 +71,45 @@ struct call {
     ino_t number;
     mode_t mode;
     short error;
-    unsigned char verb, known;
+    unsigned char verb, known, session;
     char from[LONGEST], to[LONGEST];
 };
 
-struct judge;
-
 struct actor {
-    struct judge *judge;
     struct call *calls;
-    long made, room, most;
+    long made, most, told;
     uint64_t random;
     pthread_t thread;
 };
 
-struct judge {
+/* The recording. */
+static struct {
     char path[LONGEST_FOLDER];
     int folder;
     long threads, seconds, calls, seed, depth, weights[VERBS], weight;
     atomic_long begun, ended; /* of the calls that may take a name away */
     atomic_int go, stop, running, status;
-    pthread_mutex_t lock;
-    char fault[256];
     struct actor actors[MOST_THREADS];
-};
+} judge = {.threads = 4, .seconds = 1, .calls = MANY_CALLS, .seed = 1, .depth = DEEPEST};
 
-/* Ends the recording. The first fault is the one that is told. */
-__attribute__((format(printf, 3, 4))) static void fail(struct judge *judge, int status, const char *form, ...)
+/* Ends the recording. The first fault is told. */
+__attribute__((format(printf, 2, 3))) static void fail(int status, const char *form, ...)
 {
+    int none = 0;
     va_list words;
     va_start(words, form);
-    pthread_mutex_lock(&judge->lock);
-    if (!judge->status) {
-        vsnprintf(judge->fault, sizeof judge->fault, form, words);
-        judge->status = status;
+    if (atomic_compare_exchange_strong(&judge.status, &none, status)) {
+        fputs("judge: ", stderr);
+        vfprintf(stderr, form, words);
+        fputs("\n", stderr);
     }
-    pthread_mutex_unlock(&judge->lock);
     va_end(words);
-    judge->stop = 1;
+    judge.stop = 1;
+}
+
+static void fail_call(const struct call *call, const char *why)
+{
+    fail(FAULT, "%s %s%s%s: %s", verbs[call->verb].word, call->from, *call->to ? " " : "", call->to, why);
 }
 
 static long now(void)
@@ -121,278 +128,167 @@ static long below(struct actor *actor, long limit)
     return (long)((z ^ (z >> 31)) % (uint64_t)limit);
 }
 
-/* A name, mostly one of a few that directories have, or of a few that the other kinds have. */
-static char choose_name(struct actor *actor, enum likes likes)
+/* A path of a few names, and how deep it leads, links aside. Each dot-dot stands directly behind a name, also in a
+ * link's text, and neither ends in dot-dot: so what it is asked of lies below the folder, whatever other threads
+ * rename, and no walk climbs out of the folder. */
+static long choose_path(struct actor *actor, char *path, enum likes likes)
 {
-    long any = below(actor, NAMES);
-    return (char)('a' + (likes == ANY || below(actor, 5) == 0 ? any : any % 2 + 2 * (likes == OTHERS)));
-}
-
-/* A path of a few names. Each dot-dot stands directly behind a name, also in a link's text, and neither ends in dot-dot: so
- * what it is asked of lies below the folder, whatever other threads rename, and no walk climbs out of the folder. */
-static void choose_path(struct actor *actor, char *path, enum likes likes)
-{
-    size_t used = 0;
-    for (long names = 1 + below(actor, 1 + below(actor, actor->judge->depth)); names > 0; names--) {
-        path[used++] = choose_name(actor, names > 1 ? DIRECTORIES : likes);
-        if (names > 1 && below(actor, 8) == 0) {
-            memcpy(path + used, "/..", 3);
-            used += 3;
-        }
-        path[used++] = names > 1 ? '/' : 0;
+    long depth = 0;
+    for (long names = 1 + below(actor, 1 + below(actor, judge.depth)); names > 0; names--) {
+        enum likes liked = names > 1 ? DIRECTORIES : likes;
+        long name = below(actor, NAMES);
+        if (liked != ANY && below(actor, 5) > 0)
+            name = name % 2 + 2 * (liked == OTHERS);
+        int climbs = names > 1 && below(actor, 8) == 0;
+        path += sprintf(path, "%c%s%s", (char)('a' + name), climbs ? "/.." : "", names > 1 ? "/" : "");
+        depth += !climbs;
     }
-}
-
-/* How deep a path leads, links aside. */
-static int depth_of(const char *path)
-{
-    int depth = 1;
-    for (const char *slash = strchr(path, '/'); slash; slash = strchr(slash + 1, '/'))
-        depth += slash[1] == '.' ? -1 : 1;
     return depth;
 }
 
-/* The paths of a rename or an exchange. Most renames lead no deeper, and most exchanges are of one depth: else directories
- * would be moved below what any path here reaches, more and more of them. */
-static void choose_move(struct actor *actor, struct call *call)
+/* Chooses the next call. Most renames lead no deeper, and most exchanges are of one depth: else directories would be
+ * moved below what any path here reaches, more and more of them. */
+static struct call *choose_call(struct actor *actor)
 {
-    int freely = below(actor, FREE_MOVES) == 0;
-    do {
-        choose_path(actor, call->from, ANY);
-        choose_path(actor, call->to, ANY);
-    } while (!freely && (depth_of(call->to) > depth_of(call->from) ||
-        (call->verb == EXCHANGE && depth_of(call->to) != depth_of(call->from))));
-}
-
-/* What a call's last name mostly is. */
-static enum likes likes_of(enum verb verb)
-{
-    if (verb == MKDIR || verb == RMDIR)
-        return DIRECTORIES;
-    return verb <= LLOOK || verb >= RENAME ? ANY : OTHERS;
-}
-
-static enum verb choose_verb(struct actor *actor)
-{
-    long at = below(actor, actor->judge->weight);
-    int verb = 0;
-    while (at >= actor->judge->weights[verb])
-        at -= actor->judge->weights[verb++];
-    return (enum verb)verb;
-}
-
-static struct call *next_call(struct actor *actor)
-{
-    if (actor->made == actor->room) {
-        long room = actor->room ? 2 * actor->room : 1024;
-        struct call *calls = realloc(actor->calls, (size_t)room * sizeof *calls);
-        if (!calls) {
-            fail(actor->judge, REFUSED, "no memory for %ld calls of a thread", room);
-            return NULL;
-        }
-        actor->calls = calls;
-        actor->room = room;
-    }
     struct call *call = &actor->calls[actor->made];
-    *call = (struct call){.verb = (unsigned char)choose_verb(actor)};
-    enum likes likes = likes_of(call->verb);
-    choose_path(actor, call->from, call->verb == SYMLINK ? ANY : likes);
-    if (call->verb == LINK || call->verb == SYMLINK)
-        choose_path(actor, call->to, likes);
-    if (call->verb >= RENAME)
-        choose_move(actor, call);
+    call->session = (unsigned char)(actor - judge.actors);
+    for (long at = below(actor, judge.weight); at >= judge.weights[call->verb]; call->verb++)
+        at -= judge.weights[call->verb];
+    enum likes likes = verbs[call->verb].likes;
+    int moves = verbs[call->verb].does & MOVES, freely = moves && below(actor, FREE_MOVES) == 0;
+    long from, to = 0;
+    do {
+        from = choose_path(actor, call->from, call->verb == SYMLINK ? ANY : likes);
+        if (moves || call->verb == LINK || call->verb == SYMLINK)
+            to = choose_path(actor, call->to, likes);
+    } while (moves && !freely && (to > from || (call->verb == EXCHANGE && to != from)));
     return call;
 }
 
 /* Makes a call. Answers below 0 with errno if it was refused, else what was opened, or the length of a link's text. */
-static int ask(int folder, struct call *call, struct stat *found)
+static int ask(struct call *call, struct stat *found)
 {
     const char *from = call->from, *to = call->to;
-    switch ((enum verb)call->verb) {
-    case LOOK: return fstatat(folder, from, found, 0);
-    case LLOOK: return fstatat(folder, from, found, AT_SYMLINK_NOFOLLOW);
-    case READLINK: return (int)readlinkat(folder, from, call->to, LONGEST);
-    case LINK: return linkat(folder, from, folder, to, 0);
+    int folder = judge.folder, flags = verbs[call->verb].flags;
+    switch (call->verb) {
+    case LOOK: case LLOOK: return fstatat(folder, from, found, flags);
+    case READLINK: return (int)readlinkat(folder, from, call->to, LONGEST - 1);
+    case LINK: return linkat(folder, from, folder, to, flags);
     case MKDIR: return mkdirat(folder, from, 0700);
     case CREATE: return mknodat(folder, from, S_IFREG | 0600, 0);
     case OPEN: return openat(folder, from, O_CREAT | O_EXCL | O_WRONLY | O_CLOEXEC, 0600);
     case SYMLINK: return symlinkat(from, folder, to);
-    case UNLINK: return unlinkat(folder, from, 0);
-    case RMDIR: return unlinkat(folder, from, AT_REMOVEDIR);
-    case RENAME: return renameat(folder, from, folder, to);
-    case NO_REPLACE: return renameat2(folder, from, folder, to, RENAME_NOREPLACE);
-    case EXCHANGE: return renameat2(folder, from, folder, to, RENAME_EXCHANGE);
-    case VERBS: break;
+    case UNLINK: case RMDIR: return unlinkat(folder, from, flags);
+    default: return renameat2(folder, from, folder, to, flags);
     }
-    errno = ENOSYS;
-    return -1;
 }
 
-/* The number of the inode that a call has just named. A file that is open tells it. Else it is that of what the name leads
- * to now, if nothing can have been taken away since the call began: none of the calls that may do so ran then, nor began. */
-static void tell_number(struct judge *judge, struct call *call, int opened, long ended, long begun)
+/* Makes a call, and notes its times and its answer. The number of an inode that it has just named is told by the file,
+ * if that is open. Else it is that of what the name leads to now, if nothing can have been taken away since the call
+ * began: none of the calls that may do so ran then, nor began. Of the two counts of these the one of calls that ended
+ * is read first: if both are one number, no such call ran as the second was read. */
+static void perform(struct call *call)
 {
-    struct stat made;
-    if (call->verb == OPEN) {
-        call->known = fstat(opened, &made) == 0;
-        close(opened);
-    } else {
-        const char *path = call->verb == SYMLINK || call->verb == LINK ? call->to : call->from;
-        call->known = fstatat(judge->folder, path, &made, AT_SYMLINK_NOFOLLOW) == 0;
-        call->known &= ended == begun && judge->begun == begun;
-    }
-    if (call->known)
-        call->number = made.st_ino;
-}
-
-/* Makes a call, and notes its times and its answer. Of the two counts the one of calls that ended is read first: if both are
- * one number, no such call ran as the second was read. */
-static void perform(struct judge *judge, struct call *call)
-{
-    int names = call->verb >= LINK && call->verb <= SYMLINK, takes = call->verb >= UNLINK;
     struct stat found = {0};
-    long ended = names ? judge->ended : 0, begun = names ? judge->begun : 0;
-    if (takes)
-        judge->begun++;
+    int does = verbs[call->verb].does;
+    long ended = judge.ended, begun = judge.begun;
+    judge.begun += (does & TAKES) != 0;
     call->start = now();
-    int result = ask(judge->folder, call, &found);
-    int error = errno;
+    int result = ask(call, &found);
+    call->error = (short)(result < 0 ? errno : 0);
     call->end = now();
-    if (takes)
-        judge->ended++;
-    call->error = (short)(result < 0 ? error : 0);
-    if (result >= 0 && names)
-        tell_number(judge, call, result, ended, begun);
-    if (result >= 0 && call->verb <= LLOOK) {
-        call->number = found.st_ino;
-        call->mode = found.st_mode;
+    judge.ended += (does & TAKES) != 0;
+    if (result >= 0 && call->verb == OPEN) {
+        call->known = fstat(result, &found) == 0;
+        close(result);
+    } else if (result >= 0 && does & GIVES) {
+        const char *path = *call->to ? call->to : call->from;
+        call->known = fstatat(judge.folder, path, &found, AT_SYMLINK_NOFOLLOW) == 0;
+        call->known &= ended == begun && judge.begun == begun;
+    } else if (result >= 0 && call->verb == READLINK && (!*call->to || strspn(call->to, "abcd./") != (size_t)result)) {
+        fail_call(call, "a text that no call gave");
     }
-    if (result >= 0 && call->verb == READLINK && result < LONGEST)
-        call->to[result] = 0;
-    if (result == LONGEST && call->verb == READLINK)
-        fail(judge, FAULT, "readlink %s: a text that no call gave", call->from);
+    call->number = found.st_ino;
+    call->mode = found.st_mode;
 }
 
-/* Whether an error is of the tree of names, so that it belongs into the trace. */
-static int is_of_names(int error)
-{
-    switch (error) {
-    case 0: case EPERM: case ENOENT: case EBUSY: case EEXIST: case ENOTDIR: case EISDIR: case EINVAL: case EMLINK:
-    case ENAMETOOLONG: case ENOTEMPTY: case ELOOP: return 1;
-    default: return 0;
-    }
-}
-
-static void fail_call(struct judge *judge, const struct call *call)
-{
-    fail(judge, FAULT, "%s %s%s%s: %s", verbs[call->verb].word, call->from, *call->to ? " " : "", call->to,
-        strerror(call->error));
-}
+/* The errors that are of the tree of names, so that they belong into the trace, and those by which a mount tells that
+ * it hasn't a call, or not what was to be made for it. */
+static const char of_names[] = {EPERM, ENOENT, EBUSY, EEXIST, ENOTDIR, EISDIR, EINVAL, EMLINK, ENAMETOOLONG, ENOTEMPTY,
+    ELOOP, 0};
+static const char of_lacks[] = {EPERM, ENOSYS, EOPNOTSUPP, EINVAL, EMLINK, ENOENT, 0};
 
 static void *act(void *argument)
 {
     struct actor *actor = argument;
-    struct judge *judge = actor->judge;
-    while (!judge->go && !judge->stop)
+    while (!judge.go && !judge.stop)
         sched_yield();
-    while (!judge->stop && actor->made < actor->most) {
-        struct call *call = next_call(actor);
-        if (!call)
-            break;
-        perform(judge, call);
-        if (!is_of_names(call->error))
-            fail_call(judge, call);
-        actor->made++;
+    for (; !judge.stop && actor->made < actor->most; actor->made++) {
+        struct call *call = choose_call(actor);
+        perform(call);
+        if (!strchr(of_names, call->error))
+            fail_call(call, strerror(call->error));
     }
-    judge->running--;
+    judge.running--;
     return NULL;
 }
 
-/* Whether the mount has a call: it is made once, and undone by what removes the folder. */
-static int has(struct judge *judge, enum verb verb, const char *from, const char *to)
+/* Finds out which calls the mount has, and leaves out the others. What is made here goes again at once. */
+static void find_out(void)
 {
-    struct call call = {.verb = (unsigned char)verb};
-    struct stat found;
-    snprintf(call.from, LONGEST, "%s", from);
-    snprintf(call.to, LONGEST, "%s", to);
-    int result = ask(judge->folder, &call, &found);
-    if (verb == OPEN && result >= 0)
-        close(result);
-    if (result >= 0)
-        return 1;
-    call.error = (short)errno;
-    if (errno != EPERM && errno != ENOSYS && errno != EOPNOTSUPP && errno != EINVAL && errno != EMLINK)
-        fail_call(judge, &call);
-    else if (judge->weights[verb])
-        fprintf(stderr, "judge: left out: %s (%s)\n", verbs[verb].word, strerror(errno));
-    return 0;
-}
-
-/* Finds out which calls the mount has, and leaves out the others. What is made here goes again before the first call. */
-static void find_out(struct judge *judge)
-{
-    static const struct {
-        enum verb verb;
-        const char *from, *to;
-    } trials[] = {{MKDIR, "a", ""}, {OPEN, "b", ""}, {CREATE, "c", ""}, {LINK, "b", "d"}, {SYMLINK, "b", "e"},
-        {READLINK, "e", ""}, {EXCHANGE, "a", "b"}, {NO_REPLACE, "a", "f"}, {RENAME, "b", "g"}};
-    int links = 1;
-    for (size_t i = 0; i < sizeof trials / sizeof *trials && !judge->status; i++) {
-        enum verb verb = trials[i].verb;
-        int found = verb == READLINK && !links ? 0 : has(judge, verb, trials[i].from, trials[i].to);
-        links = verb == SYMLINK ? found : links;
-        judge->weights[verb] *= found;
+    for (int verb = 0; verb < VERBS && !judge.status; verb++) {
+        struct call call = {.verb = (unsigned char)verb};
+        struct stat found;
+        strcpy(call.from, verbs[verb].from);
+        strcpy(call.to, verbs[verb].to);
+        int result = *call.from ? ask(&call, &found) : 0, error = errno;
+        if (result >= 0 && verb == OPEN)
+            close(result);
+        if (result < 0 && !strchr(of_lacks, error))
+            fail_call(&call, strerror(error));
+        else if (result < 0 && judge.weights[verb])
+            fprintf(stderr, "judge: left out: %s (%s)\n", verbs[verb].word, strerror(error));
+        judge.weights[verb] *= result >= 0;
+        judge.weight += judge.weights[verb];
     }
     for (char name[] = "a"; *name <= 'g'; ++*name)
-        if (unlinkat(judge->folder, name, 0) != 0)
-            unlinkat(judge->folder, name, AT_REMOVEDIR);
-    for (int verb = 0; verb < VERBS; verb++)
-        judge->weight += judge->weights[verb];
-    if (!judge->status && judge->weight == 0)
-        fail(judge, FAULT, "the mount has none of these calls");
+        if (unlinkat(judge.folder, name, 0) != 0)
+            unlinkat(judge.folder, name, AT_REMOVEDIR);
+    if (judge.weight == 0)
+        fail(FAULT, "the mount has none of these calls");
 }
 
-/* Waits for the threads. Answers the signal that asked for an end, or 0. A second one doesn't wait for calls that hang. */
-static int wait_for_end(struct judge *judge, const sigset_t *signals)
+/* Starts the threads, lets them go once all are there, and waits for them. Answers the signal that asked for an end, or
+ * 0. A second one doesn't wait for calls that hang. */
+static int record(const sigset_t *signals)
 {
-    long until = now() + judge->seconds * SECOND;
     struct timespec tick = {0, TICK};
-    int told = 0;
-    while (judge->running) {
-        int signal = sigtimedwait(signals, NULL, &tick);
-        if (signal > 0 && told) {
-            fprintf(stderr, "judge: calls hang; %s is left as it is\n", judge->path);
-            _exit(FAULT);
-        }
-        if (signal > 0)
-            told = signal;
-        if (told || now() >= until)
-            judge->stop = 1;
-    }
-    return told;
-}
-
-/* Starts the threads, lets them go once all are there, and waits for them. Answers as wait_for_end. */
-static int record(struct judge *judge, const sigset_t *signals)
-{
     long started = 0;
-    for (; started < judge->threads && !judge->stop; started++) {
-        struct actor *actor = &judge->actors[started];
-        actor->judge = judge;
-        actor->random = (uint64_t)judge->seed * MOST_THREADS + (uint64_t)started;
-        actor->most = judge->calls / judge->threads + (started < judge->calls % judge->threads);
-        judge->running++;
-        int error = pthread_create(&actor->thread, NULL, act, actor);
+    int told = 0;
+    for (; started < judge.threads && !judge.stop; started++, judge.running++) {
+        struct actor *actor = &judge.actors[started];
+        actor->random = (uint64_t)judge.seed * MOST_THREADS + (uint64_t)started;
+        actor->most = judge.calls / judge.threads + (started < judge.calls % judge.threads);
+        actor->calls = calloc((size_t)actor->most + 1, sizeof *actor->calls);
+        int error = actor->calls ? pthread_create(&actor->thread, NULL, act, actor) : ENOMEM;
         if (error) {
-            fail(judge, REFUSED, "a thread: %s", strerror(error));
-            judge->running--;
+            fail(REFUSED, "a thread of %ld calls: %s", actor->most, strerror(error));
             break;
         }
     }
-    judge->go = 1;
-    int told = wait_for_end(judge, signals);
+    judge.go = 1;
+    for (long until = now() + judge.seconds * SECOND; judge.running;) {
+        int signal = sigtimedwait(signals, NULL, &tick);
+        if (signal > 0 && told) {
+            fprintf(stderr, "judge: calls hang; %s is left as it is\n", judge.path);
+            _exit(FAULT);
+        }
+        told = signal > 0 ? signal : told;
+        if (told || now() >= until)
+            judge.stop = 1;
+    }
     for (long i = 0; i < started; i++)
-        pthread_join(judge->actors[i].thread, NULL);
+        pthread_join(judge.actors[i].thread, NULL);
     return told;
 }
 
@@ -402,197 +298,126 @@ static int remove_one(const char *path, const struct stat *about, int kind, stru
     return remove(path);
 }
 
-/* Removes the folder and all in it, and follows no link. */
-static void clean_up(struct judge *judge)
-{
-    close(judge->folder);
-    if (nftw(judge->path, remove_one, MOST_THREADS, FTW_DEPTH | FTW_PHYS | FTW_MOUNT) != 0)
-        fail(judge, FAULT, "%s is left: %s", judge->path, strerror(errno));
-}
-
-static int by_start(const void *one, const void *other)
-{
-    long first = (*(struct call *const *)one)->start, second = (*(struct call *const *)other)->start;
-    return (first > second) - (first < second);
-}
-
-/* Writes a link's text as a word of a trace, whatever the mount has made of it. */
-static void print_word(const char *word)
-{
-    fputs(*word ? "" : "\\e", stdout);
-    for (; *word; word++)
-        if (*word == ' ' || *word == '\n' || *word == '\\')
-            printf("\\%c", *word == ' ' ? 's' : *word == '\n' ? 'n' : '\\');
-        else
-            putchar(*word);
-}
-
-static void print_reply(const struct call *call)
+static void print(const struct call *call, long base)
 {
     const char *kind = S_ISDIR(call->mode) ? "dir" : S_ISLNK(call->mode) ? "link" : "file";
+    printf("%ld %ld %d %s %s%s", call->start - base, call->end - base, call->session, verbs[call->verb].line,
+        call->verb == SYMLINK ? "" : "/", call->from);
+    if (*call->to && call->verb != READLINK)
+        printf(" /%s", call->to);
     if (call->error)
-        printf("no %d\n", call->error);
-    else if (call->verb <= LLOOK)
-        printf("is %ju %s\n", (uintmax_t)call->number, kind);
+        printf(" = no %d\n", call->error);
+    else if (verbs[call->verb].does & TELLS)
+        printf(" = is %ju %s\n", (uintmax_t)call->number, kind);
     else if (call->verb == READLINK)
-        fputs("text ", stdout), print_word(call->to), puts("");
+        printf(" = text %s\n", call->to);
     else if (call->known)
-        printf("ok %ju\n", (uintmax_t)call->number);
+        printf(" = ok %ju\n", (uintmax_t)call->number);
     else
-        puts("ok");
+        puts(" = ok");
 }
 
-/* Writes the calls by their times. */
-static void print(const struct judge *judge, struct call **calls, long many)
+/* Of the calls that aren't written yet the one that began first. */
+static const struct call *next_told(void)
 {
-    long base = many ? calls[0]->start : 0;
-    for (long i = 0; i < many; i++) {
-        const struct call *call = calls[i];
-        int session = 0;
-        while (call < judge->actors[session].calls || call >= judge->actors[session].calls + judge->actors[session].made)
-            session++;
-        printf("%ld %ld %d %s ", call->start - base, call->end - base, session, verbs[call->verb].line);
-        if (call->verb == SYMLINK)
-            printf("%s /%s = ", call->from, call->to);
-        else if (call->verb == LINK || call->verb >= RENAME)
-            printf("/%s /%s = ", call->from, call->to);
-        else
-            printf("/%s = ", call->from);
-        print_reply(call);
-    }
+    struct actor *first = NULL;
+    for (struct actor *actor = judge.actors; actor < judge.actors + judge.threads; actor++)
+        if (actor->told < actor->made && (!first || actor->calls[actor->told].start < first->calls[first->told].start))
+            first = actor;
+    return first ? &first->calls[first->told++] : NULL;
 }
 
-/* How many calls ran at the same time as another. */
-static long overlaps(struct call **calls, long many)
+/* Writes the calls in the order of their times, and tells how many there are, how many were refused, and how many ran
+ * at the same time as another. */
+static void write_trace(void)
 {
-    long found = 0, busy = 0;
-    for (long i = 0; i < many; i++) {
-        int beside = calls[i]->start < busy || (i + 1 < many && calls[i + 1]->start < calls[i]->end);
-        found += beside;
-        busy = calls[i]->end > busy ? calls[i]->end : busy;
+    long many = 0, refused = 0, beside = 0, busy = 0, base = 0;
+    int is_beside = 1;
+    for (const struct call *call, *last = NULL; (call = next_told()); last = call, many++) {
+        base = last ? base : call->start;
+        print(call, base);
+        refused += call->error != 0;
+        beside += !is_beside && call->start < last->end;
+        is_beside = call->start < busy;
+        beside += is_beside;
+        busy = call->end > busy ? call->end : busy;
     }
-    return found;
-}
-
-/* Brings the calls into the order of their times, and writes them. */
-static void write_trace(struct judge *judge)
-{
-    long many = 0, right = 0, at = 0;
-    for (long i = 0; i < judge->threads; i++)
-        many += judge->actors[i].made;
-    struct call **calls = malloc(((size_t)many + 1) * sizeof *calls);
-    if (!calls) {
-        fail(judge, REFUSED, "no memory for %ld calls", many);
-        return;
-    }
-    for (long i = 0; i < judge->threads; i++)
-        for (long j = 0; j < judge->actors[i].made; j++) {
-            calls[at++] = &judge->actors[i].calls[j];
-            right += calls[at - 1]->error == 0;
-        }
-    qsort(calls, (size_t)many, sizeof *calls, by_start);
-    print(judge, calls, many);
     if (fflush(stdout) != 0 || ferror(stdout))
-        fail(judge, FAULT, "the trace can't be written: %s", strerror(errno));
-    fprintf(stderr, "judge: calls %ld, refused %ld, beside another %ld, threads %ld\n", many, many - right,
-        overlaps(calls, many), judge->threads);
-    free(calls);
+        fail(FAULT, "the trace can't be written: %s", strerror(errno));
+    fprintf(stderr, "judge: calls %ld, refused %ld, beside another %ld\n", many, refused, beside);
 }
 
-static void usage(FILE *out)
+/* Says what is wrong, if anything is, and how the program is used, and ends it. */
+static _Noreturn void explain(const char *wrong)
 {
+    FILE *out = wrong ? stderr : stdout;
+    if (wrong)
+        fprintf(out, "judge: %s\n", wrong);
     fputs("usage: judge DIR [--threads N] [--seconds S] [--calls N] [--seed N] [--depth N] [--mix CALL=N,..]\n"
           "  --threads N    1 to 16 threads, 4 by default\n"
           "  --seconds S    ends after S seconds, 1 by default, at most 86400\n"
-          "  --calls N      ends after N calls of all threads together, 1000000 by default and at most\n"
+          "  --calls N      ends after N calls of all threads together, 1000000 by default, at most 10000000\n"
           "  --seed N       which calls are chosen, 1 by default; when they meet is the machine's choice\n"
           "  --depth N      how many names a path has at most, 4 by default and at most; 1: no dot-dot either\n"
-          "  --mix C=N,..   how often each is called; what isn't named isn't called. By default:\n"
-          "                 ", out);
+          "  --mix C=N,..   how often each is called; what isn't named isn't called. By default:\n", out);
     for (int verb = 0; verb < VERBS; verb++)
-        fprintf(out, "%s%s=%ld%s", verb == VERBS / 2 ? "\n                 " : "", verbs[verb].word, verbs[verb].weight,
-            verb + 1 < VERBS ? "," : "\n");
-}
-
-static void refuse(const char *what)
-{
-    fprintf(stderr, "judge: %s\n", what);
-    usage(stderr);
-    exit(WRONG_WORDS);
+        fprintf(out, "%s%s=%ld%s", verb % 7 ? "" : "                 ", verbs[verb].word, verbs[verb].weight,
+            verb + 1 == VERBS ? "\n" : verb % 7 == 6 ? ",\n" : ",");
+    exit(wrong ? WRONG_WORDS : 0);
 }
 
 /* A number of decimal digits within limits. */
 static long number_in(const char *text, long least, long most)
 {
     char *rest;
-    errno = 0;
     long number = strtol(text, &rest, 10);
-    if (*text < '0' || *text > '9' || *rest || errno || number < least || number > most)
-        refuse("a number is none, or outside its limits");
+    if (*text < '0' || *text > '9' || *rest || number < least || number > most)
+        explain("a number is none, or outside its limits");
     return number;
 }
 
-static void read_mix(struct judge *judge, char *text)
+static void read_mix(char *text)
 {
-    memset(judge->weights, 0, sizeof judge->weights);
+    memset(judge.weights, 0, sizeof judge.weights);
     for (char *rest, *part = strtok_r(text, ",", &rest); part; part = strtok_r(NULL, ",", &rest)) {
-        char *sign = strchr(part, '=');
+        size_t word = strcspn(part, "=");
         int verb = 0;
-        if (sign)
-            *sign = 0;
-        while (verb < VERBS && strcmp(part, verbs[verb].word) != 0)
+        while (verb < VERBS && (strncmp(part, verbs[verb].word, word) != 0 || verbs[verb].word[word]))
             verb++;
-        if (!sign || verb == VERBS)
-            refuse("--mix takes CALL=N,.. with the calls below");
-        judge->weights[verb] = number_in(sign + 1, 0, MOST_CALLS);
+        if (!part[word] || verb == VERBS)
+            explain("--mix takes CALL=N,.. with the calls below");
+        judge.weights[verb] = number_in(part + word + 1, 0, MOST_CALLS);
     }
 }
 
 /* Reads the words. Answers DIR. */
-static const char *read_words(struct judge *judge, int count, char **words)
+static const char *read_words(int count, char **words)
 {
-    static const struct option options[] = {{"threads", 1, NULL, 't'}, {"seconds", 1, NULL, 's'}, {"calls", 1, NULL, 'c'},
-        {"seed", 1, NULL, 'e'}, {"depth", 1, NULL, 'd'}, {"mix", 1, NULL, 'm'}, {"help", 0, NULL, 'h'}, {0}};
-    judge->threads = 4, judge->seconds = 1, judge->calls = MOST_CALLS, judge->seed = 1, judge->depth = DEEPEST;
+    static const struct option options[] = {{"threads", 1, 0, 't'}, {"seconds", 1, 0, 's'}, {"calls", 1, 0, 'c'},
+        {"seed", 1, 0, 'e'}, {"depth", 1, 0, 'd'}, {"mix", 1, 0, 'm'}, {"help", 0, 0, 'h'}, {0}};
     for (int verb = 0; verb < VERBS; verb++)
-        judge->weights[verb] = verbs[verb].weight;
+        judge.weights[verb] = verbs[verb].weight;
     for (int option; (option = getopt_long(count, words, "", options, NULL)) != -1;)
         switch (option) {
-        case 't': judge->threads = number_in(optarg, 1, MOST_THREADS); break;
-        case 's': judge->seconds = number_in(optarg, 0, 86400); break;
-        case 'c': judge->calls = number_in(optarg, 0, MOST_CALLS); break;
-        case 'e': judge->seed = number_in(optarg, 0, INT32_MAX); break;
-        case 'd': judge->depth = number_in(optarg, 1, DEEPEST); break;
-        case 'm': read_mix(judge, optarg); break;
-        case 'h': usage(stdout); exit(0);
-        default: usage(stderr); exit(WRONG_WORDS);
+        case 't': judge.threads = number_in(optarg, 1, MOST_THREADS); break;
+        case 's': judge.seconds = number_in(optarg, 0, LONGEST_TIME); break;
+        case 'c': judge.calls = number_in(optarg, 0, MOST_CALLS); break;
+        case 'e': judge.seed = number_in(optarg, 0, INT32_MAX); break;
+        case 'd': judge.depth = number_in(optarg, 1, DEEPEST); break;
+        case 'm': read_mix(optarg); break;
+        case 'h': explain(NULL);
+        default: explain("wrong words");
         }
     if (optind + 1 != count)
-        refuse("one DIR is wanted");
+        explain("one DIR is wanted");
     return words[optind];
-}
-
-/* Makes the folder. From here on it is removed, whatever comes. */
-static int make_folder(struct judge *judge, const char *dir)
-{
-    int length = snprintf(judge->path, sizeof judge->path, "%s/judge-XXXXXX", dir);
-    if (length >= (int)sizeof judge->path || !mkdtemp(judge->path)) {
-        fprintf(stderr, "judge: no folder can be made below %s: %s\n", dir, strerror(errno));
-        return 0;
-    }
-    judge->folder = open(judge->path, O_DIRECTORY | O_RDONLY | O_NOFOLLOW | O_CLOEXEC);
-    if (judge->folder < 0)
-        fail(judge, FAULT, "%s: %s", judge->path, strerror(errno));
-    return 1;
 }
 
 int main(int count, char **words)
 {
-    static struct judge judge = {.lock = PTHREAD_MUTEX_INITIALIZER};
     static const int asking[] = {SIGINT, SIGTERM, SIGHUP};
     sigset_t signals;
-    int told = 0;
-    const char *dir = read_words(&judge, count, words);
+    const char *dir = read_words(count, words);
     sigemptyset(&signals);
     for (int i = 0; i < 3; i++) {
         struct sigaction before;
@@ -600,21 +425,24 @@ int main(int count, char **words)
             sigaddset(&signals, asking[i]);
     }
     pthread_sigmask(SIG_BLOCK, &signals, NULL);
-    if (!make_folder(&judge, dir))
+    int length = snprintf(judge.path, sizeof judge.path, "%s/judge-XXXXXX", dir);
+    if (length >= (int)sizeof judge.path || !mkdtemp(judge.path)) {
+        fprintf(stderr, "judge: no folder can be made below %s: %s\n", dir, strerror(errno));
         return FAULT;
-    if (!judge.status)
-        find_out(&judge);
-    if (!judge.status)
-        told = record(&judge, &signals);
-    clean_up(&judge);
+    }
+    /* From here on the folder is removed, whatever comes, and no link in it is followed. */
+    judge.folder = open(judge.path, O_DIRECTORY | O_RDONLY | O_NOFOLLOW | O_CLOEXEC);
+    if (judge.folder < 0)
+        fail(FAULT, "%s: %s", judge.path, strerror(errno));
+    find_out();
+    int told = record(&signals);
+    close(judge.folder);
+    if (nftw(judge.path, remove_one, MOST_THREADS, FTW_DEPTH | FTW_PHYS | FTW_MOUNT) != 0)
+        fail(FAULT, "%s is left: %s", judge.path, strerror(errno));
     pthread_sigmask(SIG_UNBLOCK, &signals, NULL); /* one that came late ends the program here */
     if (told)
         raise(told);
     if (!judge.status)
-        write_trace(&judge);
-    if (judge.status)
-        fprintf(stderr, "judge: %s\n", judge.fault);
-    for (int i = 0; i < MOST_THREADS; i++)
-        free(judge.actors[i].calls);
+        write_trace();
     return judge.status;
 }

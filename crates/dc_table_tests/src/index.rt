@@ -118,13 +118,14 @@ fn most_texts(alloc: Global, key: &Key<'_>) -> Result<[usize; 2], NoMemory> {
 #[test]
 fn a_text_is_no_longer_than_its_key_lets_it_be(rt: HostRuntime) -> Result<(), Fail> {
     let name = Name::new(b"abc").ok_or("no name")?;
-    for (label, most) in [
+    let labels = [
         (Label::Name(name), 3),
         (Label::DotDot, 2),
         (Label::Text, 255),
-    ] {
+    ];
+    for (label, most) in labels.iter().copied() {
         let texts = most_texts(rt.alloc(), &Key { number: 7, label })?;
-        assert_eq!(rt; texts, [0, most]);
+        assert!(rt; texts[0] == 0 && texts[1] == most, "{texts:?}");
     }
     Ok(())
 }

@@ -16,6 +16,7 @@ use dc_names::{Kind, NAME_MAX, Name, Part, parse};
 use dc_plain::{Call, Follow, Key, Reply};
 use dc_table::{Pass, Shared};
 use dc_walk::{Fast, Look, Room, Why, change_by_rows, key_of, walk_counted, walk_fast};
+use pinned::{FILLED_AGAIN, FIVE_ROWS, ONE_BY_ONE, PINNED};
 use std::alloc::Global;
 use std::sync::Wait;
 use std::test::Fail;
@@ -89,12 +90,6 @@ static UNANSWERED: [Step; 5] = [
     Step::Lost(b"..//../z", Why::Miss(0)),
 ];
 
-#[test]
-fn empty_rows_answer_no_question(rt: HostRuntime) -> Result<(), Fail> {
-    assert_eq!(rt; play_anew(&rt, rt.alloc(), 1, &UNANSWERED), None);
-    Ok(())
-}
-
 const ROOT: Want = Want::Found(1, Kind::Dir);
 
 static UNASKED: [Step; 5] = [
@@ -105,23 +100,11 @@ static UNASKED: [Step; 5] = [
     Step::Look(b"///", ROOT, 0),
 ];
 
-#[test]
-fn the_root_asks_no_question(rt: HostRuntime) -> Result<(), Fail> {
-    assert_eq!(rt; play_anew(&rt, rt.alloc(), 1024, &UNASKED), None);
-    Ok(())
-}
-
 static ONE_CHANGE: [Step; 3] = [
     Step::Change(Act::Mkdir(b"/a"), Want::Done(2), 0),
     Step::Look(b"/", ROOT, 1),
     Step::Lost(b"/a", Why::Miss(0)),
 ];
-
-#[test]
-fn the_point_is_the_clock(rt: HostRuntime) -> Result<(), Fail> {
-    assert_eq!(rt; play_anew(&rt, rt.alloc(), 1, &ONE_CHANGE), None);
-    Ok(())
-}
 
 #[test]
 fn a_name_is_sought_or_no_name(rt: HostRuntime) -> Result<(), Fail> {
@@ -139,6 +122,7 @@ fn in_root(name: &[u8]) -> Option<Key<'_>> {
     Some(key_of(1, Part::Normal(Name::new(name)?)))
 }
 
+/// Rows that were filled answer, what is there and what is not, and a change turns them.
 static FILLED: [Step; 12] = [
     Step::Change(Act::Mkdir(b"/a"), Want::Done(2), 0),
     Step::Pin(b"a", 0),
@@ -154,9 +138,24 @@ static FILLED: [Step; 12] = [
     Step::Learn(2),
 ];
 
-/// Rows that were filled answer, what is there and what is not, and a change turns them.
+/// Steps over a new table of some buckets, by what they show.
+fn plays() -> [(&'static str, u64, &'static [Step]); 8] {
+    [
+        ("empty rows answer no question", 1, &UNANSWERED),
+        ("the root asks no question", 1024, &UNASKED),
+        ("the point is the clock", 1, &ONE_CHANGE),
+        ("filled rows answer", 1, &FILLED),
+        ("a pinned row is not taken", 1, &FIVE_ROWS),
+        ("the pins of others stay", 1, &PINNED),
+        ("rows are filled one by one", 1, &ONE_BY_ONE),
+        ("an emptied row is filled again", 1, &FILLED_AGAIN),
+    ]
+}
+
 #[test]
-fn filled_rows_answer(rt: HostRuntime) -> Result<(), Fail> {
-    assert_eq!(rt; play_anew(&rt, rt.alloc(), 1, &FILLED), None);
-    Ok(())
+fn walks_come_to_what_they_should(rt: HostRuntime) {
+    for (what, buckets, steps) in plays().iter() {
+        let other = play_anew(&rt, rt.alloc(), *buckets, steps);
+        assert!(rt; other.is_none(), "{what}: {other:?}");
+    }
 }

@@ -29,8 +29,6 @@ pub(crate) enum Ask<'a> {
     Free(&'a [u8], &'a [u8]),
     /// Two names that exchange what they name.
     Exchange(&'a [u8], &'a [u8]),
-    /// A rename with both flags.
-    Both(&'a [u8], &'a [u8]),
 }
 
 fn look<'a>(path: &'a [u8], follow: Follow) -> Call<'a> {
@@ -74,7 +72,6 @@ impl<'a> Ask<'a> {
             Ask::Rename(old, new) => rename(old, new, false, false),
             Ask::Free(old, new) => rename(old, new, true, false),
             Ask::Exchange(old, new) => rename(old, new, false, true),
-            Ask::Both(old, new) => rename(old, new, true, true),
         }
     }
 }

@@ -93,15 +93,22 @@ static SORTS: [(Ask<'static>, Sort); 3] = [
     (Ask::Rmdir(b"/"), Sort::Change),
 ];
 
+/// Whether keys, and refusals if there is a reason, are what they should be.
+fn are_told() -> bool {
+    let own = Key::own(7, Kind::Dir).map(|key| key.label);
+    Name::new(b"a").is_some_and(|name| is_told(7, name))
+        && own == Some(Label::DotDot)
+        && Key::own(7, Kind::File).is_none()
+        && Key::default().number == 0
+        && is_directory(ROOT)
+        && refuse(true, Refusal::Busy) == Err(Refusal::Busy)
+        && present(None, Refusal::NotFound) == Err(Refusal::NotFound)
+}
+
 #[test]
 fn tells_keys_and_sorts(rt: HostRuntime) {
-    assert!(rt; Name::new(b"a").is_some_and(|name| is_told(7, name)));
-    let own = Key::own(7, Kind::Dir).map(|key| key.label);
-    assert!(rt; own == Some(Label::DotDot) && Key::own(7, Kind::File).is_none());
-    assert!(rt; Key::default().number == 0 && is_directory(ROOT));
+    assert!(rt; are_told());
     for (ask, sort) in SORTS.iter() {
         assert!(rt; ask.call().sort() == *sort);
     }
-    assert!(rt; refuse(true, Refusal::Busy) == Err(Refusal::Busy));
-    assert!(rt; present(None, Refusal::NotFound) == Err(Refusal::NotFound));
 }

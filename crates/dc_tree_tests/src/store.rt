@@ -296,12 +296,6 @@ static DIRECTORIES: [Step<'static>; 14] = [
     Step::Size(4, 3),
 ];
 
-#[test]
-fn makes_directories(rt: HostRuntime) -> Result<(), Fail> {
-    assert!(rt; fails_at(rt.alloc(), &DIRECTORIES)?.is_none());
-    Ok(())
-}
-
 static FURTHER_NAMES: [Step<'static>; 24] = [
     Step::Add(1, b"d", To::Dir, Some(2)),
     Step::Add(1, b"l", To::Link(b"d/x"), Some(3)),
@@ -330,12 +324,6 @@ static FURTHER_NAMES: [Step<'static>; 24] = [
     Step::Size(5, 1),
 ];
 
-#[test]
-fn keeps_links_and_further_names(rt: HostRuntime) -> Result<(), Fail> {
-    assert!(rt; fails_at(rt.alloc(), &FURTHER_NAMES)?.is_none());
-    Ok(())
-}
-
 static FILES: [Step<'static>; 19] = [
     Step::Add(1, b"a", To::File, Some(2)),
     Step::Add(1, b"b", To::File, Some(3)),
@@ -359,12 +347,6 @@ static FILES: [Step<'static>; 19] = [
     Step::Size(5, 3),
 ];
 
-#[test]
-fn moves_files(rt: HostRuntime) -> Result<(), Fail> {
-    assert!(rt; fails_at(rt.alloc(), &FILES)?.is_none());
-    Ok(())
-}
-
 static MOVED_DIRECTORY: [Step<'static>; 16] = [
     Step::Add(1, b"a", To::Dir, Some(2)),
     Step::Add(2, b"b", To::Dir, Some(3)),
@@ -385,12 +367,6 @@ static MOVED_DIRECTORY: [Step<'static>; 16] = [
     Step::Size(6, 4),
 ];
 
-#[test]
-fn moves_a_directory(rt: HostRuntime) -> Result<(), Fail> {
-    assert!(rt; fails_at(rt.alloc(), &MOVED_DIRECTORY)?.is_none());
-    Ok(())
-}
-
 const LONGEST_OLD: &[u8] = &[b'a'; 255];
 
 const LONGEST_NEW: &[u8] = &[b'b'; 255];
@@ -410,8 +386,22 @@ static LONGEST: [Step<'static>; 10] = [
     Step::Size(4, 2),
 ];
 
+/// Lists of steps, each on new stores, by what they show.
+fn lists() -> [(&'static str, &'static [Step<'static>]); 5] {
+    [
+        ("directories are made", &DIRECTORIES),
+        ("links and further names are kept", &FURTHER_NAMES),
+        ("files move", &FILES),
+        ("a directory moves", &MOVED_DIRECTORY),
+        ("the longest names and texts are taken", &LONGEST),
+    ]
+}
+
 #[test]
-fn takes_the_longest_names_and_texts(rt: HostRuntime) -> Result<(), Fail> {
-    assert!(rt; fails_at(rt.alloc(), &LONGEST)?.is_none());
+fn stores_answer_each_step(rt: HostRuntime) -> Result<(), Fail> {
+    for (what, steps) in lists().iter() {
+        let place = fails_at(rt.alloc(), steps)?;
+        assert!(rt; place.is_none(), "{what}: {place:?}");
+    }
     Ok(())
 }

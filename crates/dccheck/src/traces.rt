@@ -21,7 +21,7 @@ pub enum Found {
     /// No order explains the trace, and none comes further than to the call of this line. The lines of a
     /// stretch of the trace, which has that call and isn't explained either.
     Bad(u64, Vec<u8>),
-    /// The search stopped at the call of this line. The first calls, this many, can be explained.
+    /// The search stopped at the call of this line. This many calls are decided.
     Undecided(u64, u64),
 }
 

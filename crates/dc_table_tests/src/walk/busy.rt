@@ -20,7 +20,8 @@ use dc_plain::{Key, Reply};
 use dc_row::{EMPTY_ROW, ROW_WORDS, empty_row_spells_nothing};
 use dc_table::{Guarded, Holder, MOST_COUNT, Nobody, Pass, Shared};
 use dc_walk::{Fast, Why};
-use std::test::Fail;
+use std::alloc::Global;
+use std::sync::Wait;
 
 /// What look-ups came to while a row was odd.
 #[derive(Clone, Copy)]
@@ -197,24 +198,36 @@ fn evict_under_lock(
     met
 }
 
-/// If no other row tells of the key, the walk gives up; if one does, it answers.
+/// Whether the walk gives up if no other row tells of the key, and answers if one does. `None` if no row has the
+/// key.
+fn is_met<R: Wait>(
+    rt: &R,
+    alloc: Global,
+    shared: &Shared,
+    pass: &mut Pass,
+    other: &mut Pass,
+) -> Option<bool>
+    requires pass { CanWalk shared.now pass.old }
+    requires other { CanWalk shared.now other.old }
+{
+    let absent = Reply::Refused(2);
+    let made = change(rt, alloc, shared, other, &mkdir(b"/a")) == Some((Reply::Done(2), 0));
+    let filled = is_answered(
+        &count(rt, alloc, shared, other, b"/a"),
+        &Reply::Found(2, Kind::Dir),
+        1,
+    );
+    let none = is_answered(&count(rt, alloc, shared, other, b"/b"), &absent, 1);
+    let met = evict_under_lock(shared, pass, other, &in_root(b"a")?)?;
+    let missed = matches!(look(shared, pass, b"/a"), Some(Fast::Again(Why::Miss(0))));
+    let answered = is_answered(&look(shared, pass, b"/b"), &absent, 1);
+    let busy = met.row == 0 && met.odd == 3 && met.busy && met.answered;
+    Some(made && filled && none && busy && missed && answered)
+}
+
 #[test]
-fn a_row_that_is_written_is_busy(rt: HostRuntime) -> Result<(), Fail> {
+fn a_row_that_is_written_is_busy(rt: HostRuntime) {
     let (shared, mut p) = Shared::new(rt.alloc(), 1, 16).expect(&rt, "memory");
     let mut q = shared.split(&mut p);
-    let made = change(&rt, rt.alloc(), &shared, &mut q, &mkdir(b"/a"));
-    assert!(rt; made == Some((Reply::Done(2), 0)));
-    let found = count(&rt, rt.alloc(), &shared, &mut q, b"/a");
-    assert!(rt; is_answered(&found, &Reply::Found(2, Kind::Dir), 1));
-    let found = count(&rt, rt.alloc(), &shared, &mut q, b"/b");
-    assert!(rt; is_answered(&found, &Reply::Refused(2), 1));
-    let a = in_root(b"a").expect(&rt, "a name");
-    let met = evict_under_lock(&shared, &mut p, &mut q, &a).expect(&rt, "a row with the key");
-    assert!(rt; met.row == 0 && met.odd == 3);
-    assert!(rt; met.busy && met.answered);
-    let found = look(&shared, &mut p, b"/a");
-    assert!(rt; matches!(found, Some(Fast::Again(Why::Miss(0)))));
-    let found = look(&shared, &mut p, b"/b");
-    assert!(rt; is_answered(&found, &Reply::Refused(2), 1));
-    Ok(())
+    assert!(rt; is_met(&rt, rt.alloc(), &shared, &mut p, &mut q) == Some(true));
 }

@@ -16,7 +16,9 @@ use dc_row::widened;
 use dc_table::{Pass, Shared};
 use std::alloc::Global;
 use std::sync::Wait;
-use std::test::Fail;
+
+/// What checks of the three rows find.
+type Checks = [Result<(), (u64, u64)>; 3];
 
 /// Begins a walk, and notes rows 0 and 1.
 pub(super) fn note_two(shared: &Shared, pass: &mut Pass, path: &[u8]) -> Option<(Words, Words)>
@@ -38,7 +40,7 @@ pub(super) fn turn(
     pass: &mut Pass,
     path: &[u8],
     noted: &(Words, Words),
-) -> Option<(Words, u64, [Result<(), (u64, u64)>; 3])>
+) -> Option<(Words, u64, Checks)>
     requires can { CanWalk shared.now pass.old × (3 < (share pass.old).rows) }
     requires noted { (view pass.old).walk ≡ walk_with (Stat 1 path.now)
         (note_of 0 noted.now.0 ∷ note_of 1 noted.now.1 ∷ []) }
@@ -55,41 +57,43 @@ pub(super) fn turn(
     Some((last, at, [first, second, third]))
 }
 
-/// A directory is renamed away from a path, and a file made below it. The path with the old name of
-/// the directory and the new name of the file never was.
-#[test]
-fn a_path_that_never_was_is_not_answered(rt: HostRuntime) -> Result<(), Fail> {
-    let (shared, mut p) = Shared::new(rt.alloc(), 1, 16).expect(&rt, "memory");
-    let mut q = shared.split(&mut p);
-    assert!(rt; make_two(&rt, rt.alloc(), &shared, &mut q));
-    let noted = note_two(&shared, &mut p, b"/a/d/f").expect(&rt, "even rows");
-    assert!(rt; noted.0 == widened(&[2, 16_777_473, 1, 2, 97]));
-    assert!(rt; noted.1 == widened(&[2, 16_777_473, 2, 3, 100]));
-    assert!(rt; move_away(&rt, rt.alloc(), &shared, &mut q, b"/a/d", b"/b/f"));
-    let (last, at, found) = turn(&shared, &mut p, b"/a/d/f", &noted).expect(&rt, "an even row");
-    assert!(rt; last == widened(&[2, 33_554_689, 3, 4, 102]) && at == 4);
-    assert!(rt; found == [Ok(()), Err((2, 4)), Ok(())]);
-    let found = look(&shared, &mut p, b"/a/d/f");
-    assert!(rt; is_answered(&found, &Reply::Refused(2), 4));
-    Ok(())
+/// A directory that is renamed away from a path, the file that is made below it, and what the checks find. Of one
+/// further up its own row alone tells.
+static MOVES: [(&[u8], &[u8], Checks); 2] = [
+    (b"/a/d", b"/b/f", [Ok(()), Err((2, 4)), Ok(())]),
+    (b"/a", b"/b/d/f", [Err((2, 4)), Ok(()), Ok(())]),
+];
+
+/// Whether a walk that noted two rows before a directory was renamed away sees that. The path with the old name of
+/// the directory and the new name of the file never was. `None` if memory is refused or a row is odd.
+fn is_seen<R: Wait>(
+    rt: &R,
+    alloc: Global,
+    old: &[u8],
+    file: &[u8],
+    checks: &Checks,
+) -> Option<bool> {
+    let (shared, mut pass) = Shared::new(alloc, 1, 16).ok()?;
+    let mut other = shared.split(&mut pass);
+    let made = make_two(rt, alloc, &shared, &mut other);
+    let noted = note_two(&shared, &mut pass, b"/a/d/f")?;
+    let moved = move_away(rt, alloc, &shared, &mut other, old, file);
+    let (last, at, found) = turn(&shared, &mut pass, b"/a/d/f", &noted)?;
+    let gone = is_answered(&look(&shared, &mut pass, b"/a/d/f"), &Reply::Refused(2), 4);
+    let read = noted.0 == widened(&[2, 16_777_473, 1, 2, 97])
+        && noted.1 == widened(&[2, 16_777_473, 2, 3, 100])
+        && last == widened(&[2, 33_554_689, 3, 4, 102]);
+    Some(made && moved && gone && read && at == 4 && found == *checks)
 }
 
-/// A directory further up is renamed away: its own row alone tells of it.
 #[test]
-fn a_moved_grandparent_is_seen(rt: HostRuntime) -> Result<(), Fail> {
-    let (shared, mut p) = Shared::new(rt.alloc(), 1, 16).expect(&rt, "memory");
-    let mut q = shared.split(&mut p);
-    assert!(rt; make_two(&rt, rt.alloc(), &shared, &mut q));
-    let noted = note_two(&shared, &mut p, b"/a/d/f").expect(&rt, "even rows");
-    assert!(rt; noted.0 == widened(&[2, 16_777_473, 1, 2, 97]));
-    assert!(rt; noted.1 == widened(&[2, 16_777_473, 2, 3, 100]));
-    assert!(rt; move_away(&rt, rt.alloc(), &shared, &mut q, b"/a", b"/b/d/f"));
-    let (last, at, found) = turn(&shared, &mut p, b"/a/d/f", &noted).expect(&rt, "an even row");
-    assert!(rt; last == widened(&[2, 33_554_689, 3, 4, 102]) && at == 4);
-    assert!(rt; found == [Err((2, 4)), Ok(()), Ok(())]);
-    let found = look(&shared, &mut p, b"/a/d/f");
-    assert!(rt; is_answered(&found, &Reply::Refused(2), 4));
-    Ok(())
+fn a_path_that_never_was_is_not_answered(rt: HostRuntime) {
+    for (old, file, checks) in MOVES.iter() {
+        assert!(rt;
+            is_seen(&rt, rt.alloc(), old, file, checks) == Some(true),
+            "{old:?}"
+        );
+    }
 }
 
 /// Renames a directory to `/b`, and creates a file below it, whose path is looked up by rows that are

@@ -15,7 +15,8 @@ use dc_row::ROW_WORDS;
 use dc_rows::shrink;
 use dc_table::{Pass, Shared};
 use dc_walk::{Fast, Why};
-use std::test::Fail;
+use std::alloc::Global;
+use std::sync::Wait;
 
 /// The first words of a row: its count, its header, a directory, a target, and a name of one byte.
 type Front = [u64; 5];
@@ -67,72 +68,119 @@ fn are_rows(shared: &Shared, pass: &mut Pass, first: &Front, second: &Front, thi
         && is_row(&row_3, &NOTHING)
 }
 
-/// It writes nothing.
-#[test]
-fn a_hit(rt: HostRuntime) -> Result<(), Fail> {
-    let (shared, mut p) = Shared::new(rt.alloc(), 1, 16).expect(&rt, "memory");
-    let mut q = shared.split(&mut p);
-    assert!(rt; make_two(&rt, rt.alloc(), &shared, &mut q));
-    assert!(rt; are_rows(&shared, &mut p, &A_IS_2, &D_IS_3, &NOTHING));
-    let found = look(&shared, &mut q, b"/a/d");
-    assert!(rt; is_answered(&found, &Reply::Found(3, Kind::Dir), 2));
-    assert!(rt; are_rows(&shared, &mut p, &A_IS_2, &D_IS_3, &NOTHING));
-    assert!(rt; shared.learn(&mut q) == 2);
-    Ok(())
+/// A hit. It writes nothing.
+fn hits(shared: &Shared, pass: &mut Pass, other: &mut Pass) -> bool
+    requires can { CanWalk shared.now pass.old × (3 < (share pass.old).rows) }
+    requires other { CanWalk shared.now other.old }
+{
+    let before = are_rows(shared, pass, &A_IS_2, &D_IS_3, &NOTHING);
+    let found = is_answered(
+        &look(shared, other, b"/a/d"),
+        &Reply::Found(3, Kind::Dir),
+        2,
+    );
+    let after = are_rows(shared, pass, &A_IS_2, &D_IS_3, &NOTHING);
+    before && found && after && shared.learn(other) == 2
 }
 
-/// The walk by rows alone gives up after one answered question; the counted walk fills row 2, alters
+/// A miss. The walk by rows alone gives up after one answered question; the counted walk fills row 2, alters
 /// neither the tree nor another row, and leaves no pin.
-#[test]
-fn a_miss(rt: HostRuntime) -> Result<(), Fail> {
-    let (shared, mut p) = Shared::new(rt.alloc(), 1, 16).expect(&rt, "memory");
-    let mut q = shared.split(&mut p);
-    assert!(rt; make_two(&rt, rt.alloc(), &shared, &mut q));
-    let found = look(&shared, &mut q, b"/a/z");
-    assert!(rt; matches!(found, Some(Fast::Again(Why::Miss(1)))));
-    assert!(rt; are_rows(&shared, &mut p, &A_IS_2, &D_IS_3, &NOTHING));
-    let found = count(&rt, rt.alloc(), &shared, &mut q, b"/a/z");
-    assert!(rt; is_answered(&found, &Reply::Refused(2), 2));
-    assert!(rt; are_rows(&shared, &mut p, &A_IS_2, &D_IS_3, &Z_IS_ABSENT));
-    let found = look(&shared, &mut q, b"/a/z");
-    assert!(rt; is_answered(&found, &Reply::Refused(2), 2));
-    assert!(rt; shared.learn(&mut q) == 2);
-    assert!(rt; shrink(&shared, &rt, &mut q, 4) == 3);
-    Ok(())
+fn misses<R: Wait>(
+    rt: &R,
+    alloc: Global,
+    shared: &Shared,
+    pass: &mut Pass,
+    other: &mut Pass,
+) -> bool
+    requires can { CanWalk shared.now pass.old × (3 < (share pass.old).rows) }
+    requires other { CanWalk shared.now other.old }
+{
+    let absent = Reply::Refused(2);
+    let missed = matches!(
+        look(shared, other, b"/a/z"),
+        Some(Fast::Again(Why::Miss(1)))
+    );
+    let before = are_rows(shared, pass, &A_IS_2, &D_IS_3, &NOTHING);
+    let counted = is_answered(&count(rt, alloc, shared, other, b"/a/z"), &absent, 2);
+    let after = are_rows(shared, pass, &A_IS_2, &D_IS_3, &Z_IS_ABSENT);
+    let found = is_answered(&look(shared, other, b"/a/z"), &absent, 2);
+    let kept = shared.learn(other) == 2 && shrink(shared, rt, other, 4) == 3;
+    missed && before && counted && after && found && kept
 }
 
-/// A look-up of `/a/d` notes rows 0 and 1, then `/a` becomes `/b`: the check of row 0 fails, with
-/// count 4 where 2 was noted. The change adds one to the clock and writes row 0 alone, since `b` has
-/// no row.
-#[test]
-fn a_loss_and_its_change(rt: HostRuntime) -> Result<(), Fail> {
-    let (shared, mut p) = Shared::new(rt.alloc(), 1, 16).expect(&rt, "memory");
-    let mut q = shared.split(&mut p);
-    assert!(rt; make_two(&rt, rt.alloc(), &shared, &mut q));
-    let noted = note_two(&shared, &mut p, b"/a/d").expect(&rt, "even rows");
-    let moved = change(&rt, rt.alloc(), &shared, &mut q, &rename(b"/a", b"/b"));
-    assert!(rt; moved == Some((Reply::Unit, 2)));
-    let (last, at, found) = turn(&shared, &mut p, b"/a/d", &noted).expect(&rt, "an even row");
-    assert!(rt; is_row(&Some(noted.0), &A_IS_2) && is_row(&Some(noted.1), &D_IS_3));
-    assert!(rt; last == [0; ROW_WORDS] && at == 3);
-    assert!(rt; found == [Err((2, 4)), Ok(()), Ok(())]);
-    let found = look(&shared, &mut q, b"/a/d");
-    assert!(rt; is_answered(&found, &Reply::Refused(2), 3));
-    let found = look(&shared, &mut q, b"/b");
-    assert!(rt; matches!(found, Some(Fast::Again(Why::Miss(0)))));
-    assert!(rt; shared.learn(&mut q) == 3);
-    Ok(())
+/// A loss and its change: a look-up of `/a/d` notes rows 0 and 1, then `/a` becomes `/b`. The check of row 0
+/// fails, with count 4 where 2 was noted. The change adds one to the clock and writes row 0 alone, since `b`
+/// has no row. `None` if a row is odd.
+fn loses<R: Wait>(
+    rt: &R,
+    alloc: Global,
+    shared: &Shared,
+    pass: &mut Pass,
+    other: &mut Pass,
+) -> Option<bool>
+    requires can { CanWalk shared.now pass.old × (3 < (share pass.old).rows) }
+    requires other { CanWalk shared.now other.old }
+{
+    let noted = note_two(shared, pass, b"/a/d")?;
+    let moved = change(rt, alloc, shared, other, &rename(b"/a", b"/b")) == Some((Reply::Unit, 2));
+    let (last, at, found) = turn(shared, pass, b"/a/d", &noted)?;
+    let gone = is_answered(&look(shared, other, b"/a/d"), &Reply::Refused(2), 3);
+    let missed = matches!(look(shared, other, b"/b"), Some(Fast::Again(Why::Miss(0))));
+    let read = is_row(&Some(noted.0), &A_IS_2) && is_row(&Some(noted.1), &D_IS_3);
+    let turned = last == [0; ROW_WORDS] && at == 3 && found == [Err((2, 4)), Ok(()), Ok(())];
+    Some(moved && gone && missed && read && turned && shared.learn(other) == 3)
 }
 
-/// What the change leaves in the rows.
+/// A change, and what it leaves in the rows.
+fn changes<R: Wait>(
+    rt: &R,
+    alloc: Global,
+    shared: &Shared,
+    pass: &mut Pass,
+    other: &mut Pass,
+) -> bool
+    requires can { CanWalk shared.now pass.old × (3 < (share pass.old).rows) }
+    requires other { CanWalk shared.now other.old }
+{
+    let moved = change(rt, alloc, shared, other, &rename(b"/a", b"/b")) == Some((Reply::Unit, 2));
+    moved && are_rows(shared, pass, &A_IS_ABSENT, &D_IS_3, &NOTHING) && shared.learn(other) == 3
+}
+
+#[derive(Clone, Copy)]
+enum Walk {
+    Hit,
+    Miss,
+    Loss,
+    Change,
+}
+
+/// The walks by their names.
+static WALKS: [(&str, Walk); 4] = [
+    ("a hit", Walk::Hit),
+    ("a miss", Walk::Miss),
+    ("a loss and its change", Walk::Loss),
+    ("a change", Walk::Change),
+];
+
+/// Whether a walk comes to what it should over a new table whose rows tell of two directories. `None` if memory
+/// is refused or a row is odd.
+fn comes<R: Wait>(rt: &R, alloc: Global, walk: Walk) -> Option<bool> {
+    let (shared, mut pass) = Shared::new(alloc, 1, 16).ok()?;
+    let mut other = shared.split(&mut pass);
+    if !make_two(rt, alloc, &shared, &mut other) {
+        return Some(false);
+    }
+    match walk {
+        Walk::Hit => Some(hits(&shared, &mut pass, &mut other)),
+        Walk::Miss => Some(misses(rt, alloc, &shared, &mut pass, &mut other)),
+        Walk::Loss => loses(rt, alloc, &shared, &mut pass, &mut other),
+        Walk::Change => Some(changes(rt, alloc, &shared, &mut pass, &mut other)),
+    }
+}
+
 #[test]
-fn a_change(rt: HostRuntime) -> Result<(), Fail> {
-    let (shared, mut p) = Shared::new(rt.alloc(), 1, 16).expect(&rt, "memory");
-    let mut q = shared.split(&mut p);
-    assert!(rt; make_two(&rt, rt.alloc(), &shared, &mut q));
-    let moved = change(&rt, rt.alloc(), &shared, &mut q, &rename(b"/a", b"/b"));
-    assert!(rt; moved == Some((Reply::Unit, 2)));
-    assert!(rt; are_rows(&shared, &mut p, &A_IS_ABSENT, &D_IS_3, &NOTHING));
-    assert!(rt; shared.learn(&mut q) == 3);
-    Ok(())
+fn four_walks_come_to_what_they_should(rt: HostRuntime) {
+    for (what, walk) in WALKS.iter() {
+        assert!(rt; comes(&rt, rt.alloc(), *walk) == Some(true), "{what}");
+    }
 }

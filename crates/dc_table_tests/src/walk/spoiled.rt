@@ -207,8 +207,8 @@ fn is_seen<R: Wait>(rt: &R, alloc: Global, place: usize) -> Option<bool> {
         && is_row(&noted.1, 1, counts[1])
         && is_row(&last, 2, counts[2]);
     let told = found == [wanted(0, place), wanted(1, place), wanted(2, place)];
-    let again = look(&shared, &mut pass, PATH);
-    Some(made && read && told && found.iter().any(Result::is_err) && is_there(&again))
+    let again = is_there(&look(&shared, &mut pass, PATH));
+    Some(made && read && told && found.iter().any(Result::is_err) && again)
 }
 
 #[test]

@@ -81,16 +81,26 @@ impl Three {
     }
 }
 
-/// How often each kind of reply came to a thousand calls, and the next number of a slab. Fails if two
+/// What is asked at a step: with exchanges, one of two of the paths comes after every two other calls.
+fn ask_at(step: u32, number: u32, exchanges: bool) -> Ask<'static> {
+    if exchanges && step % 3 == 2 {
+        Ask::Exchange(path_of(number), path_of(drawn(number)))
+    } else {
+        ask_of(number)
+    }
+}
+
+/// How often each kind of reply came to this many calls, and the next number of a slab. Fails if two
 /// replies differ.
-fn answer_alike(alloc: Global) -> Result<([u32; 7], u64), Fail> {
+fn answer_alike(alloc: Global, steps: u32, exchanges: bool) -> Result<([u32; 7], u64), Fail> {
     let mut three = Three::new(alloc)?;
     let mut seen = [0; 7];
     let mut number = 7;
-    for _ in 0..1000 {
+    for step in 0..steps {
         number = drawn(number);
-        let Some(reply) = three.answer(alloc, &ask_of(number).call())? else {
-            return Err(Fail::from("two replies differ"));
+        let ask = ask_at(step, number, exchanges);
+        let Some(reply) = three.answer(alloc, &ask.call())? else {
+            return Err(Fail::from(("step", step)));
         };
         counted(&mut seen, &reply);
     }
@@ -99,36 +109,15 @@ fn answer_alike(alloc: Global) -> Result<([u32; 7], u64), Fail> {
 
 #[test]
 fn stores_answer_alike(rt: HostRuntime) -> Result<(), Fail> {
-    let (seen, next) = answer_alike(rt.alloc())?;
+    let (seen, next) = answer_alike(rt.alloc(), 1000, false)?;
     // Every kind of reply came, and twice as many inodes were made as may live, so slab keys were used again.
     assert!(rt; seen.iter().all(|times| *times >= 10));
     assert!(rt; next > 32);
     Ok(())
 }
 
-/// What is asked at a step: after every two other calls comes an exchange of two of the paths.
-fn ask_at(step: u32, number: u32) -> Ask<'static> {
-    if step % 3 == 2 {
-        Ask::Exchange(path_of(number), path_of(drawn(number)))
-    } else {
-        ask_of(number)
-    }
-}
-
-/// Fails if two replies to nine hundred calls differ.
-fn exchange_alike(alloc: Global) -> Result<(), Fail> {
-    let mut three = Three::new(alloc)?;
-    let mut number = 7;
-    for step in 0..900 {
-        number = drawn(number);
-        if three.answer(alloc, &ask_at(step, number).call())?.is_none() {
-            return Err(Fail::from(("step", step)));
-        }
-    }
-    Ok(())
-}
-
 #[test]
 fn stores_exchange_alike(rt: HostRuntime) -> Result<(), Fail> {
-    exchange_alike(rt.alloc())
+    let _ = answer_alike(rt.alloc(), 900, true)?;
+    Ok(())
 }

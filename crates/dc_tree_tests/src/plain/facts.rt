@@ -10,7 +10,7 @@ use std::alloc::Global;
 use std::test::Fail;
 
 /// A fact, as a table of constants has it.
-#[derive(Clone, Copy, Debug)]
+#[derive(Clone, Copy)]
 enum Told {
     /// A directory, a name in it, and where that leads.
     Name(u64, &'static [u8], Option<(u64, Kind)>),
@@ -43,56 +43,34 @@ fn small_tree(alloc: Global) -> Result<PlainTree, NoMemory> {
     Ok(tree)
 }
 
-/// Facts, and whether they hold in that tree.
-static HELD: [(Told, bool); 6] = [
-    (Told::Name(1, b"a", Some((2, Kind::Dir))), true),
-    (Told::Name(1, b"x", None), true),
-    (Told::Up(2, 1), true),
-    (Told::Text(3, b"a"), true),
-    (Told::Name(1, b"a", None), false),
-    (Told::Text(2, b"a"), false),
+/// Facts, whether they hold in that tree, and whether the link's removal touches them.
+static FACTS_SEEN: [(Told, bool, bool); 7] = [
+    (Told::Name(1, b"a", Some((2, Kind::Dir))), true, false),
+    (Told::Name(1, b"x", None), true, false),
+    (Told::Up(2, 1), true, false),
+    (Told::Text(3, b"a"), true, true),
+    (Told::Name(1, b"a", None), false, false),
+    (Told::Text(2, b"a"), false, false),
+    (Told::Name(1, b"l", None), false, true),
 ];
 
-/// Fails if a fact holds that should not, or the other way round.
-fn hold_so(alloc: Global) -> Result<(), Fail> {
+/// Fails if a fact holds that should not, or is touched that should not be, or the other way round.
+fn are_seen_so(alloc: Global) -> Result<(), Fail> {
     let tree = small_tree(alloc)?;
-    for (told, holds) in HELD.iter() {
+    let removal = Ask::Unlink(b"/l").call();
+    for (i, (told, holds, touches)) in FACTS_SEEN.iter().enumerate() {
         let fact = told.fact().ok_or("no fact")?;
-        if tree.holds(&fact) != *holds {
-            return Err(Fail::from(*told));
+        if tree.holds(&fact) != *holds || tree.touches(alloc, &removal, &fact)? != *touches {
+            return Err(Fail::from(("fact", i)));
         }
     }
     Ok(())
 }
 
 #[test]
-fn holds_what_is_so(rt: HostRuntime) -> Result<(), Fail> {
+fn facts_hold_and_are_touched(rt: HostRuntime) -> Result<(), Fail> {
     untouched_facts_stay();
-    hold_so(rt.alloc())
-}
-
-/// Facts, and whether the link's removal touches them.
-static TOUCHED: [(Told, bool); 3] = [
-    (Told::Name(1, b"l", None), true),
-    (Told::Text(3, b"a"), true),
-    (Told::Name(1, b"a", None), false),
-];
-
-/// Fails if the link's removal touches a fact that it should not, or the other way round.
-fn touch_so(alloc: Global) -> Result<(), Fail> {
-    let tree = small_tree(alloc)?;
-    for (told, touches) in TOUCHED.iter() {
-        let fact = told.fact().ok_or("no fact")?;
-        if tree.touches(alloc, &Ask::Unlink(b"/l").call(), &fact)? != *touches {
-            return Err(Fail::from(*told));
-        }
-    }
-    Ok(())
-}
-
-#[test]
-fn touches_what_alters(rt: HostRuntime) -> Result<(), Fail> {
-    touch_so(rt.alloc())
+    are_seen_so(rt.alloc())
 }
 
 /// What is told, and the answers that follow, if one does.

@@ -1,0 +1,12 @@
+mod ByAct
+mod Counts
+mod LockSteps
+mod LockRuns
+mod Mapped
+mod Standing
+mod GateNext
+mod GateFair
+mod GateSteps
+mod GateWrites
+mod GateWakes
+mod GateRuns

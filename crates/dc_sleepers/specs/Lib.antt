@@ -1,0 +1,10 @@
+-- The lock and the gate as plain data, what each step makes of them, and the laws.
+pub mod Outcomes
+pub mod Locks
+pub mod LockLaw
+pub mod LocksShown
+pub mod Gates
+pub mod GateLaw
+pub mod GateSteps
+pub mod GateSound
+pub mod GatesShown

@@ -1,0 +1,19 @@
+//! Laws of the definitions, as contracts of functions that do nothing.
+
+ghost use Rattle.dc_sleepers.specs.GateLaw.{NoSleeperAtTheGateIsForgotten};
+ghost use Rattle.dc_sleepers.specs.LockLaw.{NoSleeperOfTheLockIsForgotten};
+
+/// After every list of events, if a thread sleeps, then the lock is held, or a thread that gave it back has
+/// its wake still before it, or one that was woken has its try still before it. So if every thread sleeps or
+/// doesn't want the lock, none sleeps.
+pub fn no_sleeper_of_the_lock_is_forgotten()
+    ensures { NoSleeperOfTheLockIsForgotten }
+{}
+
+/// After every list of events in which each wait comes before `WRAP` calls were made since its thread read
+/// them: if a thread sleeps, then the lock is held, or a thread whose call is over has its raise of the calls
+/// or its wake still before it, or one that is counted and awake asks or tries before it sleeps. So if every
+/// thread sleeps or makes no call, none sleeps.
+pub fn no_sleeper_at_the_gate_is_forgotten()
+    ensures { NoSleeperAtTheGateIsForgotten }
+{}
