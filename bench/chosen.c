@@ -1,6 +1,6 @@
 /* Makes files of given names, through the library for C or in a folder of the kernel's, and prints in nanoseconds: the
- * medians of the last 2,000 makes, of 2,000 look-ups under the lock and of 2,000 removals, and what time of the processor
- * the longest make took.
+ * medians of the last 2,000 makes, of 2,000 look-ups under the lock and of 2,000 removals, and the processor's time of
+ * the longest make.
  *
  * usage: chosen COUNT FOLDER [DIRECTORIES] < NAMES
  *
@@ -148,7 +148,8 @@ int main(int count, char **words)
         longest = used > longest ? used : longest;
     }
     uint64_t made = median(last, makes < SOME ? makes : SOME);
-    uint64_t looked = timed(look, dirs, in_each, names, makes), taken = timed(take, dirs, in_each, names, makes);
+    uint64_t looked = timed(look, dirs, in_each, names, makes);
+    uint64_t taken = timed(take, dirs, in_each, names, makes);
     printf("%llu %llu %llu %llu\n", (unsigned long long)made, (unsigned long long)looked, (unsigned long long)taken,
            (unsigned long long)longest);
     return 0;
