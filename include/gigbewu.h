@@ -39,7 +39,8 @@
  * path starts. Names have up to 255 bytes, paths up to 4,095, and one path may pass 40 links. Names may come from
  * anybody: any bytes are safe, and none lead to a wrong answer. Whoever chose the names, a search of a directory
  * compares a number of names that grows with the logarithm of how many it has. Names that somebody chose to fall into
- * one bucket push each other's rows out, so that look-ups of them take the lock.
+ * one bucket push out each other's rows and those of other names there, so that look-ups of all these take the lock; a
+ * cache for each user keeps that apart.
  *
  * Rules:
  *
@@ -246,7 +247,7 @@ int gb_try_rmdir(struct gb_pass *pass, uint64_t base, const char *path, size_t l
 /* Gives what the old path names the new path for its name. `gone` says what stood there and was replaced. It is all 0
  * if nothing stood there, with GB_EXCHANGE, and if both paths name one file, which changes nothing.
  * Before a directory moves into another one, each directory above that is compared with it, under the lock: 100,000 of
- * them take 20 milliseconds, and four times as long on a busy machine.
+ * them take 5 to 20 milliseconds, a million 200, and four times as long on a busy machine.
  * Answers GB_BAD_ARGUMENT too. */
 int gb_try_rename(struct gb_pass *pass, uint64_t base, const char *old_path, size_t old_len, const char *path,
                   size_t len, uint32_t flags, struct gb_found *found, struct gb_gone *gone);
