@@ -105,7 +105,7 @@ int main(int count, char **words)
     fuse_session_destroy(session);
     fuse_opt_free_args(&arguments);
     free(options.mountpoint);
-    tree_end();
     tell();
+    tree_end();
     return status;
 }

@@ -14,7 +14,7 @@ static struct gb_gate gate;
 static struct gb_pass first_pass; /* its lock is `splitting` */
 static pthread_mutex_t splitting = PTHREAD_MUTEX_INITIALIZER;
 static pthread_key_t own_pass;
-static atomic_long changes, by_rows, by_lock[GB_WHY_LINK + 1];
+static atomic_long changes, refused, lists, by_rows, by_lock[GB_WHY_LINK + 1];
 /* Whoever has it may rely on the parents and names of directories. */
 static pthread_mutex_t moving = PTHREAD_MUTEX_INITIALIZER;
 
@@ -40,14 +40,6 @@ void tree_end(void)
     gb_close(&first_pass);
 }
 
-void tree_tell(void)
-{
-    fprintf(stderr, "look-ups: %ld without the lock; with it %ld to fill rows, %ld of long paths, %ld beside a change\n",
-            by_rows, by_lock[GB_WHY_MISS] + by_lock[GB_WHY_LINK], by_lock[GB_WHY_LONG],
-            by_lock[GB_WHY_BUSY] + by_lock[GB_WHY_CHANGED]);
-    fprintf(stderr, "changes: %ld; ", changes);
-}
-
 /* libfuse starts and ends threads as it likes. */
 static struct gb_pass *split_pass(void)
 {
@@ -71,6 +63,17 @@ static struct gb_pass *pass(void)
     return own ? own : split_pass();
 }
 
+void tree_tell(void)
+{
+    uint64_t evictions = 0;
+    gb_counts(pass(), &evictions);
+    fprintf(stderr, "look-ups: %ld without the lock; with it %ld to fill rows, %ld of long paths, %ld beside a change\n",
+            by_rows, by_lock[GB_WHY_MISS] + by_lock[GB_WHY_LINK], by_lock[GB_WHY_LONG],
+            by_lock[GB_WHY_BUSY] + by_lock[GB_WHY_CHANGED]);
+    fprintf(stderr, "rows that another name got: %llu; lists: %ld; changes: %ld, and %ld refused; ",
+            (unsigned long long)evictions, lists, changes, refused);
+}
+
 static int told(int answer)
 {
     if (answer >= 0)
@@ -83,8 +86,8 @@ static int told(int answer)
 /* Of a change. */
 static int changed(int answer)
 {
-    if (answer == 0)
-        atomic_fetch_add(&changes, 1);
+    if (answer >= 0)
+        atomic_fetch_add(answer == 0 ? &changes : &refused, 1);
     return told(answer);
 }
 
@@ -307,6 +310,7 @@ int tree_list(uint64_t directory, char **names, size_t *size)
         if (*names)
             answer = gb_list(&gate, pass(), directory, ".", 1, *names, room, &found);
         if (answer == 0 && found.count <= room) {
+            atomic_fetch_add(&lists, 1);
             *size = found.count;
             keep_names(names, found.count);
             return 0;

@@ -12,7 +12,7 @@ enum { TREE_INODES = 262144, LONGEST_NAME = 255, LONGEST_PATH = 4095 };
 int tree_begin(void);
 void tree_end(void);
 
-/* Tells on standard error how look-ups were answered so far. */
+/* Tells on standard error how look-ups were answered so far, and how many other calls there were. Not after tree_end. */
 void tree_tell(void);
 
 /* Each body is for the caller to let go. */
