@@ -4,6 +4,7 @@ pub mod Spots
 pub mod Keys
 pub mod Spelled
 pub mod Maps
+pub mod Mapped
 pub mod Keyed
 pub mod Counted
 pub mod Nodes
