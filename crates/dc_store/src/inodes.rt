@@ -15,10 +15,10 @@ use std::alloc::Global;
 use std::collections::BTreeMap;
 use std::marker::Model;
 
-/// Inodes by their numbers, seen as a list in the order of these. Whoever makes and unlinks files chooses which
-/// numbers stay. So the map of their keys is ordered: whichever stay, a search compares as many as the logarithm
-/// of their number, and no call moves all entries of the map. Where the slab keeps an inode is seen nowhere, and
-/// its slot is used again.
+/// Inodes by their numbers, seen as a list in the order of these. Whoever makes and unlinks files
+/// chooses which numbers stay. So the map of keys is ordered: whichever stay, a search compares as
+/// many as the logarithm of their number, and no call moves all entries at once. Where the slab
+/// keeps an inode is seen nowhere, and its slot is used again.
 #[derive(Drop)]
 pub struct Inodes {
     slab: Slab<Inode>,
