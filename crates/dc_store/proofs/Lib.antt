@@ -34,4 +34,3 @@ pub mod KeepsSwapped
 pub mod KeepsRead
 pub mod Redirected
 pub mod SlabSteps
-pub mod SlotsSeen
