@@ -38,9 +38,9 @@
  * A path is `len` bytes, without a zero byte at its end. `base` is the number of the directory from which a relative
  * path starts. Names have up to 255 bytes, paths up to 4,095, and one path may pass 40 links. Names may come from
  * anybody: any bytes are safe, and none lead to a wrong answer. Whoever chose the names, a search of a directory
- * compares a number of names that grows with the logarithm of how many it has. Names that somebody chose to fall into
- * one bucket push out each other's rows and those of other names there, so that look-ups of all these take the lock; a
- * cache for each user keeps that apart.
+ * compares a number of names that grows with the logarithm of how many it has, and the search for an inode grows
+ * likewise, whichever live. Names that somebody chose to fall into one bucket push out each other's rows and those of
+ * other names there, so that look-ups of all these take the lock; a cache for each user keeps that apart.
  *
  * Rules:
  *

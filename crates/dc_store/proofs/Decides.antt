@@ -19,6 +19,9 @@ itself n = grind (arith, nat_tests)
 pub same_number : (m n : ℕ) → eq_by_cmp nat_cmp m n ≡ true → m ≡ n
 same_number m n e = grind (arith, nat_tests)
 
+pub other_number : (m n : ℕ) → eq_by_cmp nat_cmp m n ≡ false → m ≢ n
+other_number m n e = grind (arith, nat_tests)
+
 pub decided : (m n : ℕ) → (m == n) ≡ true → m ≡ n
 decided m n e = grind (arith, nat_tests)
 

@@ -4,6 +4,7 @@ pub mod Spots
 pub mod Keys
 pub mod Spelled
 pub mod Maps
+pub mod Mapped
 pub mod Keyed
 pub mod Counted
 pub mod Nodes
@@ -33,4 +34,3 @@ pub mod KeepsSwapped
 pub mod KeepsRead
 pub mod Redirected
 pub mod SlabSteps
-pub mod SlotsSeen

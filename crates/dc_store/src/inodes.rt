@@ -12,15 +12,17 @@ use crate::inode::Inode;
 use dc_names::{Name, NoMemory};
 use slab::Slab;
 use std::alloc::Global;
-use std::collections::HashMap;
+use std::collections::BTreeMap;
 use std::marker::Model;
 
-/// Inodes by their numbers, seen as a list in the order of these. Where the slab keeps them is seen
-/// nowhere, and is used again.
+/// Inodes by their numbers, seen as a list in the order of these. Whoever makes and unlinks files
+/// chooses which numbers stay. So the map of keys is ordered: whichever stay, a search compares as
+/// many as the logarithm of their number, and no call moves all entries at once. Where the slab
+/// keeps an inode is seen nowhere, and its slot is used again.
 #[derive(Drop)]
 pub struct Inodes {
     slab: Slab<Inode>,
-    keys: HashMap<u64, usize>,
+    keys: BTreeMap<u64, usize>,
 }
 
 impl Model for Inodes {
@@ -42,7 +44,7 @@ impl Inodes {
     {
         Inodes {
             slab: Slab::new(alloc),
-            keys: HashMap::new(alloc),
+            keys: BTreeMap::new(alloc),
         }
     }
 

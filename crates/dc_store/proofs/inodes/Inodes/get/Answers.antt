@@ -1,24 +1,15 @@
-use Rattle.std.proofs.Common.{option_and_then, IsTrue, ap, sym, ◌∙◌, subst}
-use Rattle.std.specs.FinMap.Entries.{is_sorted}
-use Rattle.std.specs.Ordering.{nat_cmp}
-use Rattle.slab.specs.Slab.{get as slot}
-use Rattle.dc_store.specs.Inodes.{inode_at}
-use Rattle.dc_store.proofs.Slots.{at_number, in_order}
-use Rattle.dc_store.proofs.SlotSteps.{slot_is}
+use Rattle.std.proofs.Common.{sym, ◌∙◌}
+use Rattle.dc_store.proofs.SlotSteps.{in_order, in_slot, nowhere}
 use Rattle.dc_store.proofs.inodes.Inodes.get.Goals as goal
 
 pub returns-in_err-key-clause-value : goal.returns-in_err-key-clause-value
-returns-in_err-key-clause-value c =
-    rw (c.from_residual.ensures, ← c.self.view_is)
-    (ap (option_and_then (slot c.self.inside.slab)) c.in_err-key.ensures.value ∙ sym (at_number c.self.inside.slab c.self.inside.keys.entries c.args.number))
+returns-in_err-key-clause-value c = rw c.from_residual.ensures (sym (nowhere c.self.invariant c.self.view_is c.args.number (sym c.in_err-key.ensures.value)))
 
 pub returns-in_err-key-clause-in_order : goal.returns-in_err-key-clause-in_order
-returns-in_err-key-clause-in_order c = subst (λ inodes. IsTrue (is_sorted nat_cmp inodes)) c.self.view_is (in_order c.self.inside.slab c.self.inside.keys.entries)
+returns-in_err-key-clause-in_order c = in_order c.self.invariant c.self.view_is
 
 pub returns-clause-in_order : goal.returns-clause-in_order
-returns-clause-in_order c = subst (λ inodes. IsTrue (is_sorted nat_cmp inodes)) c.self.view_is (in_order c.self.inside.slab c.self.inside.keys.entries)
+returns-clause-in_order c = in_order c.self.invariant c.self.view_is
 
 pub returns-clause-value : goal.returns-clause-value
-returns-clause-value c =
-    c.get-2.ensures ∙ sym (slot_is c.self.inside.slab c.self.inside.keys.entries c.self.invariant c.args.number c.in_ok-key.field-0.now (sym c.in_ok-key.ensures.value))
-    ∙ ap (λ inodes. inode_at inodes c.args.number) c.self.view_is
+returns-clause-value c = c.get-2.ensures ∙ sym (in_slot c.self.invariant c.self.view_is c.args.number (sym c.in_ok-key.ensures.value))
