@@ -117,6 +117,7 @@ impl<'t> Holder<'t> {
         ensures same_reference { result.ghost_name ≡ self.entry.pass.ghost_name }
         ensures freed { Freed self.entry guarded.value result.now }
         ensures view { view result.now ≡ gave (view (pass_of self.entry)) }
+        ensures woken { W.woken result.now }
     {
         events_keep_the_rule();
         let Holder { shared, pass } = self;
@@ -125,7 +126,7 @@ impl<'t> Holder<'t> {
         shared.table.shared.store::<Give>(pass, LOCK, FREE);
         // After the store: a sleeper that was woken before it would find the lock held, and sleep on with
         // nobody left to wake it.
-        W::wake(shared);
+        W::wake(shared, pass);
         pass
     }
 
@@ -136,11 +137,17 @@ impl<'t> Holder<'t> {
         ensures same_reference { result.ghost_name ≡ self.entry.pass.ghost_name }
         ensures freed { Freed self.entry guarded.value result.now }
         ensures view { view result.now ≡ answered_by (pass_of self.entry) (request_of call.now) }
+        ensures woken { W.woken result.now }
     {
-        self.answer_as::<Brand, W>(guarded, call)
+        let shared = self.shared;
+        let back = self.answer_as::<Brand>(guarded, call);
+        // After the lock is free, as in `give`.
+        W::wake(shared, back);
+        back
     }
 
-    fn answer_as<C: Asked, W: Wakes>(self, guarded: Box<Guarded>, call: &Call<'_>) -> &'t mut Pass
+    /// Gives the lock back and answers, and wakes nobody.
+    fn answer_as<C: Asked>(self, guarded: Box<Guarded>, call: &Call<'_>) -> &'t mut Pass
         requires call { C.call ≡ request_of call.now }
         requires may { MayAnswer self guarded.value (request_of call.now) }
         ensures same_reference { result.ghost_name ≡ self.entry.pass.ghost_name }
@@ -152,8 +159,6 @@ impl<'t> Holder<'t> {
         // The slot is filled before the lock is free: turned round, the next holder would find it empty.
         shared.table.shared.exchange(pass, 0, Some(guarded));
         shared.table.shared.store::<Answer<C>>(pass, LOCK, FREE);
-        // After the store, as in `give`.
-        W::wake(shared);
         pass
     }
 
