@@ -188,12 +188,13 @@ rests_awake s S rest =
     let all : how_many s (wakes_all s.served) ≤ number s can_go_on = count_below (wakes_all s.served) (λ (x : Thread). can_go_on x.place) (λ x. all_goes_on x.place (x.limit == s.served)) s.threads in
     let tries : how_many s (owes_a_try s.served) ≤ number s can_go_on = count_below (owes_a_try s.served) (λ (x : Thread). can_go_on x.place) (λ x. trying_goes_on x.place x.has_slept (x.seen == s.served)) s.threads in
     let late : how_many s (is_late_and_tries s.served) ≤ number s can_go_on = count_below (is_late_and_tries s.served) (λ (x : Thread). can_go_on x.place) (λ x. late_goes_on x.has_ticket x.place x.has_slept (x.seen == s.served)) s.threads in
-    let held : s.is_held ≡ true → ⊥ = λ h. let just : one s.is_held ≡ 1 = ap one h in omega (arith, S.fair.holder, holding, rest, just) in
-    (elim (cases_lt 0 (number s is_asleep)) [ inl some ↦ absurd (omega (arith, S.seen_to some, S.fair.holder, holding, wakes, tries, rest)) | inr gone ↦ omega arith ],
+    let held : s.is_held ≡ true → ⊥ = λ h. let just : one s.is_held ≡ 1 = ap one h in omega (arith, S.fair.holder, holding, rest, just) in (
+      elim (cases_lt 0 (number s is_asleep)) [ inl some ↦ absurd (omega (arith, S.seen_to some, S.fair.holder, holding, wakes, tries, rest)) | inr gone ↦ omega arith ],
       elim (cases_lt 0 (number s is_kept)) [
         | inl some ↦ elim (kept_seen_to s S some) [ inl h ↦ absurd (held h) | inr other ↦ elim other [ inl w ↦ absurd (omega (arith, w, all, rest)) | inr l ↦ absurd (omega (arith, l, late, rest)) ] ]
         | inr gone ↦ omega arith
-      ])
+      ],
+    )
 
 at_most_one : (held : Bool) (n : ℕ) → n ≡ cond held 1 0 → n ≤ 1
 at_most_one true n e = omega arith

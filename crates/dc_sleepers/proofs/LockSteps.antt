@@ -100,7 +100,7 @@ module _ (s : State) (t : ℕ) (inside : t < length s.threads) (S : IsSound s) (
   yields_next less e = let F = mine Choosing e in
       let w : Moves s.served s.threads (set s.threads t (chosen Yielding)) (at Choosing) (chosen Yielding) = moves s.served s.threads t (at Choosing) (chosen Yielding) inside e in
       let fair : IsFair (with_thread s t (chosen Yielding)) = fairly s t (at Choosing) (chosen Yielding) s.is_held s.waiting inside e S.fair refl refl (omega arith) (omega arith) (omega arith) (omega arith)
-        record { slept = F.slept; holds = λ _. refl; draws = λ a. never a; leaves = λ a. never a; own = λ _ has. F.own refl has; known = λ _. F.known refl; kept = λ _. (le_refl s.served, less) } in
+      record { slept = F.slept; holds = λ _. refl; draws = λ a. never a; leaves = λ a. never a; own = λ _ has. F.own refl has; known = λ _. F.known refl; kept = λ _. (le_refl s.served, less) } in
       let all : 0 < how_many (with_thread s t (chosen Yielding)) Rattle.dc_sleepers.specs.LockSound.is_late_asleep → 0 < cond s.is_held 1 0 + how_many (with_thread s t (chosen Yielding)) (wakes_all s.served) = λ some. omega (arith, S.all, w.late_asleep, w.all, some) in record {
         fair = fair;
         seen_to = λ _. seen_by_next (with_thread s t (chosen Yielding)) fair all (omega (arith, less, F.known refl));

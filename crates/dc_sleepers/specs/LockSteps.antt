@@ -2,7 +2,7 @@
 use Rattle.std.specs.Prelude.{◌≡◌, ℕ, ◌+◌, ◌<◌, ◌^◌, Bool}
 use Rattle.dc_sleepers.specs.declared.lock.Place.{Place}
 use Rattle.dc_sleepers.specs.declared.lock.Act.{Act}
-use Rattle.dc_sleepers.specs.declared.lock.Act.TheVariants.{CountLate, CountIn, Draw, Serve}
+use Rattle.dc_sleepers.specs.declared.lock.Act.TheVariants.{CountLate, CountIn, Draw}
 use Rattle.dc_sleepers.specs.declared.lock.Thread.{Thread}
 use Rattle.dc_sleepers.specs.Locks.{State, thread_of, with_thread, placed, Begins, done}
 use Rattle.dc_sleepers.specs.Outcomes.{Outcome}
@@ -12,7 +12,6 @@ abbrev pub HasRoom : State → Act → Type 0
 HasRoom s CountLate = s.waiting + 1 < 2 ^ 64
 HasRoom s CountIn = s.waiting + 1 < 2 ^ 64
 HasRoom s Draw = s.drawn + 1 < 2 ^ 64
-HasRoom s Serve = s.served + 1 < 2 ^ 64
 HasRoom s _ = Unit {0}
 
 abbrev pub Does : State → ℕ → Act → Bool → State → Type 0

@@ -1,11 +1,11 @@
-//! What each step makes of the words of a lock, and of its threads.
+//! What each step makes of the words of a lock, and of its threads: those of a thread that waits stand here.
 
 ghost use Rattle.std.specs.Prelude.{◌≡◌, ◌<◌, length, IfOk};
-ghost use Rattle.dc_sleepers.specs.Locks.{opening, is_asleep, is_kept, roused, roused_all};
+ghost use Rattle.dc_sleepers.specs.Locks.{opening};
 ghost use Rattle.dc_sleepers.specs.LockSteps.{Does, Goes, Puts};
 ghost use Rattle.dc_sleepers.specs.LocksShown.{shown};
 ghost use Rattle.dc_sleepers.specs.LockSound.{IsSound};
-ghost use Rattle.dc_sleepers.specs.declared.lock.Act.TheVariants.{Come, TryOnce, Try, CountLate, Draw, CountIn, ReadDrawn, ReadServed, Insist, Park, Yield, CountOut, CountLateOut, Serve, WakeKept, Give, Read, LookDrawn, LookServed, Wake, WakeNobody, WakeAll};
+ghost use Rattle.dc_sleepers.specs.declared.lock.Act.TheVariants.{Come, TryOnce, Try, CountLate, Draw, CountIn, ReadDrawn, ReadServed, Insist, Park, Yield, CountOut};
 
 use crate::lock::{Act, Place, Thread};
 use std::alloc::{AllocError, Global};
@@ -28,34 +28,6 @@ const IDLE: Thread = Thread {
     limit: 0,
     seen: 0,
 };
-
-/// A thread, woken if it sleeps until the lock is free.
-fn woken(one: Thread) -> Thread
-    ensures { result ≡ roused is_asleep one }
-{
-    if one.place == Place::Asleep {
-        Thread {
-            place: Place::Awake,
-            ..one
-        }
-    } else {
-        one
-    }
-}
-
-/// A thread, woken if it sleeps until one more ticket is served.
-fn passed(one: Thread) -> Thread
-    ensures { result ≡ roused is_kept one }
-{
-    if one.place == Place::Kept {
-        Thread {
-            place: Place::Awake,
-            ..one
-        }
-    } else {
-        one
-    }
-}
 
 impl State {
     pub fn new(alloc: Global, threads: usize) -> Result<State, AllocError>
@@ -106,7 +78,7 @@ impl State {
     }
 
     /// Puts another in the place of a thread, if it stands there.
-    fn put(&mut self, thread: usize, from: Place, one: Thread) -> bool
+    pub fn put(&mut self, thread: usize, from: Place, one: Thread) -> bool
         requires { thread < length self.old.threads.items }
         ensures { Puts (shown self.old) thread from one result (shown self.new) }
     {
@@ -118,7 +90,7 @@ impl State {
     }
 
     /// Takes a thread from one place to another, if it stands there.
-    fn go(&mut self, thread: usize, from: Place, to: Place) -> bool
+    pub fn go(&mut self, thread: usize, from: Place, to: Place) -> bool
         requires { thread < length self.old.threads.items }
         ensures { Goes (shown self.old) thread from to result (shown self.new) }
     {
@@ -302,151 +274,5 @@ impl State {
             self.waiting -= 1;
         }
         done
-    }
-
-    fn count_late_out(&mut self, thread: usize) -> bool
-        requires there { thread < length self.old.threads.items }
-        requires sound { IsSound (shown self.old) }
-        ensures { Does (shown self.old) thread CountLateOut result (shown self.new) }
-    {
-        let done = self.go(thread, Place::Got, Place::Serving);
-        if done {
-            self.waiting -= 1;
-        }
-        done
-    }
-
-    fn serve(&mut self, thread: usize) -> bool
-        requires { thread < length self.old.threads.items }
-        ensures { Does (shown self.old) thread Serve result (shown self.new) }
-    {
-        if self.served == u64::MAX {
-            return false;
-        }
-        let one = self.threads[thread];
-        let served = Thread {
-            place: Place::Served,
-            has_ticket: false,
-            ..one
-        };
-        let done = self.put(thread, Place::Serving, served);
-        if done {
-            self.served += 1;
-        }
-        done
-    }
-
-    fn wake_kept(&mut self, thread: usize) -> bool
-        requires { thread < length self.old.threads.items }
-        ensures { Does (shown self.old) thread WakeKept result (shown self.new) }
-    {
-        let done = self.go(thread, Place::Served, Place::Holding);
-        if done {
-            self.pass_on();
-        }
-        done
-    }
-
-    fn give(&mut self, thread: usize) -> bool
-        requires { thread < length self.old.threads.items }
-        ensures { Does (shown self.old) thread Give result (shown self.new) }
-    {
-        let done = self.go(thread, Place::Holding, Place::Freed);
-        if done {
-            self.is_held = false;
-        }
-        done
-    }
-
-    fn read(&mut self, thread: usize) -> bool
-        requires { thread < length self.old.threads.items }
-        ensures { Does (shown self.old) thread Read result (shown self.new) }
-    {
-        let to = if self.waiting > 0 {
-            Place::Looking
-        } else {
-            Place::Out
-        };
-        self.go(thread, Place::Freed, to)
-    }
-
-    fn look_drawn(&mut self, thread: usize) -> bool
-        requires { thread < length self.old.threads.items }
-        ensures { Does (shown self.old) thread LookDrawn result (shown self.new) }
-    {
-        let one = self.threads[thread];
-        let read = Thread {
-            place: Place::Looked,
-            limit: self.drawn,
-            ..one
-        };
-        self.put(thread, Place::Looking, read)
-    }
-
-    fn look_served(&mut self, thread: usize) -> bool
-        requires { thread < length self.old.threads.items }
-        ensures { Does (shown self.old) thread LookServed result (shown self.new) }
-    {
-        let none_is_out = self.threads[thread].limit == self.served;
-        let to = if none_is_out {
-            Place::WakingOne
-        } else {
-            Place::WakingAll
-        };
-        self.go(thread, Place::Looked, to)
-    }
-
-    fn wake(&mut self, thread: usize, sleeper: usize) -> bool
-        requires { thread < length self.old.threads.items }
-        ensures { Does (shown self.old) thread (Wake sleeper) result (shown self.new) }
-    {
-        if sleeper >= self.threads.len() || self.threads[sleeper].place != Place::Asleep {
-            return false;
-        }
-        let done = self.go(thread, Place::WakingOne, Place::Out);
-        if done {
-            self.threads[sleeper].place = Place::Awake;
-        }
-        done
-    }
-
-    fn wake_nobody(&mut self, thread: usize) -> bool
-        requires { thread < length self.old.threads.items }
-        ensures { Does (shown self.old) thread WakeNobody result (shown self.new) }
-    {
-        let mut threads = self.threads.iter();
-        if threads.any(|one| one.place == Place::Asleep) {
-            return false;
-        }
-        self.go(thread, Place::WakingOne, Place::Out)
-    }
-
-    fn wake_all(&mut self, thread: usize) -> bool
-        requires { thread < length self.old.threads.items }
-        ensures { Does (shown self.old) thread WakeAll result (shown self.new) }
-    {
-        let done = self.go(thread, Place::WakingAll, Place::Out);
-        if done {
-            self.rouse();
-        }
-        done
-    }
-
-    /// Wakes all that sleep until the lock is free.
-    fn rouse(&mut self)
-        ensures { shown self.new ≡ roused_all is_asleep (shown self.old) }
-    {
-        for one in self.threads.iter_mut() {
-            *one = woken(*one);
-        }
-    }
-
-    /// Wakes all that sleep until one more ticket is served.
-    fn pass_on(&mut self)
-        ensures { shown self.new ≡ roused_all is_kept (shown self.old) }
-    {
-        for one in self.threads.iter_mut() {
-            *one = passed(*one);
-        }
     }
 }
