@@ -1,10 +1,9 @@
 -- What a thread's going to another place leaves of the lock.
-use Rattle.std.proofs.Common.{◌≡◌, ℕ, ◌+◌, ◌-◌, ◌<◌, ◌≤◌, ◌==◌, ◌&&◌, not, leb, Bool, true, false, cond, List, length, get_or, set, sym, ap, ◌∙◌, subst, arith, refl, inl, inr}
+use Rattle.std.proofs.Common.{◌≡◌, ℕ, ◌+◌, ◌<◌, ◌≤◌, ◌&&◌, leb, Bool, true, false, List, length, get_or, set, sym, ap, ◌∙◌, arith, inl, inr}
 use Rattle.std.specs.List.{count_by}
-use Rattle.dc_sleepers.specs.declared.lock.Place.{Place}
 use Rattle.dc_sleepers.specs.declared.lock.Thread.{Thread}
-use Rattle.dc_sleepers.specs.Locks.{State, idle, thread_of, with_thread, is_asleep, is_kept}
-use Rattle.dc_sleepers.specs.LockLaw.{how_many, number, is_holding, owes_a_wake, wakes_all, owes_a_try}
+use Rattle.dc_sleepers.specs.Locks.{State, idle, thread_of, with_thread, is_asleep}
+use Rattle.dc_sleepers.specs.LockLaw.{number, is_holding, owes_a_wake, wakes_all, owes_a_try}
 use Rattle.dc_sleepers.specs.LockSound.{is_counted, is_late, is_passing, is_drawing, is_leaving, has_limit, yields, may_have_ticket, is_from, is_late_asleep, is_behind, IsFine, IsFair, IsSound}
 use Rattle.dc_sleepers.proofs.Counts.{one, count_moved}
 use Rattle.dc_sleepers.proofs.Standing.{either, each_set}

@@ -1,11 +1,10 @@
 -- Whoever has the least ticket sees to the sleepers.
-use Rattle.std.proofs.Common.{◌≡◌, ◌≢◌, ℕ, ◌+◌, ◌-◌, ◌<◌, ◌≤◌, ◌⊎◌, inl, inr, ◌==◌, ◌&&◌, not, leb, Bool, true, false, cond, List, length, get_or, sym, ap, ◌∙◌, subst, arith, refl}
-use Rattle.std.specs.List.{count_by}
-use Rattle.std.proofs.lemmas.Bool.{cases_lt, eqb-true, eqb-false, leb-true, leb-false, le-leb}
+use Rattle.std.proofs.Common.{◌≡◌, ℕ, ◌+◌, ◌<◌, ◌≤◌, ◌⊎◌, inl, inr, ◌==◌, ◌&&◌, not, leb, Bool, true, false, cond, length, get_or, sym, ap, ◌∙◌, arith, refl}
+use Rattle.std.proofs.lemmas.Bool.{eqb-true, leb-false, le-leb}
 use Rattle.dc_sleepers.specs.declared.lock.Place.{Place}
-use Rattle.dc_sleepers.specs.declared.lock.Place.TheVariants.{Out, Trying, Drawing, Counted, Choosing, Parking, Yielding, Asleep, Kept, Awake, Got, Serving, Served, Holding, Freed, Looking, Looked, WakingOne, WakingAll}
+use Rattle.dc_sleepers.specs.declared.lock.Place.TheVariants.{Trying, Counted, Choosing, Parking, Yielding, Asleep, Kept, Awake, Got, Serving, Served, Freed, Looking, Looked, WakingAll}
 use Rattle.dc_sleepers.specs.declared.lock.Thread.{Thread}
-use Rattle.dc_sleepers.specs.Locks.{State, idle, thread_of, is_asleep, is_kept}
+use Rattle.dc_sleepers.specs.Locks.{State, idle, thread_of}
 use Rattle.dc_sleepers.specs.LockLaw.{how_many, number, is_holding, owes_a_wake, wakes_all, wakes_all_at, owes_a_try, is_late_and_tries}
 use Rattle.dc_sleepers.specs.LockSound.{is_passing, yields, is_from, is_late_asleep, is_behind, IsFine, IsFair, IsSound}
 use Rattle.dc_sleepers.proofs.Counts.{one, count_below, within}

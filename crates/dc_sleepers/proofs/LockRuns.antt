@@ -1,17 +1,16 @@
 -- Each step of the lock keeps it sound, and what is sound remembers its sleepers.
-use Rattle.std.proofs.Common.{◌≡◌, ◌≢◌, ℕ, ◌+◌, ◌-◌, ◌<◌, ◌≤◌, ◌⊎◌, inl, inr, ◌==◌, ◌&&◌, not, nat_lt, if◌then◌else◌, Bool, true, false, cond, List, [], ◌∷◌, length, get_or, set, replicate, sym, ap, ◌∙◌, subst, arith, refl}
-use Rattle.std.specs.List.{count_by}
-use Rattle.std.proofs.lemmas.Bool.{cases_lt, ltb-true, eqb-true, eqb-false}
+use Rattle.std.proofs.Common.{◌≡◌, ℕ, ◌+◌, ◌<◌, ◌≤◌, ◌⊎◌, inl, inr, ◌==◌, ◌&&◌, not, nat_lt, if◌then◌else◌, Bool, true, false, cond, List, [], ◌∷◌, length, get_or, sym, ap, ◌∙◌, subst, arith, refl}
+use Rattle.std.proofs.lemmas.Bool.{cases_lt, ltb-true, eqb-true}
 use Rattle.dc_sleepers.specs.declared.lock.Place.{Place}
 use Rattle.dc_sleepers.specs.declared.lock.Place.TheVariants.{Out, Trying, Drawing, Counted, Choosing, Parking, Yielding, Asleep, Kept, Awake, Got, Serving, Served, Holding, Freed, Looking, Looked, WakingOne, WakingAll}
 use Rattle.dc_sleepers.specs.declared.lock.Act.{Act}
 use Rattle.dc_sleepers.specs.declared.lock.Act.TheVariants.{Come, TryOnce, Try, CountLate, Draw, CountIn, ReadDrawn, ReadServed, Insist, Park, Yield, WakeUp, WakeKeptUp, CountOut, CountLateOut, Serve, WakeKept, Give, Read, LookDrawn, LookServed, Wake, WakeNobody, WakeAll}
 use Rattle.dc_sleepers.specs.declared.lock.Event.{Event}
 use Rattle.dc_sleepers.specs.declared.lock.Thread.{Thread}
-use Rattle.dc_sleepers.specs.Locks.{State, idle, opening, thread_of, with_thread, moved, Begins, done, Can, after, AllCan, after_all, is_asleep, is_kept}
+use Rattle.dc_sleepers.specs.Locks.{State, idle, opening, thread_of, with_thread, moved, Begins, done, after, AllCan, after_all, is_asleep, is_kept}
 use Rattle.dc_sleepers.specs.LockSteps.{HasRoom, Does}
 use Rattle.dc_sleepers.specs.LockLaw.{how_many, number, is_holding, owes_a_wake, wakes_all, wakes_all_at, owes_a_try, owes_a_try_at, is_late_and_tries, can_go_on, Remembers, RestsAwake}
-use Rattle.dc_sleepers.specs.LockSound.{is_counted, is_late, is_from, is_late_asleep, is_behind, yields, has_limit, IsFine, IsFair, IsSound}
+use Rattle.dc_sleepers.specs.LockSound.{is_counted, is_late, is_from, is_late_asleep, is_behind, yields, has_limit, IsFine, IsSound}
 use Rattle.dc_sleepers.proofs.Counts.{one, count_below, count_none}
 use Rattle.dc_sleepers.proofs.Standing.{either, one_below, counts, found, get_same}
 use Rattle.dc_sleepers.proofs.GateNext.{never}

@@ -1,16 +1,15 @@
 -- The steps of the lock that draw and serve no ticket, and free and wake nobody, keep it sound.
-use Rattle.std.proofs.Common.{◌≡◌, ◌≢◌, ℕ, ◌+◌, ◌-◌, ◌<◌, ◌≤◌, ◌⊎◌, inl, inr, ◌==◌, ◌&&◌, not, nat_lt, Bool, true, false, cond, List, length, get_or, set, if◌then◌else◌, get_or-set_same, le_refl, sym, ap, ◌∙◌, subst, arith, refl}
-use Rattle.std.proofs.lemmas.Bool.{ltb-true, eqb-true, eqb-false}
+use Rattle.std.proofs.Common.{◌≡◌, ℕ, ◌+◌, ◌-◌, ◌<◌, ◌≤◌, ◌==◌, ◌&&◌, not, Bool, true, false, cond, length, set, le_refl, sym, ap, ◌∙◌, subst, arith, refl}
 use Rattle.dc_sleepers.specs.declared.lock.Place.{Place}
-use Rattle.dc_sleepers.specs.declared.lock.Place.TheVariants.{Out, Trying, Drawing, Counted, Choosing, Parking, Yielding, Asleep, Kept, Awake, Got, Serving, Served, Holding, Freed, Looking, Looked, WakingOne, WakingAll}
+use Rattle.dc_sleepers.specs.declared.lock.Place.TheVariants.{Out, Trying, Drawing, Counted, Choosing, Parking, Yielding, Asleep, Kept, Awake, Got, Serving, Holding, Freed, Looking, Looked, WakingOne, WakingAll}
 use Rattle.dc_sleepers.specs.declared.lock.Thread.{Thread}
-use Rattle.dc_sleepers.specs.Locks.{State, idle, thread_of, with_thread, is_asleep, is_kept}
-use Rattle.dc_sleepers.specs.LockLaw.{how_many, number, is_holding, owes_a_wake, wakes_all, owes_a_try}
+use Rattle.dc_sleepers.specs.Locks.{State, idle, thread_of, with_thread}
+use Rattle.dc_sleepers.specs.LockLaw.{how_many, number, wakes_all}
 use Rattle.dc_sleepers.specs.LockSound.{is_counted, is_late, is_late_at, may_have_ticket, is_drawing, is_leaving, has_limit, yields, IsFine, IsFair, IsSound}
 use Rattle.dc_sleepers.proofs.Counts.{one}
-use Rattle.dc_sleepers.proofs.Standing.{either, one_below, counts}
+use Rattle.dc_sleepers.proofs.Standing.{one_below, counts}
 use Rattle.dc_sleepers.proofs.GateNext.{never}
-use Rattle.dc_sleepers.proofs.LockFair.{Moves, moves, bland, busy, is_busy, fairly, calm}
+use Rattle.dc_sleepers.proofs.LockFair.{Moves, moves, bland, busy, fairly, calm}
 use Rattle.dc_sleepers.proofs.LockNext.{was_drawn, seen_by_next}
 
 pub one_and_not : (a b : Bool) → b ≡ true → one (a && not b) ≡ 0

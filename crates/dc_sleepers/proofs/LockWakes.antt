@@ -1,15 +1,15 @@
 -- Waking keeps the lock sound.
-use Rattle.std.proofs.Common.{◌≡◌, ◌≢◌, ℕ, ◌+◌, ◌-◌, ◌<◌, ◌≤◌, ◌⊎◌, inl, inr, ◌==◌, ◌&&◌, not, leb, if◌then◌else◌, Bool, true, false, cond, List, length, map, get_or, set, get_or-set_same, get_or-set_other, sym, ap, ◌∙◌, subst, arith, refl}
+use Rattle.std.proofs.Common.{◌≡◌, ◌≢◌, ℕ, ◌<◌, ◌==◌, ◌&&◌, not, if◌then◌else◌, Bool, true, false, List, length, map, get_or, set, get_or-set_other, sym, ap, ◌∙◌, subst, arith, refl}
 use Rattle.std.specs.List.{count_by}
 use Rattle.std.proofs.Math.ListN.{get_or-map}
-use Rattle.std.proofs.lemmas.List.{length-set, length-map, map-set}
+use Rattle.std.proofs.lemmas.List.{length-map, map-set}
 use Rattle.dc_sleepers.specs.declared.lock.Place.{Place}
-use Rattle.dc_sleepers.specs.declared.lock.Place.TheVariants.{Out, Trying, Drawing, Counted, Choosing, Parking, Yielding, Asleep, Kept, Awake, Got, Serving, Served, Holding, Freed, Looking, Looked, WakingOne, WakingAll}
+use Rattle.dc_sleepers.specs.declared.lock.Place.TheVariants.{Out, Asleep, Kept, Awake, Served, Holding, WakingOne, WakingAll}
 use Rattle.dc_sleepers.specs.declared.lock.Thread.{Thread}
 use Rattle.dc_sleepers.specs.Locks.{State, idle, thread_of, with_thread, placed, moved, roused, roused_all, is_asleep, is_kept}
-use Rattle.dc_sleepers.specs.LockLaw.{how_many, number, is_holding, owes_a_wake, wakes_all, owes_a_try}
-use Rattle.dc_sleepers.specs.LockSound.{is_counted, is_late, is_late_at, is_passing, is_from, is_late_asleep, is_behind, IsFine, IsFair, IsSound}
-use Rattle.dc_sleepers.proofs.Counts.{one, count_below, count_without, within}
+use Rattle.dc_sleepers.specs.LockLaw.{how_many, number, is_holding}
+use Rattle.dc_sleepers.specs.LockSound.{is_counted, is_late, is_late_at, is_passing, is_from, is_behind, IsFine, IsFair, IsSound}
+use Rattle.dc_sleepers.proofs.Counts.{one, count_without, within}
 use Rattle.dc_sleepers.proofs.Standing.{either, one_below, counts, count_map}
 use Rattle.dc_sleepers.proofs.GateNext.{never}
 use Rattle.dc_sleepers.proofs.LockFair.{Moves, moves, bland, busy, is_busy, fairly}

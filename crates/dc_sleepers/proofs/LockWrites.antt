@@ -1,17 +1,16 @@
 -- Drawing and serving a ticket, freeing the lock and looking for sleepers keep it sound.
-use Rattle.std.proofs.Common.{◌≡◌, ◌≢◌, ℕ, ◌+◌, ◌-◌, ◌<◌, ◌≤◌, ◌⊎◌, inl, inr, ◌==◌, ◌&&◌, not, leb, Bool, true, false, cond, List, length, get_or, set, sym, ap, ◌∙◌, subst, arith, refl}
+use Rattle.std.proofs.Common.{◌≡◌, ℕ, ◌+◌, ◌<◌, ◌≤◌, inl, inr, ◌==◌, ◌&&◌, not, leb, Bool, true, false, length, set, ap, subst, arith, refl}
 use Rattle.std.proofs.lemmas.Bool.{cases_lt, eqb-true, lt-leb}
 use Rattle.dc_sleepers.specs.declared.lock.Place.{Place}
-use Rattle.dc_sleepers.specs.declared.lock.Place.TheVariants.{Out, Trying, Drawing, Counted, Choosing, Parking, Yielding, Asleep, Kept, Awake, Got, Serving, Served, Holding, Freed, Looking, Looked, WakingOne, WakingAll}
+use Rattle.dc_sleepers.specs.declared.lock.Place.TheVariants.{Out, Trying, Drawing, Asleep, Serving, Served, Holding, Freed, Looking, Looked}
 use Rattle.dc_sleepers.specs.declared.lock.Thread.{Thread}
-use Rattle.dc_sleepers.specs.Locks.{State, idle, thread_of, with_thread, is_asleep, is_kept}
-use Rattle.dc_sleepers.specs.LockLaw.{how_many, number, is_holding, owes_a_wake, wakes_all, owes_a_try}
-use Rattle.dc_sleepers.specs.LockSound.{is_counted, is_late, is_leaving, is_from, is_late_asleep, IsFine, IsFair, IsSound}
+use Rattle.dc_sleepers.specs.Locks.{State, idle, thread_of, with_thread, is_asleep}
+use Rattle.dc_sleepers.specs.LockLaw.{how_many, number, is_holding}
+use Rattle.dc_sleepers.specs.LockSound.{is_counted, is_late, is_from, is_late_asleep, IsFine, IsFair, IsSound}
 use Rattle.dc_sleepers.proofs.Counts.{one, count_below}
 use Rattle.dc_sleepers.proofs.Standing.{either, one_below, counts, each_set}
 use Rattle.dc_sleepers.proofs.GateNext.{never}
 use Rattle.dc_sleepers.proofs.LockFair.{Moves, moves, bland, busy, is_busy, fairly}
-use Rattle.dc_sleepers.proofs.LockNext.{stands_there}
 
 asleep_is_counted : (p : Place) → one (is_asleep p) ≤ one (is_counted p)
 asleep_is_counted Asleep = omega arith
@@ -30,11 +29,6 @@ late_asleep_sleeps s = count_below is_late_asleep (λ (y : Thread). is_asleep y.
 
 late_asleep_is_out : (s : State) → how_many s is_late_asleep ≤ how_many s (λ (y : Thread). y.has_ticket)
 late_asleep_is_out s = count_below is_late_asleep (λ (y : Thread). y.has_ticket) (λ y. right_below (is_asleep y.place) y.has_ticket) s.threads
-
--- one whose ticket is served next has a ticket that is out
-pub serving_out : (s : State) (t : ℕ) → IsSound s → (thread_of s t).place ≡ Serving → s.served < s.drawn
-serving_out s t S e = let has : (thread_of s t).has_ticket ≡ true = (S.fair.each t).leaves (ap is_leaving e) in
-    let some : 0 < how_many s (λ (y : Thread). y.has_ticket) = counts (λ (y : Thread). y.has_ticket) s.threads t idle (stands_there s t has) has in omega (arith, S.fair.out, some)
 
 module _ (s : State) (t : ℕ) (inside : t < length s.threads) (S : IsSound s) (l h : Bool) (k m n : ℕ) where
   abbrev at : Place → Thread

@@ -1,7 +1,7 @@
 -- What each step at the lock keeps.
-use Rattle.std.specs.Prelude.{◌≡◌, ℕ, suc, ◌+◌, ◌-◌, ◌<◌, ◌≤◌, ◌==◌, ◌&&◌, not, leb, Bool, true, false, cond}
+use Rattle.std.specs.Prelude.{◌≡◌, ℕ, ◌+◌, ◌-◌, ◌<◌, ◌≤◌, ◌==◌, ◌&&◌, not, leb, Bool, true, false, cond}
 use Rattle.dc_sleepers.specs.declared.lock.Place.{Place}
-use Rattle.dc_sleepers.specs.declared.lock.Place.TheVariants.{Out, Trying, Drawing, Counted, Choosing, Parking, Yielding, Asleep, Kept, Awake, Got, Serving, Served, Holding, Freed, Looking, Looked, WakingOne, WakingAll}
+use Rattle.dc_sleepers.specs.declared.lock.Place.TheVariants.{Trying, Drawing, Counted, Choosing, Parking, Yielding, Asleep, Kept, Awake, Got, Serving, Served}
 use Rattle.dc_sleepers.specs.declared.lock.Thread.{Thread}
 use Rattle.dc_sleepers.specs.Locks.{State, thread_of, is_asleep, is_kept}
 use Rattle.dc_sleepers.specs.LockLaw.{how_many, number, is_holding, owes_a_wake, wakes_all, owes_a_try}
