@@ -82,7 +82,7 @@ pub enum Act {
     CountIn,
     /// It reads how many tickets were drawn, if it has none.
     ReadDrawn,
-    /// It reads how many were served: if that is less than its ticket, or than were drawn, one goes before it.
+    /// It reads how many were served: if that is less than its limit, a late thread goes before it.
     ReadServed,
     /// It has slept so often that it waits for no late thread.
     Insist,
