@@ -1,7 +1,8 @@
 -- A step of one act is one of an act that is the same.
 use Rattle.std.proofs.Common.{◌≡◌, ℕ, Bool, sym, subst}
 use Rattle.dc_sleepers.specs.declared.lock.Act.{Act}
-use Rattle.dc_sleepers.specs.Locks.{State, Does}
+use Rattle.dc_sleepers.specs.Locks.{State}
+use Rattle.dc_sleepers.specs.LockSteps.{Does}
 use Rattle.dc_sleepers.specs.declared.gate.Act as gate_act
 use Rattle.dc_sleepers.specs.Gates as gate
 use Rattle.dc_sleepers.specs.GateSteps as gate_steps

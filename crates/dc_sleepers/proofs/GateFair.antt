@@ -1,13 +1,11 @@
 -- What a thread's going to another place leaves of the gate.
-use Rattle.std.proofs.Common.{◌≡◌, ◌≢◌, ℕ, ◌+◌, ◌<◌, ◌≤◌, ◌⊎◌, inl, inr, ◌==◌, ◌&&◌, not, Bool, true, false, cond, List, length, get_or, set, sym, ap, ◌∙◌, subst, arith, refl}
+use Rattle.std.proofs.Common.{◌≡◌, ℕ, ◌+◌, ◌<◌, ◌≤◌, ◌==◌, ◌&&◌, Bool, true, false, cond, List, length, get_or, set, sym, ap, ◌∙◌, arith}
 use Rattle.std.specs.List.{count_by}
-use Rattle.dc_sleepers.specs.declared.gate.Place.{Place}
-use Rattle.dc_sleepers.specs.declared.gate.Place.TheVariants.{Out, Asking, Asked, Trying, Told, Counted, Asleep, Holding, Given, Leaving, Gone, Calling, Raised, Looked, WakingOne, WakingAll}
 use Rattle.dc_sleepers.specs.declared.gate.Thread.{Thread}
 use Rattle.dc_sleepers.specs.Gates.{State, idle, thread_of, with_thread, is_asleep, sleeps_behind}
-use Rattle.dc_sleepers.specs.GateLaw.{how_many, number, is_awake}
+use Rattle.dc_sleepers.specs.GateLaw.{number, is_awake}
 use Rattle.dc_sleepers.specs.GateLaw.{is_holding}
-use Rattle.dc_sleepers.specs.GateSound.{raises_later, wakes_later, wakes_all, may_have_ticket, has_its_turn, is_asked, has_read_served, settles, has_this_ticket, IsFine, IsFair, IsSound}
+use Rattle.dc_sleepers.specs.GateSound.{raises_later, wakes_later, wakes_all, may_have_ticket, has_its_turn, is_asked, has_read_served, settles, has_this_ticket, IsFine, IsFair}
 use Rattle.dc_sleepers.proofs.Counts.{one, count_moved}
 use Rattle.dc_sleepers.proofs.Standing.{each_set}
 use Rattle.dc_sleepers.proofs.GateNext.{never}

@@ -1,16 +1,14 @@
 -- Whoever has the next ticket sees to the sleepers.
-use Rattle.std.proofs.Common.{◌≡◌, ◌≢◌, ℕ, ◌+◌, ◌<◌, ◌≤◌, ◌⊎◌, inl, inr, ◌==◌, ◌&&◌, not, Bool, true, false, cond, List, length, get_or, sym, ap, ◌∙◌, subst, arith, refl}
-use Rattle.std.specs.List.{count_by}
+use Rattle.std.proofs.Common.{◌≡◌, ℕ, ◌+◌, ◌<◌, ◌≤◌, ◌⊎◌, inl, inr, ◌==◌, ◌&&◌, not, Bool, true, false, length, get_or, sym, ap, ◌∙◌, arith, refl}
 use Rattle.std.proofs.lemmas.Bool.{cases_lt, eqb-true, eqb-false, eq-eqb}
 use Rattle.dc_sleepers.specs.declared.gate.Place.{Place}
-use Rattle.dc_sleepers.specs.declared.gate.Place.TheVariants.{Out, Asking, Asked, Trying, Told, Counted, Asleep, Holding, Given, Leaving, Gone, Calling, Raised, Looked, WakingOne, WakingAll}
+use Rattle.dc_sleepers.specs.declared.gate.Place.TheVariants.{Asking, Asked, Trying, Told, Counted, Asleep, Holding, Given, Leaving, Raised, Looked, WakingAll}
 use Rattle.dc_sleepers.specs.declared.gate.Thread.{Thread}
 use Rattle.dc_sleepers.specs.Gates.{State, idle, thread_of, is_asleep, sleeps_behind}
-use Rattle.dc_sleepers.specs.GateLaw.{how_many, number, is_awake, awake_at, owes_a_call, can_go_on, Remembers, RestsAwake}
-use Rattle.dc_sleepers.specs.GateLaw.{is_holding}
+use Rattle.dc_sleepers.specs.GateLaw.{how_many, number, is_awake}
 use Rattle.dc_sleepers.specs.GateSound.{raises_later, wakes_later, wakes_all, has_this_ticket, IsFine, IsFair, IsSound}
 use Rattle.dc_sleepers.proofs.Counts.{one, count_below, within}
-use Rattle.dc_sleepers.proofs.Standing.{either, one_below, counts, found, count_split}
+use Rattle.dc_sleepers.proofs.Standing.{either, counts, found}
 
 pub never : {A : Type 0} → false ≡ true → A
 never e = absurd (cc)

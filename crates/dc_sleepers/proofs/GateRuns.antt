@@ -1,7 +1,6 @@
 -- Each step at the gate keeps it sound, and what is sound remembers its sleepers.
-use Rattle.std.proofs.Common.{◌≡◌, ◌≢◌, ℕ, ◌+◌, ◌-◌, ◌*◌, ◌/◌, ◌%◌, ◌<◌, ◌≤◌, ◌⊎◌, inl, inr, ◌==◌, ◌&&◌, not, if◌then◌else◌, Bool, true, false, cond, List, [], ◌∷◌, length, get_or, set, replicate, sym, ap, ◌∙◌, subst, arith, refl}
-use Rattle.std.specs.List.{count_by}
-use Rattle.std.proofs.lemmas.Bool.{cases_lt, eqb-true, eqb-false, eq-eqb}
+use Rattle.std.proofs.Common.{◌≡◌, ℕ, ◌+◌, ◌%◌, ◌<◌, ◌≤◌, ◌⊎◌, inl, inr, ◌==◌, if◌then◌else◌, Bool, true, false, cond, List, [], ◌∷◌, length, sym, subst, arith, refl}
+use Rattle.std.proofs.lemmas.Bool.{cases_lt, eqb-true}
 use Rattle.dc_sleepers.specs.declared.gate.TheConstants.{WRAP}
 use Rattle.dc_sleepers.specs.declared.gate.Place.{Place}
 use Rattle.dc_sleepers.specs.declared.gate.Place.TheVariants.{Out, Asking, Asked, Trying, Told, Counted, Asleep, Holding, Given, Leaving, Gone, Calling, Raised, Looked, WakingOne, WakingAll}
@@ -9,13 +8,13 @@ use Rattle.dc_sleepers.specs.declared.gate.Act.{Act}
 use Rattle.dc_sleepers.specs.declared.gate.Act.TheVariants.{Come, ComeBare, ReadServed, ReadTickets, Try, Answer, AskAgain, Leave, Count, TakeTicket, ReadCalls, Wait, WakeUp, Give, CountOut, Serve, ReadSleepers, Raise, LookServed, LookTickets, Wake, WakeNobody, WakeAll}
 use Rattle.dc_sleepers.specs.declared.gate.Event.{Event}
 use Rattle.dc_sleepers.specs.declared.gate.Thread.{Thread}
-use Rattle.dc_sleepers.specs.Gates.{State, idle, opening, thread_of, with_thread, moved, may_try, Begins, done, Can, after, AllCan, after_all, is_asleep, sleeps_behind}
+use Rattle.dc_sleepers.specs.Gates.{State, idle, opening, thread_of, with_thread, moved, may_try, Begins, done, after, AllCan, after_all, is_asleep, sleeps_behind}
 use Rattle.dc_sleepers.specs.GateLaw.{how_many, number, is_awake, awake_at, owes_a_call, can_go_on, Remembers, RestsAwake, IsInTime, AreInTime}
 use Rattle.dc_sleepers.specs.GateSteps.{FitsAt, Does}
 use Rattle.dc_sleepers.specs.GateLaw.{is_holding}
-use Rattle.dc_sleepers.specs.GateSound.{raises_later, wakes_later, wakes_all, has_this_ticket, IsFine, IsFair, IsSound}
+use Rattle.dc_sleepers.specs.GateSound.{raises_later, wakes_later, wakes_all, has_this_ticket, IsFine, IsSound}
 use Rattle.dc_sleepers.proofs.Counts.{one, count_below, count_none}
-use Rattle.dc_sleepers.proofs.Standing.{either, one_below, count_split, get_same}
+use Rattle.dc_sleepers.proofs.Standing.{one_below, count_split, get_same}
 use Rattle.dc_sleepers.proofs.GateNext.{never, seers, sleepers_seen_to}
 use Rattle.dc_sleepers.proofs.GateFair.{bland}
 use Rattle.dc_sleepers.proofs.GateSteps as quiet

@@ -1,17 +1,17 @@
 -- The steps at the gate that write no word keep it sound.
-use Rattle.std.proofs.Common.{◌≡◌, ◌≢◌, ℕ, ◌+◌, ◌<◌, ◌≤◌, ◌⊎◌, inl, inr, ◌==◌, ◌&&◌, not, Bool, true, false, cond, List, length, get_or, set, if◌then◌else◌, ◌||◌, get_or-set_same, le_refl, sym, ap, ◌∙◌, subst, arith, refl}
+use Rattle.std.proofs.Common.{◌≡◌, ◌≢◌, ℕ, ◌<◌, ◌≤◌, ◌⊎◌, inl, inr, ◌==◌, ◌&&◌, not, Bool, true, false, cond, length, set, if◌then◌else◌, ◌||◌, get_or-set_same, le_refl, sym, ap, ◌∙◌, subst, arith, refl}
 use Rattle.std.proofs.lemmas.Bool.{cases_lt, cases_eq, eqb-true, eqb-false, eq-eqb}
 use Rattle.dc_sleepers.specs.declared.gate.Place.{Place}
-use Rattle.dc_sleepers.specs.declared.gate.Place.TheVariants.{Out, Asking, Asked, Trying, Told, Counted, Asleep, Holding, Given, Leaving, Gone, Calling, Raised, Looked, WakingOne, WakingAll}
+use Rattle.dc_sleepers.specs.declared.gate.Place.TheVariants.{Out, Asking, Asked, Trying, Told, Counted, Asleep, Holding, Given, Gone, Calling, Raised, Looked, WakingOne, WakingAll}
 use Rattle.dc_sleepers.specs.declared.gate.Thread.{Thread}
-use Rattle.dc_sleepers.specs.Gates.{State, idle, thread_of, with_thread, moved, may_try, sleeps_behind, is_asleep}
-use Rattle.dc_sleepers.specs.GateLaw.{how_many, number, is_awake}
+use Rattle.dc_sleepers.specs.Gates.{State, idle, thread_of, with_thread, may_try, sleeps_behind, is_asleep}
+use Rattle.dc_sleepers.specs.GateLaw.{number, is_awake}
 use Rattle.dc_sleepers.specs.GateLaw.{is_holding}
 use Rattle.dc_sleepers.specs.GateSound.{raises_later, wakes_later, wakes_all, may_have_ticket, has_its_turn, is_asked, has_read_served, settles, IsFine, IsFair, IsSound}
 use Rattle.dc_sleepers.proofs.Counts.{one, count_below}
 use Rattle.dc_sleepers.proofs.Standing.{either, one_below}
-use Rattle.dc_sleepers.proofs.GateNext.{never, in_range, seers, next_sees, settled_sees, awake_told}
-use Rattle.dc_sleepers.proofs.GateFair.{Moves, moves, bland, turned, more, quiet}
+use Rattle.dc_sleepers.proofs.GateNext.{never, in_range, settled_sees, awake_told}
+use Rattle.dc_sleepers.proofs.GateFair.{Moves, moves, bland, turned, quiet}
 
 one_and : (a b : Bool) → one (a && b) ≤ one a
 one_and true b = one_below b

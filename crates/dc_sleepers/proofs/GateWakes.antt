@@ -1,20 +1,19 @@
 -- Calling and waking keep the gate sound.
-use Rattle.std.proofs.Common.{◌≡◌, ◌≢◌, ℕ, ◌+◌, ◌-◌, ◌<◌, ◌≤◌, ◌⊎◌, inl, inr, ◌==◌, ◌&&◌, not, if◌then◌else◌, Bool, true, false, cond, List, length, map, get_or, set, get_or-set_same, get_or-set_other, le_refl, sym, ap, ◌∙◌, subst, arith, refl}
+use Rattle.std.proofs.Common.{◌≡◌, ◌≢◌, ℕ, ◌+◌, ◌<◌, ◌≤◌, ◌==◌, ◌&&◌, not, if◌then◌else◌, Bool, true, false, List, length, map, get_or, set, get_or-set_other, sym, ap, ◌∙◌, subst, arith, refl}
 use Rattle.std.specs.List.{count_by}
 use Rattle.std.proofs.Math.ListN.{get_or-map}
-use Rattle.std.proofs.lemmas.Bool.{cases_lt, cases_eq, eqb-true, eqb-false, eq-eqb}
-use Rattle.std.proofs.lemmas.List.{length-set}
+use Rattle.std.proofs.lemmas.Bool.{eqb-true}
 use Rattle.dc_sleepers.specs.declared.gate.Place.{Place}
-use Rattle.dc_sleepers.specs.declared.gate.Place.TheVariants.{Out, Asking, Asked, Trying, Told, Counted, Asleep, Holding, Given, Leaving, Gone, Calling, Raised, Looked, WakingOne, WakingAll}
+use Rattle.dc_sleepers.specs.declared.gate.Place.TheVariants.{Out, Counted, Asleep, Gone, Calling, Raised, Looked, WakingOne, WakingAll}
 use Rattle.dc_sleepers.specs.declared.gate.Thread.{Thread}
 use Rattle.dc_sleepers.specs.Gates.{State, idle, thread_of, with_thread, placed, moved, roused, roused_all, sleeps_behind, is_asleep}
-use Rattle.dc_sleepers.specs.GateLaw.{how_many, number, is_awake}
+use Rattle.dc_sleepers.specs.GateLaw.{how_many, number}
 use Rattle.dc_sleepers.specs.GateLaw.{is_holding}
-use Rattle.dc_sleepers.specs.GateSound.{raises_later, wakes_later, wakes_all, may_have_ticket, has_this_ticket, IsFine, IsFair, IsSound}
+use Rattle.dc_sleepers.specs.GateSound.{raises_later, wakes_all, may_have_ticket, has_this_ticket, IsFine, IsFair, IsSound}
 use Rattle.dc_sleepers.proofs.Counts.{one, count_without, within}
-use Rattle.dc_sleepers.proofs.Standing.{either, one_below, counts, found, each_set, count_map}
-use Rattle.dc_sleepers.proofs.GateNext.{never, in_range, has_place}
-use Rattle.dc_sleepers.proofs.GateFair.{Moves, moves, bland, more, quiet}
+use Rattle.dc_sleepers.proofs.Standing.{counts, found, each_set, count_map}
+use Rattle.dc_sleepers.proofs.GateNext.{never, in_range}
+use Rattle.dc_sleepers.proofs.GateFair.{Moves, moves, bland, quiet}
 use Rattle.dc_sleepers.proofs.GateSteps.{goes_out}
 
 and_right_fails : (a b : Bool) → a ≡ true → (a && b) ≡ false → b ≡ false

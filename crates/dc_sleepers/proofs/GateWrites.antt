@@ -1,15 +1,15 @@
 -- The steps at the gate that write a word keep it sound.
-use Rattle.std.proofs.Common.{◌≡◌, ◌≢◌, ℕ, ◌+◌, ◌-◌, ◌<◌, ◌≤◌, ◌⊎◌, inl, inr, ◌==◌, ◌&&◌, not, Bool, true, false, cond, List, length, get_or, set, get_or-set_same, le_refl, sym, ap, ◌∙◌, subst, arith, refl}
-use Rattle.std.proofs.lemmas.Bool.{cases_lt, cases_eq, eqb-true, eqb-false, eq-eqb}
+use Rattle.std.proofs.Common.{◌≡◌, ◌≢◌, ℕ, ◌+◌, ◌-◌, ◌<◌, ◌≤◌, inl, inr, ◌==◌, ◌&&◌, not, Bool, true, false, cond, length, set, le_refl, sym, ap, ◌∙◌, subst, arith, refl}
+use Rattle.std.proofs.lemmas.Bool.{cases_lt, eqb-true, eq-eqb}
 use Rattle.dc_sleepers.specs.declared.gate.Place.{Place}
-use Rattle.dc_sleepers.specs.declared.gate.Place.TheVariants.{Out, Asking, Asked, Trying, Told, Counted, Asleep, Holding, Given, Leaving, Gone, Calling, Raised, Looked, WakingOne, WakingAll}
+use Rattle.dc_sleepers.specs.declared.gate.Place.TheVariants.{Trying, Told, Counted, Holding, Given, Leaving, Gone}
 use Rattle.dc_sleepers.specs.declared.gate.Thread.{Thread}
-use Rattle.dc_sleepers.specs.Gates.{State, idle, thread_of, with_thread, sleeps_behind, is_asleep}
-use Rattle.dc_sleepers.specs.GateLaw.{how_many, number, is_awake}
+use Rattle.dc_sleepers.specs.Gates.{State, idle, thread_of, with_thread}
+use Rattle.dc_sleepers.specs.GateLaw.{how_many, number}
 use Rattle.dc_sleepers.specs.GateLaw.{is_holding}
-use Rattle.dc_sleepers.specs.GateSound.{raises_later, wakes_later, wakes_all, may_have_ticket, has_this_ticket, IsFine, IsFair, IsSound}
+use Rattle.dc_sleepers.specs.GateSound.{raises_later, wakes_all, has_this_ticket, IsFine, IsSound}
 use Rattle.dc_sleepers.proofs.Counts.{one}
-use Rattle.dc_sleepers.proofs.Standing.{either, one_below, counts, found, each_set, only_one}
+use Rattle.dc_sleepers.proofs.Standing.{either, one_below, counts, each_set, only_one}
 use Rattle.dc_sleepers.proofs.GateNext.{never, in_range, has_place, this_ticket}
 use Rattle.dc_sleepers.proofs.GateFair.{Moves, moves, bland, turned, more, calmly, quiet}
 

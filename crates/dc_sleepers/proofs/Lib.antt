@@ -1,6 +1,10 @@
 mod ByAct
 mod Counts
+mod LockFair
+mod LockNext
 mod LockSteps
+mod LockWrites
+mod LockWakes
 mod LockRuns
 mod Mapped
 mod Standing

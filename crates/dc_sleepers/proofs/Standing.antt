@@ -1,10 +1,10 @@
 -- Where an element stands that passes a test, and how many do.
 use Rattle.std.proofs.Common.{◌≡◌, ◌≢◌, ℕ, suc, zero, ◌+◌, ◌<◌, ◌≤◌, ◌⊎◌, inl, inr, Bool, true, false, cond, List, [], ◌∷◌, length, get_or, set, map, replicate, sym, ap, ◌∙◌, subst, arith, refl, get_or-set_same, get_or-set_other}
 use Rattle.std.specs.List.{count_by}
-use Rattle.std.proofs.lemmas.Bool.{cases_lt, cases_eq}
+use Rattle.std.proofs.lemmas.Bool.{cases_eq}
 use Rattle.std.proofs.lemmas.List.{length-set}
 use Rattle.std.proofs.lemmas.List.Sums.{get_or-le-sum_by}
-use Rattle.dc_sleepers.proofs.Counts.{one, count_moved, count_cons, within}
+use Rattle.dc_sleepers.proofs.Counts.{one, count_moved, count_cons}
 
 pub either : (b : Bool) → (b ≡ true) ⊎ (b ≡ false)
 either true = inl refl

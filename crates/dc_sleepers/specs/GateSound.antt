@@ -1,7 +1,7 @@
 -- What each step at the gate keeps.
 use Rattle.std.specs.Prelude.{◌≡◌, ◌≢◌, ℕ, ◌+◌, ◌<◌, ◌≤◌, ◌==◌, ◌&&◌, Bool, true, false, cond}
 use Rattle.dc_sleepers.specs.declared.gate.Place.{Place}
-use Rattle.dc_sleepers.specs.declared.gate.Place.TheVariants.{Out, Asking, Asked, Trying, Told, Counted, Asleep, Holding, Given, Leaving, Gone, Calling, Raised, Looked, WakingOne, WakingAll}
+use Rattle.dc_sleepers.specs.declared.gate.Place.TheVariants.{Asking, Asked, Trying, Told, Counted, Asleep, Holding, Given, Leaving, Gone, Calling, Raised, Looked, WakingOne, WakingAll}
 use Rattle.dc_sleepers.specs.declared.gate.Thread.{Thread}
 use Rattle.dc_sleepers.specs.Gates.{State, thread_of, is_asleep, sleeps_behind}
 use Rattle.dc_sleepers.specs.GateLaw.{how_many, number, is_awake, is_holding}

@@ -2,7 +2,7 @@
 use Rattle.std.specs.Prelude.{◌≡◌, ℕ, ◌+◌, ◌<◌, ◌^◌, Bool}
 use Rattle.dc_sleepers.specs.declared.gate.Place.{Place}
 use Rattle.dc_sleepers.specs.declared.gate.Act.{Act}
-use Rattle.dc_sleepers.specs.declared.gate.Act.TheVariants.{TakeTicket, Raise, Wait}
+use Rattle.dc_sleepers.specs.declared.gate.Act.TheVariants.{TakeTicket, Raise}
 use Rattle.dc_sleepers.specs.declared.gate.Event.{Event}
 use Rattle.dc_sleepers.specs.declared.gate.Thread.{Thread}
 use Rattle.dc_sleepers.specs.Gates.{State, thread_of, with_thread, placed, Begins, done}

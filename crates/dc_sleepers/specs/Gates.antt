@@ -1,5 +1,5 @@
 -- The gate of gigbewu.h as plain data, and what each step of a thread makes of it.
-use Rattle.std.specs.Prelude.{◌≡◌, ◌≢◌, ℕ, ◌+◌, ◌-◌, ◌%◌, ◌<◌, ◌==◌, ◌&&◌, ◌||◌, not, Bool, true, false, if◌then◌else◌, List, [], ◌∷◌, length, get_or, set, map, replicate}
+use Rattle.std.specs.Prelude.{◌≡◌, ℕ, ◌+◌, ◌-◌, ◌%◌, ◌<◌, ◌==◌, ◌&&◌, ◌||◌, not, Bool, true, false, if◌then◌else◌, List, [], ◌∷◌, length, get_or, set, map, replicate}
 use Rattle.dc_sleepers.specs.declared.gate.TheConstants.{WRAP}
 use Rattle.dc_sleepers.specs.declared.gate.Place.{Place}
 use Rattle.dc_sleepers.specs.declared.gate.Place.TheVariants.{Out, Asking, Asked, Trying, Told, Counted, Asleep, Holding, Given, Leaving, Gone, Calling, Raised, Looked, WakingOne, WakingAll}
@@ -7,7 +7,6 @@ use Rattle.dc_sleepers.specs.declared.gate.Act.{Act}
 use Rattle.dc_sleepers.specs.declared.gate.Act.TheVariants.{Come, ComeBare, ReadServed, ReadTickets, Try, Answer, AskAgain, Leave, Count, TakeTicket, ReadCalls, Wait, WakeUp, Give, CountOut, Serve, ReadSleepers, Raise, LookServed, LookTickets, Wake, WakeNobody, WakeAll}
 use Rattle.dc_sleepers.specs.declared.gate.Event.{Event}
 use Rattle.dc_sleepers.specs.declared.gate.Thread.{Thread}
-use Rattle.dc_sleepers.specs.Outcomes.{Outcome}
 
 pub record State : Type 0 where
   pub is_held : Bool

@@ -3,9 +3,11 @@
 ghost use Rattle.dc_sleepers.specs.GateLaw.{NoSleeperAtTheGateIsForgotten};
 ghost use Rattle.dc_sleepers.specs.LockLaw.{NoSleeperOfTheLockIsForgotten};
 
-/// After every list of events, if a thread sleeps, then the lock is held, or a thread that gave it back has
-/// its wake still before it, or one that was woken has its try still before it. So if every thread sleeps or
-/// doesn't want the lock, none sleeps.
+/// After every list of events, if a thread sleeps until the lock is free, then the lock is held, or a thread
+/// that gave it back has its wake still before it, or one that was woken, or not put to sleep, has its try or
+/// its look at the lock still before it. If a thread sleeps until one more ticket is served, then the lock is
+/// held, or a thread that gave it back wakes all still, or one that has a ticket and has slept tries or looks
+/// before it sleeps. So if every thread sleeps or doesn't want the lock, none sleeps.
 pub fn no_sleeper_of_the_lock_is_forgotten()
     ensures { NoSleeperOfTheLockIsForgotten }
 {}

@@ -4,6 +4,7 @@
 #![tactic(auto)]
 
 pub mod gate;
+mod giving;
 mod laws;
 pub mod lock;
 mod locking;

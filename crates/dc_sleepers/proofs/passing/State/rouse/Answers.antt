@@ -1,4 +1,4 @@
-use Rattle.std.proofs.Common.{◌≡◌, ◌≤◌, ◌<◌, ℕ, List, length, arith, refl, sym, ap, ◌∙◌, ◌++◌, map, take, drop, get_or, set, rules}
+use Rattle.std.proofs.Common.{◌≡◌, length, arith, ap, ◌∙◌, ◌++◌, map, take, drop, get_or, set}
 use Rattle.std.proofs.lemmas.List.{get_or_default}
 use Rattle.std.proofs.lemmas.List.Edits.{map_over_more}
 use Rattle.dc_sleepers.specs.declared.gate.Thread.{Thread}
