@@ -3,22 +3,28 @@
 #include <sched.h>
 #include <stdatomic.h>
 #include <stdlib.h>
+#include <sys/random.h>
 
-enum { SHELVES = 4096 };
+enum { SHELF_BITS = 12, SHELVES = 1 << SHELF_BITS };
 
-/* Bodies whose numbers leave the same rest. */
+/* Bodies whose numbers have the same product with the secret, in its highest bits. */
 struct shelf {
     pthread_mutex_t lock;
     struct body *first;
 };
 
 static struct shelf shelves[SHELVES];
+/* Whoever makes and unlinks files chooses which numbers stay. Without a secret all could be made to stand on one shelf. */
+static uint64_t secret;
 static atomic_long bodies;
 /* Calls that may have made an inode whose body has no number yet. */
 static atomic_long making;
 
 void bodies_begin(void)
 {
+    if (getrandom(&secret, sizeof secret, 0) != sizeof secret)
+        secret = (uint64_t)now().tv_nsec;
+    secret |= 1;
     for (size_t i = 0; i < SHELVES; i++)
         pthread_mutex_init(&shelves[i].lock, NULL);
 }
@@ -61,7 +67,7 @@ void body_free(struct body *body)
 
 static struct shelf *shelf_of(uint64_t number)
 {
-    return &shelves[number % SHELVES];
+    return &shelves[number * secret >> (64 - SHELF_BITS)];
 }
 
 void body_number(struct body *body, uint64_t number)
