@@ -10,14 +10,15 @@ ghost use Rattle.dc_serve.specs.Threads.{book};
 ghost use Rattle.dc_table.specs.Changes.{NothingNew};
 
 use crate::{Gate, Looked, ServeFault};
-use dc_cache::{Dcache, Fast, Pass, parse};
+use dc_cache::{Dcache, Fast, Pass, Why, parse};
 use dc_plain::{Call, Follow, Stamped};
 use std::alloc::Global;
 use std::sync::Wait;
 
-/// Answers a look-up by the rows as they stand, else by the tree, and says which of them answered it.
-/// No path is walked by rows twice: what they don't answer is asked under one hold of the lock, which
-/// fills the rows of the path.
+/// Answers a look-up by the rows as they stand, else under the lock, and says which of them answered it. If
+/// a change came between, the rows are there, and answer once they are pinned. If they lack a name or a
+/// text, or if they don't answer then either, the tree is asked, under one hold, which fills the rows of
+/// the path.
 fn look<R: Wait>(
     rt: &R,
     alloc: Global,
@@ -37,13 +38,19 @@ fn look<R: Wait>(
             Looked::NoPath,
         );
     };
-    match cache.look_fast(pass, base, text, follow) {
-        Fast::Done(stamped) => (stamped, Looked::ByRows),
-        Fast::Again(why) => {
-            let stamped = cache.look_missed(rt, alloc, pass, base, text, follow);
-            (stamped, Looked::UnderLock(why))
+    let why = match cache.look_fast(pass, base, text, follow) {
+        Fast::Done(stamped) => return (stamped, Looked::ByRows),
+        Fast::Again(why) => why,
+    };
+    // A walk that pins its rows takes the lock once more than the path has names. So it isn't for a path
+    // whose rows have to be filled: one hold is enough for that.
+    if let Why::Busy(_) | Why::Changed { .. } = why {
+        if let Fast::Done(stamped) = cache.look_counted(rt, alloc, pass, base, text, follow) {
+            return (stamped, Looked::UnderLock(why));
         }
     }
+    let stamped = cache.look_missed(rt, alloc, pass, base, text, follow);
+    (stamped, Looked::UnderLock(why))
 }
 
 /// Answers a call. If it looks up, the gate learns how. If it answers a fault, nothing is recorded.
