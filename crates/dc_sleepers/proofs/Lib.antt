@@ -6,6 +6,7 @@ mod LockSteps
 mod LockWrites
 mod LockWakes
 mod LockRuns
+mod LockThreads
 mod Mapped
 mod Standing
 mod GateNext

@@ -15,10 +15,10 @@ use Rattle.dc_sleepers.proofs.GateNext.{never}
 use Rattle.dc_sleepers.proofs.LockFair.{Moves, moves, bland, busy, is_busy, fairly}
 use Rattle.dc_sleepers.proofs.LockWrites.{late_asleep_sleeps, leaves_none}
 
-asleep_wakes_not : Asleep ≡ WakingOne → ⊥
+pub asleep_wakes_not : Asleep ≡ WakingOne → ⊥
 asleep_wakes_not e = cc
 
-asleep_out : Asleep ≡ Out → ⊥
+pub asleep_out : Asleep ≡ Out → ⊥
 asleep_out e = cc
 
 asleep_alone : (p : Place) → is_asleep p ≡ true → p ≡ Asleep

@@ -2,6 +2,7 @@
 pub mod Outcomes
 pub mod Locks
 pub mod LockSteps
+pub mod LockThreads
 pub mod LockLaw
 pub mod LockSound
 pub mod LocksShown

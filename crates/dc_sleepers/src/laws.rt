@@ -2,6 +2,7 @@
 
 ghost use Rattle.dc_sleepers.specs.GateLaw.{NoSleeperAtTheGateIsForgotten};
 ghost use Rattle.dc_sleepers.specs.LockLaw.{NoSleeperOfTheLockIsForgotten};
+ghost use Rattle.dc_sleepers.specs.LockThreads.{StepsByThread};
 
 /// After every list of events, if a thread sleeps until the lock is free, then the lock is held, or a thread
 /// that gave it back has its wake still before it, or one that was woken, or not put to sleep, has its try or
@@ -10,6 +11,13 @@ ghost use Rattle.dc_sleepers.specs.LockLaw.{NoSleeperOfTheLockIsForgotten};
 /// before it sleeps. So if every thread sleeps or doesn't want the lock, none sleeps.
 pub fn no_sleeper_of_the_lock_is_forgotten()
     ensures { NoSleeperOfTheLockIsForgotten }
+{}
+
+/// A step at the lock is made by one thread alone: whether it may take it, and what becomes of it, follows
+/// from that thread and from the number that the step reads. Each other thread stays as it is, but for a
+/// sleeper that is woken. So a running thread that goes through `next` is a thread of this machine.
+pub fn a_step_of_the_lock_is_its_threads()
+    ensures { StepsByThread }
 {}
 
 /// After every list of events in which each wait comes before `WRAP` calls were made since its thread read

@@ -12,4 +12,7 @@ mod passing;
 #[cfg(test)]
 mod tests;
 
-pub use laws::{no_sleeper_at_the_gate_is_forgotten, no_sleeper_of_the_lock_is_forgotten};
+pub use laws::{
+    a_step_of_the_lock_is_its_threads, no_sleeper_at_the_gate_is_forgotten,
+    no_sleeper_of_the_lock_is_forgotten,
+};
