@@ -11,7 +11,7 @@ ghost use Rattle.dc_table.specs.Walking.{HasNoted, IsTrueNow};
 use crate::guard::Guard;
 use dc_plain::Call;
 use dc_store::SlabStore;
-use dc_table::{Pass, Shared, Wakes};
+use dc_table::{Pass, Shared, Sleepers, Wakes};
 use std::sync::Wait;
 
 impl<'t> Guard<'t> {
@@ -22,7 +22,7 @@ impl<'t> Guard<'t> {
         ensures same_reference { result.holder.pass.ghost_name ≡ pass.entry.ghost_name }
         ensures locked { Locked pass.old result.holder (kept_by result) }
     {
-        let (holder, guarded) = shared.lock(rt, pass);
+        let (holder, guarded) = shared.lock::<Sleepers, R>(rt, pass);
         Guard { holder, guarded }
     }
 

@@ -11,56 +11,37 @@
 //! A thread that is woken and doesn't try might waste the wake-up that another needs. It doesn't. A giver
 //! that sees no ticket, once the lock is free, wakes one sleeper. If a late pass then keeps that one off, it
 //! drew its ticket after the giver looked, and looks at the lock itself before it sleeps. A giver that sees
-//! a ticket wakes all, the pass with the next one among them, which counted itself as waiting before it
-//! drew. Those that it keeps off sleep until one more is served, and only if the count of these is still
-//! the one by which they were kept off.
+//! a ticket wakes all, the pass with the next one among them. Those that it keeps off sleep until one more is
+//! served, and only if the count of these is still the one by which they were kept off.
+//!
+//! `lock` goes through the acts of `Waits` alone, in an order that the machine of `dc_sleepers` allows.
 
+ghost use Rattle.std.specs.Prelude.{◌≡◌, if◌then◌else◌};
+ghost use Rattle.dc_sleepers.specs.declared.lock.Place.TheVariants.{Trying, Counted, Awake, Got, Holding};
+
+use crate::acts::Turn;
+use crate::acts::waits::Waits;
 use crate::shared::Shared;
-use crate::{
-    FEWEST_PAUSES, FREE, LOCK, MOST_DOUBLINGS, MOST_LOOKS, MOST_SLEEPS, NAP, PATIENCE, TAKEN,
-};
+use crate::{FEWEST_PAUSES, FREE, LOCK, MOST_DOUBLINGS, MOST_LOOKS, MOST_SLEEPS, PATIENCE};
+use dc_sleepers::lock::Thread;
 use std::hint;
 use std::sync::Wait;
 use std::sync::atomic::AtomicU64;
 use std::sync::atomic::Ordering::{Relaxed, SeqCst};
-use std::time::Duration;
 
 /// The tickets of the passes that are late.
 #[derive(Drop)]
 pub(crate) struct Late {
     /// How many were drawn so far.
-    drawn: AtomicU64,
+    pub(crate) drawn: AtomicU64,
     /// How many of these got the lock.
-    served: AtomicU64,
-}
-
-/// How far a pass has come that waits for the lock.
-#[derive(Clone, Copy)]
-pub(crate) struct Turn {
-    /// How often it has slept.
-    sleeps: u64,
-    /// Its ticket, once it is late.
-    ticket: Option<u64>,
+    pub(crate) served: AtomicU64,
 }
 
 /// Lets the time of this many pauses of the processor go by.
 fn pause(times: u64) {
     for _ in 0..times {
         hint::spin_loop();
-    }
-}
-
-impl Turn {
-    pub(crate) fn new() -> Turn {
-        Turn {
-            sleeps: 0,
-            ticket: None,
-        }
-    }
-
-    /// How often it looks at the lock before it sleeps: half as often after each sleep.
-    fn looks(&self) -> u64 {
-        MOST_LOOKS >> self.sleeps.min(MOST_LOOKS)
     }
 }
 
@@ -72,46 +53,43 @@ impl Late {
         }
     }
 
-    /// Whether a ticket is out.
-    fn is_any(&self) -> bool {
-        self.drawn.load(SeqCst) != self.served.load(SeqCst)
-    }
-
-    /// If a late pass goes before this one: how many were served so far. A pass without a ticket goes after
-    /// all that have one.
-    fn before(&self, turn: &Turn) -> Option<u64> {
-        let ticket = match turn.ticket {
-            Some(ticket) => ticket,
-            None => self.drawn.load(SeqCst),
-        };
-        let served = self.served.load(SeqCst);
-        if served < ticket && turn.sleeps < MOST_SLEEPS {
-            Some(served)
+    /// Whether a late pass goes before this one, which has slept so often. A pass without a ticket goes
+    /// after all that have one.
+    fn keeps_off(&self, one: &Thread, sleeps: u64) -> bool {
+        let ticket = if one.has_ticket {
+            one.ticket
         } else {
-            None
-        }
+            self.drawn.load(SeqCst)
+        };
+        self.served.load(SeqCst) < ticket && sleeps < MOST_SLEEPS
     }
 }
 
 impl Shared {
-    /// Whether the pass may try the lock. If nobody waits, one load tells.
-    pub(crate) fn may_try(&self, turn: &Turn) -> bool {
-        self.waiting.load(Relaxed) == 0 || self.late.before(turn).is_none()
+    /// Whether a pass that has slept so often may try the lock. If nobody waits, one load tells.
+    pub(crate) fn may_try<W: Waits>(&self, turn: &Turn, sleeps: u64) -> bool {
+        self.waiting.load(Relaxed) == 0 || !self.late.keeps_off(&W::stands(turn), sleeps)
     }
 
-    /// Waits for a while, or until the lock is seen free.
-    pub(crate) fn wait<R: Wait>(&self, rt: &R, turn: &mut Turn) {
-        if self.may_try(turn) && self.comes_free(turn.looks()) {
-            return;
+    /// Waits for a while, or until the lock is seen free. Answers how often the pass has slept then.
+    pub(crate) fn wait<W: Waits, R: Wait>(&self, rt: &R, turn: &mut Turn, sleeps: u64) -> u64
+        requires { (W.thread turn.old).place ≡ Trying }
+        ensures { (W.thread turn.new).place ≡ Trying }
+    {
+        // It looks half as often after each sleep.
+        if self.may_try::<W>(turn, sleeps)
+            && self.comes_free(MOST_LOOKS >> sleeps.min(MOST_LOOKS))
+        {
+            return sleeps;
         }
-        self.grow_late(turn);
+        self.grow_late::<W>(turn, sleeps);
         // A giver that sees no sleeper, once the lock is free, wakes nobody. It sees each that counted itself
         // before; one that does so later finds the lock free, and doesn't sleep.
-        self.waiting.fetch_add(1, SeqCst);
+        W::count_in(self, turn);
         self.sleeps.fetch_add(1, Relaxed);
-        self.sleep(rt, turn);
-        self.waiting.fetch_sub(1, SeqCst);
-        turn.sleeps = turn.sleeps.saturating_add(1);
+        self.sleep::<W, R>(rt, turn, sleeps);
+        W::count_out(self, turn);
+        sleeps.saturating_add(1)
     }
 
     /// Watches the lock for a while, and answers whether it was seen free. A holder needs it for far less
@@ -130,42 +108,42 @@ impl Shared {
 
     /// Draws a ticket if the pass has slept often enough. It counts as waiting until it has the lock, so that
     /// others look for it.
-    fn grow_late(&self, turn: &mut Turn) {
-        if turn.sleeps >= PATIENCE && turn.ticket.is_none() {
-            self.waiting.fetch_add(1, SeqCst);
-            turn.ticket = Some(self.late.drawn.fetch_add(1, SeqCst));
+    fn grow_late<W: Waits>(&self, turn: &mut Turn, sleeps: u64)
+        requires { (W.thread turn.old).place ≡ Trying }
+        ensures { (W.thread turn.new).place ≡ Trying }
+    {
+        let one = W::stands(turn);
+        if sleeps >= PATIENCE && one.has_slept && !one.has_ticket {
+            W::count_late(self, turn);
+            W::draw(self, turn);
         }
     }
 
     /// Sleeps while the lock is held, or until the next late pass has it.
-    fn sleep<R: Wait>(&self, rt: &R, turn: &Turn) {
-        let nap = Duration::from_millis(NAP);
-        match self.late.before(turn) {
-            // What is compared is the word's low half.
-            Some(served) => {
-                let low = (served % (1 << 32)) as u32;
-                self.late.served.park_timeout(rt, low, nap);
-            }
-            None => self.table.shared.park_timeout(rt, LOCK, TAKEN as u32, nap),
+    fn sleep<W: Waits, R: Wait>(&self, rt: &R, turn: &mut Turn, sleeps: u64)
+        requires { (W.thread turn.old).place ≡ Counted }
+        ensures { (W.thread turn.new).place ≡ Awake }
+    {
+        let limit = W::read_drawn(self, turn);
+        if sleeps >= MOST_SLEEPS && W::stands(turn).has_slept {
+            W::insist(turn);
+            W::park(self, rt, turn);
+        } else if W::read_served(self, turn) < limit {
+            W::yield_turn(self, rt, turn);
+        } else {
+            W::park(self, rt, turn);
         }
     }
 
     /// The pass has got the lock. If it was late, the next one's turn comes.
-    pub(crate) fn leave(&self, turn: &Turn) {
-        if turn.ticket.is_some() {
-            self.waiting.fetch_sub(1, SeqCst);
-            self.late.served.fetch_add(1, SeqCst);
-            self.late.served.wake_all();
-        }
-    }
-
-    /// Wakes one of those that sleep until the lock is free, or if a ticket is out all of them, as the one
-    /// might not be the one that may try.
-    pub(crate) fn wake_some(&self) {
-        if self.late.is_any() {
-            self.table.shared.wake_all(LOCK);
-        } else {
-            self.table.shared.wake_one(LOCK);
+    pub(crate) fn leave<W: Waits>(&self, turn: &mut Turn)
+        requires { let x = W.thread turn.old in x.place ≡ (if x.has_ticket then Got else Holding) }
+        ensures { (W.thread turn.new).place ≡ Holding }
+    {
+        if W::stands(turn).has_ticket {
+            W::count_late_out(self, turn);
+            W::serve(self, turn);
+            W::wake_kept(self, turn);
         }
     }
 }

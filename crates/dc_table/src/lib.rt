@@ -41,10 +41,12 @@
 //! loads the clock.
 //!
 //! Each step that frees the lock takes a `Wakes`, which says whether threads sleep until it is free: it is
-//! `Sleepers` for a table on which any thread calls `lock`, else `Nobody`. A pass that is passed over
+//! `Sleepers` for a table on which any thread calls `lock`, else `Nobody`. `lock` takes a `Waits`, and of the
+//! two `Sleepers` alone is one. Both go through the acts of a machine (`acts`). A pass that is passed over
 //! in `lock` is let first, but no clause says that it ever gets the lock.
 #![tactic(auto)]
 
+mod acts;
 mod holder;
 mod late;
 mod passing;
@@ -53,15 +55,16 @@ mod shared;
 mod sheet;
 mod steps;
 mod table;
-mod wakes;
 mod walking;
 
+pub use acts::Turn;
+pub use acts::waits::Waits;
+pub use acts::wakes::{Nobody, Sleepers, Wakes};
 pub use dc_names::{MOST_COUNT, MakeFault};
 pub use holder::{Holder, Reader};
 pub use shared::{Counts, Shared};
 pub use sheet::Sheet;
 pub use table::{Guarded, Limits, Pass, Protocol};
-pub use wakes::{Nobody, Sleepers, Wakes};
 
 /// The word that counts the changes.
 pub(crate) const CLOCK: usize = 0;

@@ -11,12 +11,12 @@ ghost use Rattle.dc_table.specs.Passes.{known, view, share, Fits, IsSamePass, Is
 ghost use Rattle.dc_table.specs.Plays.{Took, Home};
 ghost use Rattle.dc_table.specs.Walking.{HasNoted, IsTrueNow};
 
+use crate::acts::waits::Waits;
+use crate::acts::wakes::{Wakes, wake};
 use crate::holder::Holder;
-use crate::late::Turn;
 use crate::plays::{Answer, Asked, Commit, Compare, Give, Put, Raise, Take};
 use crate::shared::Shared;
 use crate::table::{Guarded, Pass};
-use crate::wakes::Wakes;
 use crate::{CLOCK, FIRST_ROW, FREE, LOCK, TAKEN};
 use dc_events::events_keep_the_rule;
 use dc_plain::Call;
@@ -27,7 +27,7 @@ use std::sync::atomic::Ordering::Relaxed;
 
 impl Shared {
     /// Tries the lock, and takes what it guards out of its slot.
-    fn try_take(&self, pass: &mut Pass) -> Option<Box<Guarded>>
+    pub(crate) fn try_take(&self, pass: &mut Pass) -> Option<Box<Guarded>>
         requires pass { Fits self.now pass.old × IsIdle pass.old }
         ensures same { IsSamePass pass.old pass.new }
         ensures taken { IfSome result (λ guarded.
@@ -48,20 +48,23 @@ impl Shared {
     }
 
     /// Waits for the lock, and takes what it guards out of its slot.
-    fn take<R: Wait>(&self, rt: &R, pass: &mut Pass) -> Box<Guarded>
+    fn take<W: Waits, R: Wait>(&self, rt: &R, pass: &mut Pass) -> Box<Guarded>
         requires pass { Fits self.now pass.old × IsIdle pass.old }
         ensures same { IsSamePass pass.old pass.new }
         ensures taken { IsHolder pass.new × Took (known pass.old) (known pass.new) result.value }
+        ensures came { W.came pass.new }
     {
-        let mut turn = Turn::new();
+        let mut turn = W::come(pass);
+        let mut sleeps = 0;
         for _ in rt.forever() {
-            if self.may_try(&turn) {
-                if let Some(guarded) = self.try_take(pass) {
-                    self.leave(&turn);
+            if self.may_try::<W>(&turn, sleeps) {
+                if let Some(guarded) = W::try_take(self, pass, &mut turn) {
+                    self.leave::<W>(&mut turn);
+                    W::hold(turn, pass);
                     return guarded;
                 }
             }
-            self.wait(rt, &mut turn);
+            sleeps = self.wait::<W, R>(rt, &mut turn, sleeps);
         }
         // The loop above ends by its return alone.
         unreachable!()
@@ -87,14 +90,20 @@ impl Shared {
         }
     }
 
-    /// Waits for the lock, and gets it with what it guards.
+    /// Waits for the lock, and gets it with what it guards. `W` is `Sleepers`, whom each step that frees the
+    /// lock of this table then names too.
     #[must_use]
-    pub fn lock<'t, R: Wait>(&'t self, rt: &R, pass: &'t mut Pass) -> (Holder<'t>, Box<Guarded>)
+    pub fn lock<'t, W: Waits, R: Wait>(
+        &'t self,
+        rt: &R,
+        pass: &'t mut Pass,
+    ) -> (Holder<'t>, Box<Guarded>)
         requires pass { Fits self.now pass.old × IsIdle pass.old }
         ensures same_reference { result.0.pass.ghost_name ≡ pass.entry.ghost_name }
         ensures locked { Locked pass.old result.0 result.1.value }
+        ensures came { W.came (pass_of result.0) }
     {
-        let guarded = self.take(rt, pass);
+        let guarded = self.take::<W, R>(rt, pass);
         (Holder { shared: self, pass }, guarded)
     }
 
@@ -126,7 +135,7 @@ impl<'t> Holder<'t> {
         shared.table.shared.store::<Give>(pass, LOCK, FREE);
         // After the store: a sleeper that was woken before it would find the lock held, and sleep on with
         // nobody left to wake it.
-        W::wake(shared, pass);
+        wake::<W>(shared, pass);
         pass
     }
 
@@ -142,7 +151,7 @@ impl<'t> Holder<'t> {
         let shared = self.shared;
         let back = self.answer_as::<Brand>(guarded, call);
         // After the lock is free, as in `give`.
-        W::wake(shared, back);
+        wake::<W>(shared, back);
         back
     }
 

@@ -110,7 +110,7 @@ fn clock_of(shared: Shared, pass: Pass) -> Option<u64>
 fn a_walk_by_hand_is_recorded(rt: HostRuntime) {
     let (shared, mut p) = Shared::new(rt.alloc(), 2, 16).expect(&rt, "memory");
     assert!(rt; is_before_changes(&shared, &mut p));
-    let (holder, guarded) = shared.lock(&rt, &mut p);
+    let (holder, guarded) = shared.lock::<Sleepers, _>(&rt, &mut p);
     holder.give::<Sleepers>(guarded);
     assert!(rt; clock_of(shared, p) == Some(0));
 }

@@ -1,0 +1,44 @@
+//! The steps on the words by which threads wait for the lock and wake each other, as acts of the machine of
+//! `dc_sleepers`.
+//!
+//! Of that machine it is proved that no sleeper is forgotten, which says nothing of a thread that takes its
+//! steps in another order, or leaves one out. So a thread that comes for the lock, or has given it back, has
+//! a `Turn`, and each step on it is a method of `Waits` or of `Wakes`, named as the act: it asks that the
+//! machine's thread may take the act, and says what that becomes. `lock` and the steps that free the lock go
+//! by these methods alone, for any type that has them. Of a type parameter nothing is known but what its
+//! methods say, so a body that turns two steps round, or that ends where the machine's thread can't, isn't
+//! proved. What is read only to decide when to try, and how long to watch the lock, is no act.
+//!
+//! That each method of `Sleepers` makes the one step of its name on the words is for the reader to see.
+
+ghost use Rattle.std.specs.Prelude.{◌≡◌};
+ghost use Rattle.dc_sleepers.specs.Locks.{idle, moved};
+
+pub mod waits;
+pub mod wakes;
+
+use dc_sleepers::lock::{Place, Thread};
+
+/// Where a thread stands at the lock, between two of its steps. It isn't `Drop`: it ends by `Waits::hold` or
+/// `Wakes::rest`. So no thread stops halfway.
+pub struct Turn {
+    thread: Thread,
+}
+
+impl Turn {
+    /// The turn of a thread that stands here, and has read nothing yet.
+    fn at(place: Place) -> Turn
+        ensures { result.thread ≡ moved idle place }
+    {
+        Turn {
+            thread: Thread {
+                place,
+                has_slept: false,
+                has_ticket: false,
+                ticket: 0,
+                limit: 0,
+                seen: 0,
+            },
+        }
+    }
+}
