@@ -10,7 +10,7 @@ use Rattle.dc_serve.specs.Bytes.{IsServiceFault, bytes_of}
 use Rattle.dc_serve.specs.Sessions.{Obeyed, Outcome, Progress, RecordedSome, outcome, progress}
 use Rattle.dc_serve.specs.declared.fault.ServeFault.{ServeFault}
 use Rattle.dc_lang.specs.Phases.{ordered_by}
-use Rattle.dc_table.specs.declared.wakes.Sleepers.{Sleepers}
+use Rattle.dc_table.specs.declared.acts.wakes.Sleepers.{Sleepers}
 use Rattle.dc_serve.specs.declared.phase.Handed.{Handed}
 use Rattle.dc_serve.specs.declared.phase.PhaseReplies.{PhaseReplies}
 use Rattle.dc_serve.specs.declared.session.SessionReplies.{SessionReplies}
