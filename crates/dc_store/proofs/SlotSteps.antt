@@ -1,5 +1,5 @@
 -- Inodes in the slots of a slab, as those who call see them, while one is found, added, written or dropped.
-use Rattle.std.proofs.Common.{◌≡◌, ℕ, ◌+◌, List, length, Bool, true, false, cond, Option, Some, None, is_some, IsTrue, option_map, T, refl, ap, sym, ◌∙◌, subst, arith, if◌then◌else◌}
+use Rattle.std.proofs.Common.{◌≡◌, ℕ, ◌+◌, List, length, Bool, true, false, cond, Option, Some, None, is_some, IsTrue, option_map, T, refl, ap, sym, ◌∙◌, subst, arith}
 use Rattle.std.proofs.lemmas.List.Sums.{sum_by-set}
 use Rattle.std.specs.BTreeMap.{is_at}
 use Rattle.std.specs.FinMap.Entries.{put, is_sorted, is_sorted-where_key}
@@ -31,6 +31,17 @@ one : (o : Option Inode) → IsTrue (is_some o) → ◌≡◌ {A = ℕ} (cond (i
 one None h = cc
 one (Some i) h = refl
 
+-- keys that are what they were
+module _ {keys news : List (ℕ × ℕ)} (same : news ≡ keys) where
+  pub kept_as : (slab : Slab Inode) → IsKept slab keys → IsKept slab news
+  kept_as slab kept = subst (IsKept slab) (sym same) kept
+
+  pub view_as : (slab : Slab Inode) {inodes : List (ℕ × Inode)} → inodes_in slab keys ≡ inodes → inodes_in slab news ≡ inodes
+  view_as slab view = ap (inodes_in slab) same ∙ view
+
+  pub key_as : {key : Option ℕ} (n : ℕ) → key ≡ key_of keys n → key_of news n ≡ key
+  key_as n at = ap (λ keys. key_of keys n) same ∙ sym at
+
 module _ {slab : Slab Inode} {keys : List (ℕ × ℕ)} {inodes : List (ℕ × Inode)} (kept : IsKept slab keys) (view : inodes_in slab keys ≡ inodes) where
   sorted : T (is_sorted nat_cmp inodes)
   sorted = subst (λ inodes. T (is_sorted nat_cmp inodes)) view (sorted_in slab keys kept.ordered)
@@ -40,6 +51,9 @@ module _ {slab : Slab Inode} {keys : List (ℕ × ℕ)} {inodes : List (ℕ × I
 
   seen : (n : ℕ) → inode_at inodes n ≡ option_map (λ key. inode_in (slot slab key)) (key_of keys n)
   seen n = ap (λ inodes. inode_at inodes n) (sym view) ∙ at_number slab keys n
+
+  pub no_key : (n : ℕ) → inode_at inodes n ≡ None → key_of keys n ≡ None
+  no_key n absent = no_image (λ key. inode_in (slot slab key)) (key_of keys n) (sym (seen n) ∙ absent)
 
   -- a number without a key has no inode, and none is dropped
   module _ (n : ℕ) (none : key_of keys n ≡ None) where
@@ -100,8 +114,5 @@ module _ {slab : Slab Inode} {keys : List (ℕ × ℕ)} {inodes : List (ℕ × I
     pub added : inodes_in new news ≡ put nat_cmp n w inodes
     added = placed kept n key (Some w) filled news ordered found unused ∙ ap (put nat_cmp n w) view
 
-    pub added-IsKept : inode_at inodes n ≡ None → (old : Option ℕ) → old ≡ key_of keys n → length news ≡ length keys + (if is_some old then 0 else 1) → slab_len new ≡ slab_len slab + 1 → IsKept new news
-    added-IsKept absent old was more one =
-        let none = was ∙ no_image (λ k. inode_in (slot slab k)) (key_of keys n) (sym (seen n) ∙ absent) in
-        let longer : length news ≡ length keys + 1 = more ∙ ap (λ (o : Option ℕ). length keys + (if is_some o then 0 else 1)) none in
-        kept_so kept n key (Some w) filled news ordered found unused (one ∙ ap (λ k. k + 1) kept.no_more ∙ sym longer)
+    pub added-IsKept : length news ≡ length keys + 1 → slab_len new ≡ slab_len slab + 1 → IsKept new news
+    added-IsKept longer one = kept_so kept n key (Some w) filled news ordered found unused (one ∙ ap (λ k. k + 1) kept.no_more ∙ sym longer)

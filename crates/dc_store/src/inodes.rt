@@ -9,20 +9,18 @@ ghost use Rattle.dc_store.specs.Inodes.{inode_at, changed, with_name, less_name,
 ghost use Rattle.dc_store.specs.Lending.{LendsInodeIf};
 
 use crate::inode::Inode;
+use crate::slab_keys::SlabKeys;
 use dc_names::{Name, NoMemory};
 use slab::Slab;
 use std::alloc::Global;
-use std::collections::BTreeMap;
 use std::marker::Model;
 
-/// Inodes by their numbers, seen as a list in the order of these. Whoever makes and unlinks files
-/// chooses which numbers stay. So the map of keys is ordered: whichever stay, a search compares as
-/// many as the logarithm of their number, and no call moves all entries at once. Where the slab
-/// keeps an inode is seen nowhere, and its slot is used again.
+/// Inodes by their numbers, seen as a list in the order of these. Where the slab keeps an inode is seen
+/// nowhere, and its slot is used again.
 #[derive(Drop)]
 pub struct Inodes {
     slab: Slab<Inode>,
-    keys: BTreeMap<u64, usize>,
+    keys: SlabKeys,
 }
 
 impl Model for Inodes {
@@ -33,9 +31,9 @@ impl Model for Inodes {
 
     ghost use Rattle.dc_store.specs.Slots.{inodes_in, IsKept};
 
-    ghost view = { λ s. inodes_in s.slab s.keys.entries };
+    ghost view = { λ s. inodes_in s.slab s.keys };
 
-    ghost invariant = { λ s. IsKept s.slab s.keys.entries };
+    ghost invariant = { λ s. IsKept s.slab s.keys };
 }
 
 impl Inodes {
@@ -44,22 +42,29 @@ impl Inodes {
     {
         Inodes {
             slab: Slab::new(alloc),
-            keys: BTreeMap::new(alloc),
+            keys: SlabKeys::new(alloc),
         }
+    }
+
+    /// Makes room for the keys of recent numbers, which are found without a search.
+    pub fn make_room(&mut self, alloc: Global) -> Result<(), NoMemory>
+        ensures { self.new ≡ self.old }
+    {
+        self.keys.make_room(alloc)
     }
 
     /// How many there are.
     pub fn len(&self) -> u64
         ensures { result ≡ length self.now }
     {
-        self.keys.len() as u64
+        self.keys.len()
     }
 
     pub fn get(&self, number: u64) -> Option<&Inode>
         ensures value { option_copied result ≡ inode_at self.now number }
         ensures in_order { IsTrue (is_sorted nat_cmp self.now) }
     {
-        let key = *self.keys.get(&number)?;
+        let key = self.keys.get(number)?;
         self.slab.get(key)
     }
 
@@ -69,7 +74,7 @@ impl Inodes {
         ensures value { option_copied_mut result ≡ inode_at self.old number }
         ensures in_order { IsTrue (is_sorted nat_cmp self.old) }
     {
-        let key = *self.keys.get(&number)?;
+        let key = self.keys.get_noted(number)?;
         Some(&mut self.slab[key])
     }
 
@@ -93,7 +98,7 @@ impl Inodes {
     pub fn remove(&mut self, number: u64)
         ensures { self.new ≡ without_inode number self.old }
     {
-        if let Some(key) = self.keys.remove(&number) {
+        if let Some(key) = self.keys.remove(number) {
             self.slab.remove(key);
         }
     }

@@ -10,6 +10,7 @@ mod map_store;
 mod name_bytes;
 mod names;
 mod node;
+mod slab_keys;
 mod slab_store;
 mod store;
 

@@ -56,6 +56,7 @@ impl SlabStore {
         ensures { IfOk result (λ store. store ≡ empty_tree) }
     {
         let mut inodes = Inodes::new(alloc);
+        inodes.make_room(alloc)?;
         let root = Inode {
             node: Node::Dir(1),
             names: Names::new(alloc, 1),

@@ -13,5 +13,5 @@ root_tied = search rules
 pub invariant_of-result : goal.invariant_of-result
 invariant_of-result c =
     let whole : c.insert.new.self ≡ (1, record { node = nodes.Dir 1; names = []; count = 0 }) ∷ [] =
-    c.in_ok-insert.ensures.ok ∙ (λ i. put {X = Inode} nat_cmp 1 record { node = nodes.Dir 1; names = c.new.ensures i; count = 0 } (c.new-inodes.ensures i)) in
+    c.in_ok-insert.ensures.ok ∙ (λ i. put {X = Inode} nat_cmp 1 record { node = nodes.Dir 1; names = c.new.ensures i; count = 0 } ((c.make_room.ensures ∙ c.new-inodes.ensures) i)) in
     subst (λ inodes. IsTied inodes 2) (sym whole) root_tied
