@@ -3,10 +3,10 @@
  * usage: large FILES DIRECTORIES BUCKETS SOME
  *
  * It makes FILES files in DIRECTORIES directories, one after the other in each in turn, with names of 16 bytes in no
- * order. Then it looks up SOME of them, which fills their rows, and the same by the rows alone; half of the files,
- * which fills most rows and evicts others; gives SOME files one name more; lists a directory whole; and takes SOME
- * names away. It prints a line for each part: its name, how many calls, the bytes from malloc that the part took, the
- * median of 10,000 calls in nanoseconds, the processor's time of the longest call in microseconds, and that of all
+ * order. Then it looks up SOME of them, which fills their rows, and the same by the rows alone; gives SOME files one
+ * name more; lists a directory whole; looks up half of the files, which fills most rows and evicts others; and takes
+ * SOME names away. It prints a line for each part: its name, how many calls, the bytes from malloc that the part took,
+ * the median of 10,000 calls in nanoseconds, the processor's time of the longest call in microseconds, and that of all
  * calls in milliseconds. Two more lines have how many look-ups by the rows found none, and how many rows another name
  * had got by then.
  */
@@ -188,11 +188,11 @@ int main(int count, char **words)
     run("fills", look, some);
     run("rows", look_fast, some);
     printf("missed %llu\n", (unsigned long long)missed);
+    run("links", link_one, some);
+    run("lists", list, 1);
     run("half", look, (files + 1) / 2);
     must(gb_counts(&pass, &evictions) == 0, "gb_counts");
     printf("evicted %llu\n", (unsigned long long)evictions);
-    run("links", link_one, some);
-    run("lists", list, 1);
     run("removals", take, some);
     once("end", end, 0);
     return 0;
