@@ -6,9 +6,10 @@
  * order. Then it looks up SOME of them, which fills their rows, and the same by the rows alone; gives SOME files one
  * name more; lists a directory whole; looks up half of the files, which fills most rows and evicts others; and takes
  * SOME names away. It prints a line for each part: its name, how many calls, the bytes from malloc that the part took,
- * the median of 10,000 calls in nanoseconds, the processor's time of the longest call in microseconds, and that of all
- * calls in milliseconds. Two more lines have how many look-ups by the rows found none, and how many rows another name
- * had got by then.
+ * the median of 10,000 calls in nanoseconds, the processor's time of the longest call in microseconds, that of all
+ * calls in milliseconds, and the bytes of the largest block that malloc was asked for and of the largest that realloc
+ * was. A map that grows moves all that it has into a larger block. It is linked with --wrap=malloc and --wrap=realloc.
+ * Two more lines have how many look-ups by the rows found none, and how many rows another name had got by then.
  */
 #include <gigbewu.h>
 #include <malloc.h>
@@ -23,13 +24,30 @@ enum { NAME = 16, SAMPLES = 10000 };
 struct part {
     const char *name;
     uint64_t calls, all, longest, samples[SAMPLES];
-    size_t sampled;
+    size_t sampled, block, moved;
     long long bytes;
 };
 
 static struct gb_pass pass;
 static struct gb_found found;
 static uint64_t files, directories, *dirs, missed;
+/* The largest block that malloc was asked for, and the largest that realloc was, since the part began. */
+static size_t block, moved;
+
+void *__real_malloc(size_t size);
+void *__real_realloc(void *at, size_t size);
+
+void *__wrap_malloc(size_t size)
+{
+    block = size > block ? size : block;
+    return __real_malloc(size);
+}
+
+void *__wrap_realloc(void *at, size_t size)
+{
+    moved = size > moved ? size : moved;
+    return __real_realloc(at, size);
+}
 
 static void must(int right, const char *what)
 {
@@ -123,10 +141,12 @@ static int later(const void *one, const void *other)
 
 static void tell(struct part *part)
 {
+    part->block = block;
+    part->moved = moved;
     qsort(part->samples, part->sampled, sizeof *part->samples, later);
-    printf("%s %llu %lld %llu %llu %llu\n", part->name, (unsigned long long)part->calls, bytes() - part->bytes,
+    printf("%s %llu %lld %llu %llu %llu %zu %zu\n", part->name, (unsigned long long)part->calls, bytes() - part->bytes,
            (unsigned long long)part->samples[part->sampled / 2], (unsigned long long)part->longest / 1000,
-           (unsigned long long)part->all / 1000000);
+           (unsigned long long)part->all / 1000000, part->block, part->moved);
     fflush(stdout);
 }
 
@@ -134,6 +154,7 @@ static void run(const char *name, int (*call)(uint64_t), uint64_t calls)
 {
     static struct part part;
     part = (struct part){.name = name, .calls = calls, .bytes = bytes()};
+    block = moved = 0;
     uint64_t started = now(CLOCK_THREAD_CPUTIME_ID), before = started, step = calls / SAMPLES + 1;
     for (uint64_t number = 0; number < calls; number++) {
         uint64_t begin = now(CLOCK_MONOTONIC);
@@ -152,6 +173,7 @@ static void run(const char *name, int (*call)(uint64_t), uint64_t calls)
 static void once(const char *name, int (*call)(uint64_t), uint64_t number)
 {
     struct part part = {.name = name, .calls = 1, .bytes = bytes(), .sampled = 1};
+    block = moved = 0;
     uint64_t begin = now(CLOCK_THREAD_CPUTIME_ID);
     must(call(number) == 0, name);
     part.all = part.longest = part.samples[0] = now(CLOCK_THREAD_CPUTIME_ID) - begin;
