@@ -154,10 +154,10 @@ static void try_sizes(void)
 {
     static const struct {
         uint64_t buckets, inodes;
-    } sizes[] = {{0, 1}, {3, 1}, {1025, 1}, {2097152, 1}, {UINT64_MAX, 1}, {1, 0}, {1, 1048577}, {1, UINT64_MAX}};
+    } sizes[] = {{0, 1}, {3, 1}, {1025, 1}, {8388608, 1}, {UINT64_MAX, 1}, {1, 0}, {1, 4294967297}, {1, UINT64_MAX}};
     for (size_t i = 0; i < sizeof sizes / sizeof *sizes; i++)
         is("cache_new", "of a wrong size", gb_cache_new(sizes[i].buckets, sizes[i].inodes, &pass), GB_BAD_SIZE);
-    is("cache_new", "of a large size", gb_cache_new(4096, 1048576, &pass), 0);
+    is("cache_new", "of a large size", gb_cache_new(4096, 4294967296, &pass), 0);
     is("cache_new", "into an open pass", gb_cache_new(1, 1, &pass), GB_BAD_PASS);
     is("close", "the large one", gb_close(&pass), 0);
     is("cache_new", "of the least size", gb_cache_new(1, 1, &pass), 0);

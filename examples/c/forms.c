@@ -36,6 +36,13 @@ static int look_missed(struct gb_pass *with, const char *path, size_t len)
     return gb_look_missed(&gate, with, base, path, len, GB_FOLLOW, &found);
 }
 
+static struct gb_looks looks;
+
+static int look_counting(struct gb_pass *with, const char *path, size_t len)
+{
+    return gb_look_counting(&gate, with, base, path, len, GB_FOLLOW, &found, &looks);
+}
+
 static int count(struct gb_pass *with, const char *path, size_t len)
 {
     return gb_stat(&gate, with, base, path, len, &found);
@@ -101,6 +108,7 @@ static const struct {
 } forms[] = {
     {"mkdir", make_directory, "/d", 2}, {"create", create, "/d/f", 3},      {"symlink", make_link, "/l", 4},
     {"link", give_name, "/h", 3},       {"look", look, "/l", 3},            {"look_missed", look_missed, "/d", 2},
+    {"look_counting", look_counting, "/l", 3},
     {"stat", count, "/h", 3},           {"readlink", read_link, "/l", 0},   {"list", list, "/d", 0},
     {"shrink", shrink, "x", MARK},      {"rename", move, "/d/f", 0},        {"rename", move, "/m", 0},
     {"unlink", take_name, "/l", 0},     {"unlink", take_name, "/d/f", 0},   {"rmdir", take_directory, "/d", 0},
@@ -189,6 +197,21 @@ static void try_arguments(void)
     is("shrink", "no row: emptied", (int64_t)emptied, 0);
 }
 
+/* The first look-up of a name fills its row, which answers the others. */
+static void try_looks(void)
+{
+    struct gb_looks told = {0, 0};
+    for (int i = 0; i < 3; i++)
+        is("look_counting", "a missing name",
+           gb_look_counting(&gate, &pass, GB_ROOT, "/new", 4, GB_FOLLOW, &found, &told), ENOENT);
+    is("look_counting", "a wrong follow", gb_look_counting(&gate, &pass, GB_ROOT, "/", 1, 3, &found, &told),
+       GB_BAD_ARGUMENT);
+    is("look_counting", "a blank pass", gb_look_counting(&gate, &blank, GB_ROOT, "/", 1, GB_FOLLOW, &found, &told),
+       GB_BAD_PASS);
+    is("looks", "under the lock", (int64_t)told.under_lock, 1);
+    is("looks", "by the rows", (int64_t)told.by_rows, 2);
+}
+
 int main(void)
 {
     gate = gb_gate_new();
@@ -198,6 +221,7 @@ int main(void)
         try_bad(i);
     }
     try_arguments();
+    try_looks();
     is("sleepers", "at the end", gate.sleepers, 0);
     is("close", "", gb_close(&pass), 0);
     for (int i = 0; i < FORMS; i++)

@@ -221,13 +221,13 @@ static void fs_link(fuse_req_t request, fuse_ino_t number, fuse_ino_t parent, co
 
 static void fs_readlink(fuse_req_t request, fuse_ino_t number)
 {
-    char text[LONGEST_PATH + 1] = "";
+    char text[LONGEST_PATH + 1];
     struct body *body = body_of(number);
     if (!body) {
         fuse_reply_err(request, ESTALE);
         return;
     }
-    pages_read(&body->pages, text, (size_t)body->size, 0);
+    tree_readlink(body, text);
     body_let_go(body, 1, false);
     fuse_reply_readlink(request, text);
 }

@@ -14,7 +14,7 @@ static struct gb_gate gate;
 static struct gb_pass first_pass; /* its lock is `splitting` */
 static pthread_mutex_t splitting = PTHREAD_MUTEX_INITIALIZER;
 static pthread_key_t own_pass;
-static atomic_long changes, refused, lists, by_rows, by_lock[GB_WHY_LINK + 1];
+static atomic_long changes, refused, lists, by_rows, by_lock[GB_WHY_LINK + 1], texts, copies;
 /* Whoever has it may rely on the parents and names of directories. */
 static pthread_mutex_t moving = PTHREAD_MUTEX_INITIALIZER;
 
@@ -70,8 +70,9 @@ void tree_tell(void)
     fprintf(stderr, "look-ups: %ld without the lock; with it %ld to fill rows, %ld of long paths, %ld beside a change\n",
             by_rows, by_lock[GB_WHY_MISS] + by_lock[GB_WHY_LINK], by_lock[GB_WHY_LONG],
             by_lock[GB_WHY_BUSY] + by_lock[GB_WHY_CHANGED]);
-    fprintf(stderr, "rows that another name got: %llu; lists: %ld; changes: %ld, and %ld refused; ",
-            (unsigned long long)evictions, lists, changes, refused);
+    fprintf(stderr, "rows that another name got: %llu; lists: %ld; texts of links: %ld, and %ld from copies; ",
+            (unsigned long long)evictions, lists, texts, copies);
+    fprintf(stderr, "changes: %ld, and %ld refused; ", changes, refused);
 }
 
 static int told(int answer)
@@ -260,6 +261,34 @@ static uint64_t name_of(struct body *body, char *name)
     strcpy(name, body->name ? body->name : "");
     pthread_mutex_unlock(&body->lock);
     return parent;
+}
+
+/* The kernel asks for the text by the link's number, and the library by a name. The rows say, without the lock, whether
+ * the name leads to that link, and at which point. A text that was read at the same point was read from the same tree,
+ * and so it is that link's. */
+static bool is_read(struct body *body, char *text)
+{
+    struct gb_found link, read;
+    char name[LONGEST_NAME + 1];
+    uint64_t parent = name_of(body, name);
+    size_t len = strlen(name);
+    if (gb_readlink_fast(pass(), parent, name, len, &link) != 0 || link.number != body->number)
+        return false;
+    if (gb_readlink(&gate, pass(), parent, name, len, text, LONGEST_PATH, &read) != 0 || read.at != link.at)
+        return false;
+    text[read.count] = 0;
+    return true;
+}
+
+void tree_readlink(struct body *body, char *text)
+{
+    if (is_read(body, text)) {
+        atomic_fetch_add(&texts, 1);
+        return;
+    }
+    atomic_fetch_add(&copies, 1);
+    pages_read(&body->pages, text, (size_t)body->size, 0);
+    text[body->size] = 0;
 }
 
 /* The kernel names an inode, the library wants one of its names: the one by which it was found last. If that has gone

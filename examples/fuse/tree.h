@@ -27,6 +27,10 @@ int tree_rename(uint64_t old_parent, const char *old_name, uint64_t parent, cons
 /* `body` is then the one that got the name. */
 int tree_link(uint64_t number, uint64_t parent, const char *name, struct body **body);
 
+/* A link's text: from the library if the name under which it was found last leads to it, else the body's copy. The room
+ * takes the longest path, and a zero byte behind it. */
+void tree_readlink(struct body *body, char *text);
+
 /* All names of a directory at one moment, each with a zero byte behind it, for the caller to free. */
 int tree_list(uint64_t directory, char **names, size_t *size);
 

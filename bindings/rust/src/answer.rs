@@ -30,6 +30,25 @@ impl Kind {
     }
 }
 
+/// How the look-ups of a pass were answered ([`Pass::looks`](crate::Pass::looks)).
+///
+/// ```
+/// # use gigbewu::{Cache, Follow, Looks, ROOT};
+/// # let mut pass = Cache::new(64, 100)?.pass()?;
+/// pass.mkdir(ROOT, "/a")?;
+/// pass.look(ROOT, "/a", Follow::Yes)?; // fills a row
+/// pass.look(ROOT, "/a", Follow::Yes)?;
+/// assert_eq!(pass.looks(), Looks { by_rows: 1, under_lock: 1 });
+/// # Ok::<(), gigbewu::Error>(())
+/// ```
+#[derive(Clone, Copy, Debug, Default, PartialEq, Eq, Hash)]
+pub struct Looks {
+    /// By the rows alone.
+    pub by_rows: u64,
+    /// Under the lock.
+    pub under_lock: u64,
+}
+
 /// What a path leads to.
 ///
 /// ```

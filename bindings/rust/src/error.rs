@@ -133,7 +133,7 @@ impl fmt::Display for Error {
             Error::Spent => write!(f, "no more changes can be made"),
             Error::BadSize => write!(
                 f,
-                "buckets are a power of two up to 1,048,576, inodes 1 to 1,048,576"
+                "buckets are a power of two up to 4,194,304, inodes 1 to 4,294,967,296"
             ),
             Error::NotYet(clock) => write!(f, "only {clock} changes were made"),
             Error::Other(answer) => write!(f, "answer {answer}"),

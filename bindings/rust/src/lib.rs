@@ -92,7 +92,7 @@ mod path;
 mod raw;
 mod spares;
 
-pub use answer::{Done, Found, Gone, Kind, Made, Stat};
+pub use answer::{Done, Found, Gone, Kind, Looks, Made, Stat};
 pub use cache::Cache;
 pub use changes::Replace;
 pub use error::{Error, Why};

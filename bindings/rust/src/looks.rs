@@ -60,10 +60,13 @@ impl Pass {
         follow: Follow,
     ) -> Result<Found, Error> {
         let path = path.as_path_bytes();
-        self.ask_once(|pass, found| unsafe {
+        let answered = self.ask_once(|pass, found| unsafe {
             raw::gb_look_fast(pass, base, text(path), path.len(), follow as u32, found)
-        })
-        .map(Found::of)
+        });
+        if !matches!(answered, Err(Error::Again(_))) {
+            self.looks.by_rows += 1;
+        }
+        answered.map(Found::of)
     }
 
     /// Looks a path up: by the rows, or if these don't answer under the lock, which fills them.
@@ -87,6 +90,7 @@ impl Pass {
             Err(Error::Again(_)) => {}
             answered => return answered,
         }
+        self.looks.under_lock += 1;
         self.ask(|pass, found| unsafe {
             raw::gb_try_look(pass, base, text(path), path.len(), follow as u32, found)
         })
@@ -158,7 +162,8 @@ impl Pass {
         Ok(OsString::from_vec(read).into())
     }
 
-    /// The names in a directory at one moment, in no promised order, without dot and dot-dot, as bytes.
+    /// The names in a directory at one moment, in no promised order, without dot and dot-dot, as bytes. All others wait
+    /// until every name is read: with ten million names for seconds.
     ///
     /// ```
     /// # use gigbewu::{Cache, ROOT};

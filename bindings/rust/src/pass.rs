@@ -1,6 +1,6 @@
 //! A thread's way into a cache: how it begins, what it learns, and how it ends.
 
-use crate::answer::{Done, Made};
+use crate::answer::{Done, Looks, Made};
 use crate::error::Error;
 use crate::gate::Gate;
 use crate::raw;
@@ -74,6 +74,7 @@ impl Shared {
 /// ```
 pub struct Pass {
     raw: raw::Pass,
+    pub(crate) looks: Looks,
     shared: Arc<Shared>,
 }
 
@@ -97,6 +98,7 @@ impl Pass {
     fn blank(shared: &Arc<Shared>) -> Pass {
         Pass {
             raw: raw::Pass::blank(),
+            looks: Looks::default(),
             shared: shared.clone(),
         }
     }
@@ -254,6 +256,13 @@ impl Pass {
         // SAFETY: the pass is open and borrowed alone, and the number is this function's.
         let answer = unsafe { raw::gb_counts(&mut self.raw, &mut evictions) };
         done(answer, raw::Found::default()).map(|_| evictions)
+    }
+
+    /// How many calls of [`look`](Pass::look) and [`look_fast`](Pass::look_fast) of this pass the rows answered, and how
+    /// many the tree, under the lock. A pass counts for itself, from 0: so threads share no number for it, and their sum is
+    /// yours to make. If many are answered under the lock, look at the [evictions](Pass::evictions).
+    pub fn looks(&self) -> Looks {
+        self.looks
     }
 }
 

@@ -1,6 +1,6 @@
 //! Each call once, refusals as errors, and what may stand for a path.
 
-use gigbewu::{Cache, Error, Follow, Gone, Kind, Replace, Why, ROOT};
+use gigbewu::{Cache, Error, Follow, Gone, Kind, Looks, Pass, Replace, Why, ROOT};
 use std::borrow::Cow;
 use std::ffi::{OsStr, OsString};
 use std::io;
@@ -108,6 +108,9 @@ fn what_stands_for_a_path() -> Result<(), Error> {
 fn refusals() -> Result<(), Error> {
     assert_eq!(Cache::new(3, 1).err(), Some(Error::BadSize));
     assert_eq!(Cache::new(1, 0).err(), Some(Error::BadSize));
+    assert_eq!(Cache::new(1 << 23, 1).err(), Some(Error::BadSize));
+    assert_eq!(Cache::new(1, (1 << 32) + 1).err(), Some(Error::BadSize));
+    assert!(Cache::new(1, 1 << 32).is_ok());
     let mut pass = Cache::new(1, 1)?.pass()?;
     let refused = pass.create(ROOT, "/f").unwrap_err();
     assert_eq!(refused, Error::Refused { errno: 28, at: 0 });
@@ -118,6 +121,31 @@ fn refusals() -> Result<(), Error> {
     assert_eq!(refusal(&[b'n'; 256]), Some(36));
     let miss = Err(Error::Again(Why::Miss));
     assert_eq!(pass.look_fast(ROOT, [b'n'; 255], Follow::Yes), miss);
+    Ok(())
+}
+
+#[test]
+fn looks() -> Result<(), Error> {
+    let cache = Cache::new(64, 100)?;
+    let mut pass = cache.pass()?;
+    let told = |pass: &Pass, by_rows, under_lock| {
+        let looks = Looks {
+            by_rows,
+            under_lock,
+        };
+        assert_eq!(pass.looks(), looks);
+    };
+    told(&pass, 0, 0);
+    assert!(pass.look_fast(ROOT, "/a", Follow::Yes).is_err()); // answers nothing
+    told(&pass, 0, 0);
+    assert!(pass.look(ROOT, "/a", Follow::Yes).is_err()); // is refused, and fills a row
+    told(&pass, 0, 1);
+    assert!(pass.look(ROOT, "/a", Follow::Yes).is_err());
+    assert!(pass.look_fast(ROOT, "/a", Follow::Yes).is_err());
+    told(&pass, 2, 1);
+    pass.stat(ROOT, "/")?; // no look-up
+    told(&pass, 2, 1);
+    told(&pass.split()?, 0, 0);
     Ok(())
 }
 

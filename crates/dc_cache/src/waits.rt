@@ -175,8 +175,9 @@ impl Cache<Sleepers> {
         self.tell(rt, alloc, pass, &Call::Readlink { base, path })
     }
 
-    /// The names in the directory that a path leads to, by their bytes. It waits for the lock.
-    /// `NoMemory` if memory for the names was refused; a refusal takes none.
+    /// The names in the directory that a path leads to, by their bytes. It waits for the lock, and all others
+    /// then wait until every name is read: with ten million names for seconds. `NoMemory` if memory for the
+    /// names was refused; a refusal takes none.
     pub fn list<R: Wait>(
         &self,
         rt: &R,

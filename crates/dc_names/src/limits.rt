@@ -12,9 +12,12 @@ pub const MOST_LINKS: u64 = 40;
 /// The most names that a file or a link has (POSIX.1-2017: LINK_MAX, 8 at least), as in ext4.
 pub const MOST_NAMES: u64 = 65_000;
 
-/// The most inodes that may be allowed to live in a tree at a time, the root among them. This project's
-/// own.
+/// The most inodes that may be allowed to live in a tree at a time by `new`, by the server and by the
+/// checker, the root among them. This project's own.
 pub const MOST_INODES: u64 = 1_048_576;
+
+/// The most inodes of any table, the root among them. This project's own.
+pub const MOST_TABLE_INODES: u64 = 1 << 32;
 
 /// Every inode has a number below this one, and no number is used again. This project's own: no run of
 /// calls comes to it.
@@ -29,9 +32,9 @@ pub const BUCKET_ROWS: u64 = 4;
 /// The most rows of these.
 pub const MOST_ROWS: u64 = BUCKET_ROWS * MOST_BUCKETS;
 
-/// The most buckets of any table, of which the number is a power of two. This project's own: a table of so
-/// many takes 1.6 gigabytes.
-pub const MOST_TABLE_BUCKETS: u64 = 1 << 20;
+/// The most buckets of any table, of which the number is a power of two. This project's own: a table of
+/// this many takes 6.4 gigabytes.
+pub const MOST_TABLE_BUCKETS: u64 = 1 << 22;
 
 /// The most rows of any table.
 pub const MOST_TABLE_ROWS: u64 = BUCKET_ROWS * MOST_TABLE_BUCKETS;

@@ -22,8 +22,9 @@ pub fn are_right(buckets: u64, max_inodes: u64) -> bool
 /// Why no cache was made.
 #[derive(Clone, Copy, Debug, PartialEq, Eq)]
 pub enum MakeFault {
-    /// A number of buckets that is no power of two from 1 to `MOST_BUCKETS`, or a limit of inodes that
-    /// isn't from 1 to `MOST_INODES`.
+    /// A number of buckets that is no power of two, or it or the limit of inodes is 0 or too large: above
+    /// `MOST_BUCKETS` or `MOST_INODES`, or, for a table of any size, `MOST_TABLE_BUCKETS` or
+    /// `MOST_TABLE_INODES`.
     BadSize,
     /// Memory was refused.
     NoMemory,

@@ -62,9 +62,9 @@ impl Shared {
         Shared::with_names(alloc, buckets, max_inodes, u64::MAX)
     }
 
-    /// A table as `new` makes it, with as many buckets as the work wants: any power of two from 1 to
-    /// 1,048,576. A change that would make more than `max_names` names, in all directories together, finds
-    /// no memory.
+    /// A table as `new` makes it, with as many buckets as the work wants, any power of two from 1 to
+    /// 4,194,304, and as many inodes, from 1 to 4,294,967,296. A change that would make more than
+    /// `max_names` names, in all directories together, finds no memory.
     pub fn with_names(
         alloc: Global,
         buckets: u64,

@@ -6,6 +6,7 @@ mod lock;
 ghost use Rattle.dc_table.specs.Passes.{Fits, IsIdle};
 
 use crate::calls::look;
+use dc_names::fit_a_table;
 use dc_store::Store;
 use dc_table::{MakeFault, Nobody, Pass, Shared, Sleepers};
 use std::alloc::Global;
@@ -38,12 +39,13 @@ fn a_table_has_its_sizes(rt: HostRuntime) {
 static BAD_BUCKETS: [(u64, u64); 5] = [
     (0, 16),
     (3072, 16),
-    (1 << 21, 16),
+    (1 << 23, 16),
     (2048, 0),
-    (2048, 1_048_577),
+    (2048, 4_294_967_297),
 ];
 
-static BUCKETS: [u64; 3] = [1, 2048, 65_536];
+/// Buckets and inodes of which it makes one. More buckets would take gigabytes.
+static BUCKETS: [(u64, u64); 3] = [(1, 4_294_967_296), (2048, 1_048_577), (65_536, 16)];
 
 /// How many buckets a table has that is made of this many.
 fn buckets_of(alloc: Global, buckets: u64, max_inodes: u64) -> Result<u64, MakeFault> {
@@ -57,9 +59,10 @@ fn a_table_is_as_large_as_the_work(rt: HostRuntime) {
         let made = buckets_of(rt.alloc(), *buckets, *max_inodes);
         assert!(rt; made == Err(MakeFault::BadSize));
     }
-    for buckets in BUCKETS.iter() {
-        assert!(rt; buckets_of(rt.alloc(), *buckets, 16) == Ok(*buckets));
+    for (buckets, max_inodes) in BUCKETS.iter() {
+        assert!(rt; buckets_of(rt.alloc(), *buckets, *max_inodes) == Ok(*buckets));
     }
+    assert!(rt; fit_a_table(4_194_304, 4_294_967_296));
 }
 
 /// Whether another pass has the lock. It is given back if it is got.

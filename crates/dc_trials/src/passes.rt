@@ -40,12 +40,13 @@ fn a_cache_has_its_sizes(rt: HostRuntime) {
 static BAD_BUCKETS: [(u64, u64); 5] = [
     (0, 16),
     (3 * 1024, 16),
-    (1 << 21, 16),
+    (1 << 23, 16),
     (2048, 0),
-    (2048, 1_048_577),
+    (2048, 4_294_967_297),
 ];
 
-static BUCKETS: [u64; 3] = [1, 2048, 65_536];
+/// Buckets and inodes of which it makes one. More buckets would take gigabytes.
+static BUCKETS: [(u64, u64); 3] = [(1, 4_294_967_296), (2048, 1_048_577), (65_536, 16)];
 
 /// A directory that is made, and whose row is filled by a look-up.
 static MADE_AND_FOUND: [Step<'static>; 3] = [
@@ -54,9 +55,14 @@ static MADE_AND_FOUND: [Step<'static>; 3] = [
     Step::Fast(b"/a", Want::Found(2, Kind::Dir), 1),
 ];
 
-/// Plays the steps over a new cache with this many buckets.
-fn play_with_buckets<R: Wait>(rt: &R, alloc: Global, buckets: u64) -> Result<(), Fail> {
-    let (cache, mut pass) = Dcache::with_buckets(alloc, buckets, 16)?;
+/// Plays the steps over a new cache with this many buckets and inodes.
+fn play_with_buckets<R: Wait>(
+    rt: &R,
+    alloc: Global,
+    buckets: u64,
+    max_inodes: u64,
+) -> Result<(), Fail> {
+    let (cache, mut pass) = Dcache::with_buckets(alloc, buckets, max_inodes)?;
     play(rt, alloc, &cache, &mut pass, &MADE_AND_FOUND)
 }
 
@@ -71,8 +77,8 @@ fn a_cache_has_as_many_buckets_as_the_work_wants(rt: HostRuntime) -> Result<(), 
     for (buckets, max_inodes) in BAD_BUCKETS.iter() {
         assert!(rt; are_refused(rt.alloc(), *buckets, *max_inodes));
     }
-    for buckets in BUCKETS.iter() {
-        play_with_buckets(&rt, rt.alloc(), *buckets)?;
+    for (buckets, max_inodes) in BUCKETS.iter() {
+        play_with_buckets(&rt, rt.alloc(), *buckets, *max_inodes)?;
     }
     Ok(())
 }

@@ -83,7 +83,7 @@ const SHAPE: [Choice; 4] = [
     Choice(
         "buckets",
         Given::Value("N", "1024", ValueParser::Unsigned(1, MOST_TABLE_BUCKETS)),
-        "Buckets of four rows: a power of two up to 1048576",
+        "Buckets of four rows: a power of two up to 4194304",
     ),
 ];
 
