@@ -1,11 +1,12 @@
 /* Times one kind of call of the library for C, on one thread, in the thread's own time of the processor, and prints the
- * median over turns of 512 calls, in nanoseconds.
+ * median over turns of 512 calls, in nanoseconds, and how many calls there were.
  *
- * usage: turns look|miss|rename|churn DEPTH MILLISECONDS
+ * usage: turns look|miss|rename|churn|hold DEPTH MILLISECONDS
  *
  * Paths have DEPTH names. `look` looks 1,000 files up in a random order by gb_look_fast. `miss` looks up names that are
  * nowhere and that no row tells of, by gb_look_fast and then gb_try_look. `rename` renames a file to and fro, with rows
- * for both of its names. `churn` makes, renames and unlinks files, with a look-up of a file after each.
+ * for both of its names. `churn` makes, renames and unlinks files, with a look-up of a file after each. `hold` gets the
+ * lock and gives it back, by a gb_try_shrink of no row.
  */
 #include <gigbewu.h>
 #include <stdio.h>
@@ -93,9 +94,17 @@ static void churn(void)
     look(&files[draw() % FILES]);
 }
 
+static void hold(void)
+{
+    uint64_t emptied;
+    must(gb_try_shrink(&pass, 0, &emptied) == 0 && emptied == 0, "gb_try_shrink");
+}
+
 static void call(const char *work, const char *folder)
 {
-    if (work[0] == 'l')
+    if (work[0] == 'h')
+        hold();
+    else if (work[0] == 'l')
         look(&files[draw() % FILES]);
     else if (work[0] == 'm')
         miss(folder);
@@ -113,7 +122,7 @@ static int by_size(const void *a, const void *b)
 
 int main(int count, char **words)
 {
-    must(count == 4 && strchr("lmrc", words[1][0]), "its usage");
+    must(count == 4 && strchr("lmrch", words[1][0]), "its usage");
     char folder[ROOM] = "";
     must(gb_cache_new(BUCKETS, INODES, &pass) == 0, "gb_cache_new");
     for (int names = atoi(words[2]); names > 1; names--) {
@@ -142,6 +151,6 @@ int main(int count, char **words)
         turns[done++] = (double)(now() - begin) / CALLS;
     }
     qsort(turns, (size_t)done, sizeof *turns, by_size);
-    printf("%.1f\n", turns[done / 2]);
+    printf("%.1f %d\n", turns[done / 2], done * CALLS);
     return 0;
 }

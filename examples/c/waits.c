@@ -1,12 +1,13 @@
 /* How long callers wait beside threads that hold the lock for long.
  *
- * usage: waits [NAMES [SECONDS]]
+ * usage: waits [NAMES [SECONDS [tickets]]]
  *
  * One, two and three threads list a directory of NAMES names (20,000 unless given) in a loop, which holds the lock for
  * some milliseconds a time. Beside them one thread makes changes, and another looks up names that no row has. Prints the
  * median and the longest wait of both, each for SECONDS (5 unless given), and how many lists ended within one wait at
- * most: as the header hands the lock to a thread that was passed over, and as it would be without that. It ends with 1
- * if with tickets more than MOST_LISTS ended within one wait.
+ * most: as the header hands the lock to a thread that was passed over, and unless the third word is `tickets` as it
+ * would be without that. It ends with 1 if with tickets more than MOST_LISTS ended within one wait. Built with -DUNFAIR
+ * no ticket is ever taken, so that it fails.
  */
 #define _GNU_SOURCE
 #include <gigbewu.h>
@@ -19,6 +20,12 @@
 #include <unistd.h>
 
 enum { HOGS = 3, BUCKETS = 256, INODES = 1048576, NAMES = 20000, SECONDS = 5, MOST = 1000000, REST = 200, MOST_LISTS = 12 };
+
+#ifdef UNFAIR
+#define CLOCK NULL
+#else
+#define CLOCK gb_milliseconds
+#endif
 
 struct caller {
     pthread_t thread;
@@ -169,6 +176,7 @@ int main(int count, char **words)
 {
     long names = count > 1 ? atol(words[1]) : NAMES;
     unsigned seconds = count > 2 ? (unsigned)atoi(words[2]) : SECONDS;
+    int is_with_tickets_alone = count > 3 && strcmp(words[3], "tickets") == 0;
     struct gb_found found;
     char path[32];
     gate = gb_gate_new();
@@ -178,11 +186,12 @@ int main(int count, char **words)
     printf("milliseconds waited, median and longest, and lists at most, beside threads that list %ld names:\n", names);
     long passed = 0;
     for (int hogs = 1; hogs <= HOGS; hogs++) {
-        gate.now = gb_milliseconds;
+        gate.now = CLOCK;
         long now_passed = measure(hogs, seconds);
         passed = now_passed > passed ? now_passed : passed;
         gate.now = NULL;
-        measure(hogs, seconds);
+        if (!is_with_tickets_alone)
+            measure(hogs, seconds);
     }
     return gb_close(&pass) != 0 || passed > MOST_LISTS;
 }

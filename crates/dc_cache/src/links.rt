@@ -1,4 +1,4 @@
-//! What the rows tell of a `readlink`.
+//! Readlinks by the rows alone: which would be refused, and which meet a link.
 
 ghost use Rattle.std.specs.Prelude.{◌≡◌, ◌≤◌, ◌+◌, ℕ, List};
 ghost use Rattle.dc_cache.specs.Links.{ReadsFast, TellsOf};

@@ -37,6 +37,7 @@ impl State {
         ensures { AnsweredAs (state_of self.now) (event_by actor Take) result }
     {
         refuse(actor >= self.actors.len() as u64, Refused::Actor)?;
+        // Word 1 is the lock: 0 while it is free.
         refuse(self.words[1] != 0, Refused::Held)
     }
 

@@ -1,4 +1,4 @@
-//! How a call of a program in C ends.
+//! The numbers by which a call tells a program in C how it ended.
 
 ghost use Rattle.std.specs.Prelude.{◌≡◌};
 ghost use Rattle.dc_hold.specs.Numbers.{status_number, status_of_fault, status_of_learn, status_of_make};

@@ -1,4 +1,4 @@
-//! Why a change isn't made.
+//! The two faults of a change that the tree itself wouldn't refuse.
 
 ghost use Rattle.dc_rows.specs.declared.fault.ChangeFault.TheVariants.{NoMemory as WantOfMemory};
 ghost use Rattle.std.specs.Prelude.{◌≡◌};

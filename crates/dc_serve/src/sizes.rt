@@ -1,4 +1,4 @@
-//! What a server is started with.
+//! Buckets, inodes, and whether to count: the options of a server, and their limits.
 
 ghost use Rattle.std.specs.Prelude.{◌≡◌};
 ghost use Rattle.dc_names.specs.Sizes.{are_right};

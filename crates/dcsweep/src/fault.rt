@@ -1,4 +1,4 @@
-//! Why a trial isn't made.
+//! The faults of a trial that comes to no call.
 
 use dc_check::RecordFault;
 use dc_lang::InputFault;

@@ -1,4 +1,4 @@
-//! What came of a trial.
+//! The four ends of a trial, and the words for them.
 
 use std::fmt;
 
