@@ -5,9 +5,10 @@ usage: bench/gate.py [--every SECONDS] [COMMAND ..]
 
 The command is `.ci/run` unless another one is given, as `RT_JOBS=1 rt ci --anew`, whose first words may set the environment.
 Once a second, or as often as is said, the processor time of each process below it is read; a process that began and ended
-between two readings is missed. Behind what the command prints stands a table: for each crate the minutes of its proofs,
-of its tests (which are proved too), of the proof that its must-fail edits begin with, and of the edits; `the rest` is what
-compiles, links and runs programs and tests, and examples/check. Ends as the command does.
+between two readings is missed. Behind what the command prints stands a table: for each crate the minutes of its proof, of
+its tests (which are proved and compiled by one process), of `first`, the second proof of a crate with must-fail edits that
+these begin with, and of the edits. `the rest` compiles and links programs, runs them and the tests, and is examples/check.
+rattle-kit-13b tells `first` from the edits by no name, so it counts among them. Ends as the command does.
 """
 
 import os
@@ -23,26 +24,33 @@ TICKS = os.sysconf("SC_CLK_TCK")
 CRATE = re.compile(r"--crate-name (\w+)")
 
 
-def part_of(words):
-    """The crate and the part that a process works for, by its words."""
+def part_of(words, folder):
+    """The crate and the part that a process works for, by its words and the folder that it runs in."""
     found = CRATE.search(words)
     if not found or "rattle" not in words.split(" ", 1)[0]:
         return None
-    if "/rt-edits-" in words:
+    if "/rt-edit" in f"{folder} {words}":
         part = "first" if re.search(r"/rt-edits-[^ ]*/seed( |$)", words) else "edits"
+    elif " --crate-checked" in words:
+        part = "the rest"
     else:
         part = "tests" if " --test" in words else "proofs"
     return found[1], part
 
 
 def read(process):
-    """A process's parent, beginning, ticks of processor and words, unless it has ended."""
+    """A process's parent, beginning, ticks of processor, words and folder, unless it has ended."""
     try:
         stat = (process / "stat").read_text().rpartition(")")[2].split()
         words = (process / "cmdline").read_bytes().replace(b"\0", b" ").decode(errors="replace")
     except OSError:
         return None
-    return int(stat[1]), stat[19], int(stat[11]) + int(stat[12]), words.strip()
+    try:
+        folder = os.readlink(process / "cwd")
+    except OSError:
+        # It has ended and isn't waited for yet, or it is another user's.
+        folder = ""
+    return int(stat[1]), stat[19], int(stat[11]) + int(stat[12]), words.strip(), folder
 
 
 class Samples:
@@ -54,10 +62,10 @@ class Samples:
     def take(self):
         running = {int(it.name): read(it) for it in pathlib.Path("/proc").iterdir() if it.name.isdigit()}
         running = {number: it for number, it in running.items() if it}
-        for number, (_, begun, ticks, words) in running.items():
+        for number, (_, begun, ticks, _, _) in running.items():
             above, part = number, None
             while above in running and above != self.top:
-                part = part or part_of(running[above][3])
+                part = part or part_of(*running[above][3:])
                 above = running[above][0]
             if above == self.top:
                 # A process that has ended and isn't waited for yet has no words any more.
