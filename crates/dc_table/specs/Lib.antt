@@ -9,6 +9,7 @@ pub mod Rows
 pub mod Kept
 pub mod Plays
 pub mod Passes
+pub mod Turns
 pub mod Holders
 pub mod Ends
 pub mod Changes

@@ -13,6 +13,7 @@
 
 ghost use Rattle.std.specs.Prelude.{◌≡◌};
 ghost use Rattle.dc_sleepers.specs.Locks.{idle, moved};
+ghost use Rattle.dc_table.specs.Turns.{standing};
 
 pub mod waits;
 pub mod wakes;
@@ -22,23 +23,54 @@ use dc_sleepers::lock::{Place, Thread};
 /// Where a thread stands at the lock, between two of its steps. It isn't `Drop`: it ends by `Waits::hold` or
 /// `Wakes::rest`. So no thread stops halfway.
 pub struct Turn {
-    thread: Thread,
+    place: Place,
+    /// How often it has slept, or was about to, since it came for the lock.
+    sleeps: u64,
+    /// The rest is what the machine's thread has under these names.
+    has_ticket: bool,
+    ticket: u64,
+    limit: u64,
+    seen: u64,
 }
 
 impl Turn {
     /// The turn of a thread that stands here, and has read nothing yet.
     fn at(place: Place) -> Turn
-        ensures { result.thread ≡ moved idle place }
+        ensures { standing result ≡ moved idle place }
     {
         Turn {
-            thread: Thread {
-                place,
-                has_slept: false,
-                has_ticket: false,
-                ticket: 0,
-                limit: 0,
-                seen: 0,
-            },
+            place,
+            sleeps: 0,
+            has_ticket: false,
+            ticket: 0,
+            limit: 0,
+            seen: 0,
         }
+    }
+
+    /// The machine's thread.
+    fn thread(&self) -> Thread
+        ensures { result ≡ standing self.now }
+    {
+        Thread {
+            place: self.place,
+            has_slept: self.sleeps > 0,
+            has_ticket: self.has_ticket,
+            ticket: self.ticket,
+            limit: self.limit,
+            seen: self.seen,
+        }
+    }
+
+    /// Ends it.
+    fn end(self) {
+        let Turn {
+            place: _,
+            sleeps: _,
+            has_ticket: _,
+            ticket: _,
+            limit: _,
+            seen: _,
+        } = self;
     }
 }

@@ -66,30 +66,28 @@ impl Late {
 }
 
 impl Shared {
-    /// Whether a pass that has slept so often may try the lock. If nobody waits, one load tells.
-    pub(crate) fn may_try<W: Waits>(&self, turn: &Turn, sleeps: u64) -> bool {
-        self.waiting.load(Relaxed) == 0 || !self.late.keeps_off(&W::stands(turn), sleeps)
+    /// Whether a pass may try the lock. If nobody waits, one load tells.
+    pub(crate) fn may_try<W: Waits>(&self, turn: &Turn) -> bool {
+        self.waiting.load(Relaxed) == 0 || !self.late.keeps_off(&W::stands(turn), W::sleeps(turn))
     }
 
-    /// Waits for a while, or until the lock is seen free. Answers how often the pass has slept then.
-    pub(crate) fn wait<W: Waits, R: Wait>(&self, rt: &R, turn: &mut Turn, sleeps: u64) -> u64
+    /// Waits for a while, or until the lock is seen free.
+    pub(crate) fn wait<W: Waits, R: Wait>(&self, rt: &R, turn: &mut Turn)
         requires { (W.thread turn.old).place ≡ Trying }
         ensures { (W.thread turn.new).place ≡ Trying }
     {
         // It looks half as often after each sleep.
-        if self.may_try::<W>(turn, sleeps)
-            && self.comes_free(MOST_LOOKS >> sleeps.min(MOST_LOOKS))
-        {
-            return sleeps;
+        let looks = MOST_LOOKS >> W::sleeps(turn).min(MOST_LOOKS);
+        if self.may_try::<W>(turn) && self.comes_free(looks) {
+            return;
         }
-        self.grow_late::<W>(turn, sleeps);
+        self.grow_late::<W>(turn);
         // A giver that sees no sleeper, once the lock is free, wakes nobody. It sees each that counted itself
         // before; one that does so later finds the lock free, and doesn't sleep.
         W::count_in(self, turn);
         self.sleeps.fetch_add(1, Relaxed);
-        self.sleep::<W, R>(rt, turn, sleeps);
+        self.sleep::<W, R>(rt, turn);
         W::count_out(self, turn);
-        sleeps.saturating_add(1)
     }
 
     /// Watches the lock for a while, and answers whether it was seen free. A holder needs it for far less
@@ -108,24 +106,24 @@ impl Shared {
 
     /// Draws a ticket if the pass has slept often enough. It counts as waiting until it has the lock, so that
     /// others look for it.
-    fn grow_late<W: Waits>(&self, turn: &mut Turn, sleeps: u64)
+    fn grow_late<W: Waits>(&self, turn: &mut Turn)
         requires { (W.thread turn.old).place ≡ Trying }
         ensures { (W.thread turn.new).place ≡ Trying }
     {
         let one = W::stands(turn);
-        if sleeps >= PATIENCE && one.has_slept && !one.has_ticket {
+        if W::sleeps(turn) >= PATIENCE && one.has_slept && !one.has_ticket {
             W::count_late(self, turn);
             W::draw(self, turn);
         }
     }
 
     /// Sleeps while the lock is held, or until the next late pass has it.
-    fn sleep<W: Waits, R: Wait>(&self, rt: &R, turn: &mut Turn, sleeps: u64)
+    fn sleep<W: Waits, R: Wait>(&self, rt: &R, turn: &mut Turn)
         requires { (W.thread turn.old).place ≡ Counted }
         ensures { (W.thread turn.new).place ≡ Awake }
     {
         let limit = W::read_drawn(self, turn);
-        if sleeps >= MOST_SLEEPS && W::stands(turn).has_slept {
+        if W::sleeps(turn) >= MOST_SLEEPS && W::stands(turn).has_slept {
             W::insist(turn);
             W::park(self, rt, turn);
         } else if W::read_served(self, turn) < limit {

@@ -55,16 +55,15 @@ impl Shared {
         ensures came { W.came pass.new }
     {
         let mut turn = W::come(pass);
-        let mut sleeps = 0;
         for _ in rt.forever() {
-            if self.may_try::<W>(&turn, sleeps) {
+            if self.may_try::<W>(&turn) {
                 if let Some(guarded) = W::try_take(self, pass, &mut turn) {
                     self.leave::<W>(&mut turn);
                     W::hold(turn, pass);
                     return guarded;
                 }
             }
-            sleeps = self.wait::<W, R>(rt, &mut turn, sleeps);
+            self.wait::<W, R>(rt, &mut turn);
         }
         // The loop above ends by its return alone.
         unreachable!()

@@ -33,6 +33,9 @@ pub trait Waits {
     fn stands(turn: &Turn) -> Thread
         ensures is { result ≡ thread turn.now };
 
+    /// How often it has slept since it came.
+    fn sleeps(turn: &Turn) -> u64;
+
     fn come(pass: &Pass) -> Turn
         requires out { IsIdle pass.now }
         ensures comes { thread result ≡ next 0 idle Come };
@@ -112,13 +115,18 @@ pub trait Waits {
 
 impl Waits for Sleepers {
     ghost use Rattle.std.specs.Prelude.{⊤};
+    ghost use Rattle.dc_table.specs.Turns.{standing};
 
-    ghost thread = { λ turn. turn.thread };
+    ghost thread = { λ turn. standing turn };
 
     ghost came = { λ _. ⊤ };
 
     fn stands(turn: &Turn) -> Thread {
-        turn.thread
+        turn.thread()
+    }
+
+    fn sleeps(turn: &Turn) -> u64 {
+        turn.sleeps
     }
 
     fn come(_pass: &Pass) -> Turn {
@@ -127,7 +135,7 @@ impl Waits for Sleepers {
 
     fn try_take(shared: &Shared, pass: &mut Pass, turn: &mut Turn) -> Option<Box<Guarded>> {
         let guarded = shared.try_take(pass)?;
-        turn.thread.place = if turn.thread.has_ticket {
+        turn.place = if turn.has_ticket {
             Place::Got
         } else {
             Place::Holding
@@ -137,46 +145,46 @@ impl Waits for Sleepers {
 
     fn count_late(shared: &Shared, turn: &mut Turn) {
         shared.waiting.fetch_add(1, SeqCst);
-        turn.thread.place = Place::Drawing;
+        turn.place = Place::Drawing;
     }
 
     fn draw(shared: &Shared, turn: &mut Turn) -> u64 {
         let ticket = shared.late.drawn.fetch_add(1, SeqCst);
-        turn.thread.place = Place::Trying;
-        turn.thread.has_ticket = true;
-        turn.thread.ticket = ticket;
+        turn.place = Place::Trying;
+        turn.has_ticket = true;
+        turn.ticket = ticket;
         ticket
     }
 
     fn count_in(shared: &Shared, turn: &mut Turn) {
         shared.waiting.fetch_add(1, SeqCst);
-        turn.thread.place = Place::Counted;
+        turn.place = Place::Counted;
     }
 
     fn read_drawn(shared: &Shared, turn: &mut Turn) -> u64 {
-        let limit = if turn.thread.has_ticket {
-            turn.thread.ticket
+        let limit = if turn.has_ticket {
+            turn.ticket
         } else {
             shared.late.drawn.load(SeqCst)
         };
-        turn.thread.place = Place::Choosing;
-        turn.thread.limit = limit;
+        turn.place = Place::Choosing;
+        turn.limit = limit;
         limit
     }
 
     fn read_served(shared: &Shared, turn: &mut Turn) -> u64 {
         let served = shared.late.served.load(SeqCst);
-        turn.thread.place = if served < turn.thread.limit {
+        turn.place = if served < turn.limit {
             Place::Yielding
         } else {
             Place::Parking
         };
-        turn.thread.seen = served;
+        turn.seen = served;
         served
     }
 
     fn insist(turn: &mut Turn) {
-        turn.thread.place = Place::Parking;
+        turn.place = Place::Parking;
     }
 
     fn park<R: Wait>(shared: &Shared, rt: &R, turn: &mut Turn) {
@@ -185,42 +193,42 @@ impl Waits for Sleepers {
             .table
             .shared
             .park_timeout(rt, LOCK, TAKEN as u32, nap);
-        turn.thread.place = Place::Awake;
+        turn.place = Place::Awake;
     }
 
     fn yield_turn<R: Wait>(shared: &Shared, rt: &R, turn: &mut Turn) {
         // What is compared is the word's low half.
-        let low = (turn.thread.seen % (1 << 32)) as u32;
+        let low = (turn.seen % (1 << 32)) as u32;
         shared
             .late
             .served
             .park_timeout(rt, low, Duration::from_millis(NAP));
-        turn.thread.place = Place::Awake;
+        turn.place = Place::Awake;
     }
 
     fn count_out(shared: &Shared, turn: &mut Turn) {
         shared.waiting.fetch_sub(1, SeqCst);
-        turn.thread.place = Place::Trying;
-        turn.thread.has_slept = true;
+        turn.place = Place::Trying;
+        turn.sleeps = turn.sleeps.saturating_add(1);
     }
 
     fn count_late_out(shared: &Shared, turn: &mut Turn) {
         shared.waiting.fetch_sub(1, SeqCst);
-        turn.thread.place = Place::Serving;
+        turn.place = Place::Serving;
     }
 
     fn serve(shared: &Shared, turn: &mut Turn) {
         shared.late.served.fetch_add(1, SeqCst);
-        turn.thread.place = Place::Served;
-        turn.thread.has_ticket = false;
+        turn.place = Place::Served;
+        turn.has_ticket = false;
     }
 
     fn wake_kept(shared: &Shared, turn: &mut Turn) {
         shared.late.served.wake_all();
-        turn.thread.place = Place::Holding;
+        turn.place = Place::Holding;
     }
 
     fn hold(turn: Turn, _pass: &Pass) {
-        let Turn { thread: _ } = turn;
+        turn.end();
     }
 }

@@ -104,8 +104,9 @@ pub(crate) fn wake<W: Wakes>(shared: &Shared, pass: &Pass)
 
 impl Wakes for Sleepers {
     ghost use Rattle.std.specs.Prelude.{⊤};
+    ghost use Rattle.dc_table.specs.Turns.{standing};
 
-    ghost thread = { λ turn. turn.thread };
+    ghost thread = { λ turn. standing turn };
 
     ghost woken = { λ _. ⊤ };
 
@@ -115,7 +116,7 @@ impl Wakes for Sleepers {
 
     fn read(shared: &Shared, turn: &mut Turn) -> u64 {
         let waiting = shared.waiting.load(SeqCst);
-        turn.thread.place = if waiting == 0 {
+        turn.place = if waiting == 0 {
             Place::Out
         } else {
             Place::Looking
@@ -125,14 +126,14 @@ impl Wakes for Sleepers {
 
     fn look_drawn(shared: &Shared, turn: &mut Turn) -> u64 {
         let drawn = shared.late.drawn.load(SeqCst);
-        turn.thread.place = Place::Looked;
-        turn.thread.limit = drawn;
+        turn.place = Place::Looked;
+        turn.limit = drawn;
         drawn
     }
 
     fn look_served(shared: &Shared, turn: &mut Turn) -> u64 {
         let served = shared.late.served.load(SeqCst);
-        turn.thread.place = if turn.thread.limit == served {
+        turn.place = if turn.limit == served {
             Place::WakingOne
         } else {
             Place::WakingAll
@@ -142,24 +143,25 @@ impl Wakes for Sleepers {
 
     fn wake_one(shared: &Shared, turn: &mut Turn) {
         shared.table.shared.wake_one(LOCK);
-        turn.thread.place = Place::Out;
+        turn.place = Place::Out;
     }
 
     fn wake_all(shared: &Shared, turn: &mut Turn) {
         shared.table.shared.wake_all(LOCK);
-        turn.thread.place = Place::Out;
+        turn.place = Place::Out;
     }
 
     fn rest(turn: Turn, _pass: &Pass) {
-        let Turn { thread: _ } = turn;
+        turn.end();
     }
 }
 
 /// Nobody waits, so it is out as soon as it has read that.
 impl Wakes for Nobody {
     ghost use Rattle.std.specs.Prelude.{⊤};
+    ghost use Rattle.dc_table.specs.Turns.{standing};
 
-    ghost thread = { λ turn. turn.thread };
+    ghost thread = { λ turn. standing turn };
 
     ghost woken = { λ _. ⊤ };
 
@@ -168,18 +170,18 @@ impl Wakes for Nobody {
     }
 
     fn read(_shared: &Shared, turn: &mut Turn) -> u64 {
-        turn.thread.place = Place::Out;
+        turn.place = Place::Out;
         0
     }
 
     fn look_drawn(_shared: &Shared, turn: &mut Turn) -> u64 {
-        turn.thread.place = Place::Looked;
-        turn.thread.limit = 0;
+        turn.place = Place::Looked;
+        turn.limit = 0;
         0
     }
 
     fn look_served(_shared: &Shared, turn: &mut Turn) -> u64 {
-        turn.thread.place = if turn.thread.limit == 0 {
+        turn.place = if turn.limit == 0 {
             Place::WakingOne
         } else {
             Place::WakingAll
@@ -188,14 +190,14 @@ impl Wakes for Nobody {
     }
 
     fn wake_one(_shared: &Shared, turn: &mut Turn) {
-        turn.thread.place = Place::Out;
+        turn.place = Place::Out;
     }
 
     fn wake_all(_shared: &Shared, turn: &mut Turn) {
-        turn.thread.place = Place::Out;
+        turn.place = Place::Out;
     }
 
     fn rest(turn: Turn, _pass: &Pass) {
-        let Turn { thread: _ } = turn;
+        turn.end();
     }
 }
