@@ -40,8 +40,9 @@ fn taken(store: &SlabStore, known: Option<Known<'_>>, call: &Call<'_>) -> Option
                 ..
             },
         } => {
-            let moved = leads_to(store, known, base, old)?;
+            // Most names that something is moved to are free: the one that it comes from isn't sought then.
             let over = leads_to(store, known, base, new)?;
+            let moved = leads_to(store, known, base, old)?;
             // A rename of a name onto another of the same inode does nothing, and no name goes.
             if moved.0 == over.0 { None } else { Some(over) }
         }
