@@ -50,11 +50,17 @@ impl Replay {
             replies: Vec::new(alloc),
         };
         for lane in lanes {
-            replay.lanes.push(lane.into_iter())?;
-            replay.stands.push(ROOT.0)?;
-            replay.replies.push(Vec::new(alloc))?;
+            replay.add_session(alloc, lane)?;
         }
         Ok(replay)
+    }
+
+    /// Adds a session with its calls.
+    fn add_session(&mut self, alloc: Global, lane: Vec<Timed>) -> Result<(), NoMemory> {
+        self.lanes.push(lane.into_iter())?;
+        self.stands.push(ROOT.0)?;
+        self.replies.push(Vec::new(alloc))?;
+        Ok(())
     }
 
     /// What the tree gives a call, and the point of it.
@@ -83,6 +89,20 @@ impl Replay {
         }
         Ok(())
     }
+
+    /// The replies of the sessions' calls, made in this order.
+    fn replies(&mut self, alloc: Global, order: &[usize]) -> Result<Vec<u8>, NoMemory> {
+        for session in order {
+            if let Some(timed) = self.lanes.get_mut(*session).and_then(|lane| lane.next()) {
+                self.make(alloc, *session, timed)?;
+            }
+        }
+        let mut replies = Vec::new(alloc);
+        for lines in &self.replies {
+            replies.extend_from_slice(lines)?;
+        }
+        Ok(replies)
+    }
 }
 
 /// The lines of the commands of sessions.
@@ -107,14 +127,6 @@ pub fn write_record(
 ) -> Result<(Vec<u8>, Vec<u8>), NoMemory> {
     let commands = commands_of(alloc, &lanes)?;
     let mut replay = Replay::new(alloc, rules, lanes)?;
-    for session in order {
-        if let Some(timed) = replay.lanes.get_mut(*session).and_then(|lane| lane.next()) {
-            replay.make(alloc, *session, timed)?;
-        }
-    }
-    let mut replies = Vec::new(alloc);
-    for lines in &replay.replies {
-        replies.extend_from_slice(lines)?;
-    }
+    let replies = replay.replies(alloc, order)?;
     Ok((commands, replies))
 }
