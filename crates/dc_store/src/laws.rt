@@ -24,5 +24,4 @@ pub fn pages_leave_no_gap()
     ensures no_gap { PagesLeaveNoGap }
     ensures goes_on { PagesGoOn }
     ensures rises { PagesRise }
-{
-}
+{}

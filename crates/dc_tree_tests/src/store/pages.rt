@@ -1,7 +1,7 @@
 //! Pages of a directory. The order is that of FNV-1a, worked out apart from the store: in directory 1 `d`,
 //! `e`, `a`, `b`, `c`, `gone`, in directory 2 `d`, `c`, `b`, `a`.
-use super::{Step, To, answers_again, named, new_slab};
-use dc_names::{Kind, NoMemory};
+use super::{Step, To, answers_again, new_slab};
+use dc_names::{Kind, Name, NoMemory};
 use dc_store::{Entry, SlabStore};
 use std::alloc::Global;
 use std::test::Fail;
@@ -21,51 +21,62 @@ static STANDING: [Step; 9] = [
     Step::Seen(3, FILE, None, 2),
 ];
 
+/// An entry as it should be told.
+type Wanted = (&'static [u8], u64, Kind);
+
+const D: Wanted = (b"d", 3, Kind::File);
+
+const A: Wanted = (b"a", 2, Kind::Dir);
+
+const B: Wanted = (b"b", 3, Kind::File);
+
+const C: Wanted = (b"c", 4, Kind::Link);
+
 /// A page: its directory, the name that it is behind, how many entries it has at most, and these.
-struct Row {
-    dir: u64,
-    after: &'static [u8],
-    most: usize,
-    want: &'static [(&'static [u8], u64, Kind)],
-}
+type Row = (u64, &'static [u8], usize, &'static [Wanted]);
 
 static ROWS: [Row; 12] = [
     // From the start, whole and cut.
-    Row { dir: 1, after: b"", most: 9, want: &[(b"d", 3, Kind::File), (b"a", 2, Kind::Dir), (b"b", 3, Kind::File), (b"c", 4, Kind::Link)] },
-    Row { dir: 1, after: b"", most: 1, want: &[(b"d", 3, Kind::File)] },
-    Row { dir: 1, after: b"", most: 4, want: &[(b"d", 3, Kind::File), (b"a", 2, Kind::Dir), (b"b", 3, Kind::File), (b"c", 4, Kind::Link)] },
+    (1, b"", 9, &[D, A, B, C]),
+    (1, b"", 1, &[D]),
+    (1, b"", 4, &[D, A, B, C]),
     // Behind a name that stands.
-    Row { dir: 1, after: b"d", most: 2, want: &[(b"a", 2, Kind::Dir), (b"b", 3, Kind::File)] },
-    Row { dir: 1, after: b"b", most: 2, want: &[(b"c", 4, Kind::Link)] },
+    (1, b"d", 2, &[A, B]),
+    (1, b"b", 2, &[C]),
     // Behind names that don't.
-    Row { dir: 1, after: b"e", most: 1, want: &[(b"a", 2, Kind::Dir)] },
-    Row { dir: 1, after: b"gone", most: 2, want: &[] },
+    (1, b"e", 1, &[A]),
+    (1, b"gone", 2, &[]),
     // Behind the last.
-    Row { dir: 1, after: b"c", most: 2, want: &[] },
+    (1, b"c", 2, &[]),
     // None at all.
-    Row { dir: 1, after: b"", most: 0, want: &[] },
+    (1, b"", 0, &[]),
     // In another directory the same names are told in another order.
-    Row { dir: 2, after: b"d", most: 3, want: &[(b"b", 7, Kind::File), (b"a", 6, Kind::File)] },
+    (2, b"d", 3, &[(b"b", 7, Kind::File), (b"a", 6, Kind::File)]),
     // Of a file, and where nothing lives.
-    Row { dir: 3, after: b"", most: 3, want: &[] },
-    Row { dir: 5, after: b"", most: 3, want: &[] },
+    (3, b"", 3, &[]),
+    (5, b"", 3, &[]),
 ];
 
 /// A page, asked for once more if memory is refused.
-fn page_again(store: &SlabStore, alloc: Global, row: &Row) -> Result<Vec<Entry>, NoMemory> {
-    let after = if row.after.is_empty() {
-        None
-    } else {
-        Some(named(row.after)?)
-    };
-    match store.page(alloc, row.dir, after, row.most) {
+fn page_again(
+    store: &SlabStore,
+    alloc: Global,
+    dir: u64,
+    after: &[u8],
+    most: usize,
+) -> Result<Vec<Entry>, NoMemory> {
+    let after = Name::new(after);
+    match store.page(alloc, dir, after, most) {
         Ok(page) => Ok(page),
-        Err(NoMemory) => store.page(alloc, row.dir, after, row.most),
+        Err(NoMemory) => store.page(alloc, dir, after, most),
     }
 }
 
-fn is_entry(entry: &Entry, want: &(&[u8], u64, Kind)) -> bool {
-    (entry.name.as_slice(), entry.number, entry.kind) == *want
+/// Whether these are the entries that were told.
+fn are_entries(page: &[Entry], want: &[Wanted]) -> bool {
+    let mut pairs = page.iter().zip(want);
+    page.len() == want.len()
+        && pairs.all(|(entry, want)| (entry.name.as_slice(), entry.number, entry.kind) == *want)
 }
 
 /// Fails with the place of the first row that is told otherwise.
@@ -76,10 +87,9 @@ fn tell_all(alloc: Global) -> Result<(), Fail> {
             return Err(Fail::from("a step"));
         }
     }
-    for (place, row) in ROWS.iter().enumerate() {
-        let page = page_again(&store, alloc, row)?;
-        let mut pairs = page.iter().zip(row.want);
-        if page.len() != row.want.len() || !pairs.all(|(entry, want)| is_entry(entry, want)) {
+    for (place, (dir, after, most, want)) in ROWS.iter().enumerate() {
+        let page = page_again(&store, alloc, *dir, after, *most)?;
+        if !are_entries(&page, want) {
             return Err(Fail::from(("row", place)));
         }
     }

@@ -11,8 +11,8 @@ returns-in_ok-page-in-Some c =
     let names = entries_told now c.args.dir c.in-Some.inode.now c.in-Some.ensures.value c.in_ok-page-in-Some.ensures.sorted in
     record {
       told = subst (λ (leads : List (List ℕ × ℕ)). IfOk c.with_kinds.result (λ page. page_told page ≡ map (told_in c.args.self.now) leads))
-      (c.in_ok-page-in-Some.ensures.told ∙ ap (λ (es : List (List ℕ × ℕ)). by_names (take c.args.most (behind c.args.dir (name_shown c.args.after) es))) names)
-      c.with_kinds.ensures;
+          (c.in_ok-page-in-Some.ensures.told ∙ ap (λ (es : List (List ℕ × ℕ)). by_names (take c.args.most (behind c.args.dir (name_shown c.args.after) es))) names)
+          c.with_kinds.ensures;
     }
 
 pub returns-in-None : goal.returns-in-None
