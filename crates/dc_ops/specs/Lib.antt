@@ -2,6 +2,7 @@
 pub mod Asked
 pub mod Keys
 pub mod Plans
+pub mod Pages
 pub mod Reads
 pub mod Renames
 pub mod Makes

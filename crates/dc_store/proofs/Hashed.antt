@@ -20,7 +20,7 @@ same_hashed d a b = elim (pointwise nat_eq a b) as (λ t. pointwise nat_eq a b �
   | false ↦ λ other. ap (λ t. nat_eq (hash_of d a) (hash_of d b) && t) other ∙ no_further (nat_eq (hash_of d a) (hash_of d b))
 ] refl
 
-tied_hashed : (d : ℕ) (a b : List ℕ) → eq_by_cmp name_cmp (hashed d a) (hashed d b) ≡ eq_by_cmp name_cmp a b
+pub tied_hashed : (d : ℕ) (a b : List ℕ) → eq_by_cmp name_cmp (hashed d a) (hashed d b) ≡ eq_by_cmp name_cmp a b
 tied_hashed d a b = sym (texts_ties (hashed d a) (hashed d b)) ∙ same_hashed d a b ∙ texts_ties a b
 
 -- a first key has its hash in front, and so do those behind it

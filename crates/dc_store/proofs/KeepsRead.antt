@@ -1,16 +1,17 @@
 -- What an inode says of the tree that the inodes stand for.
-use Rattle.std.proofs.Common.{◌≡◌, ℕ, ◌==◌, List, [], map, Bor, Option, Some, None, option_map, IfSome, IfNone, IsTrue, refl, ap, sym, ◌∙◌, subst, arith}
+use Rattle.std.proofs.Common.{◌≡◌, ℕ, zero, suc, ◌==◌, List, [], map, filter, take, Bor, Option, Some, None, option_map, IfSome, IfNone, IsTrue, refl, ap, sym, ◌∙◌, subst, arith}
 use Rattle.std.specs.FinMap.Entries.{is_sorted}
 use Rattle.std.specs.Option.{option_copied}
 use Rattle.dc_plain.specs.Trees.{Tree, Spot, how_many, inode_of, names_in}
 use Rattle.dc_store.specs.Inodes.{entries_of, nodes_of, inode_at}
 use Rattle.dc_plain.specs.BytesShown.{names_by}
 use Rattle.dc_store.specs.Maps.{node_shown, IsNodeAt}
-use Rattle.dc_store.specs.Names.{name_cmp}
+use Rattle.dc_store.specs.Names.{by_names, name_cmp}
 use Rattle.dc_store.specs.Slabs.{IsInodeAt}
 use Rattle.dc_store.specs.declared.inode.Inode.{Inode}
 use Rattle.dc_store.proofs.Keeps.{Keeps, in_order, entries_are, inode_is}
-use Rattle.dc_store.proofs.Listed.{names_at, names_listed}
+use Rattle.dc_store.specs.Pages.{behind, entries_in, page_of, told_in}
+use Rattle.dc_store.proofs.Listed.{names_at, names_listed, pairs_listed}
 use Rattle.dc_store.proofs.Nodes.{copied_mapped, told}
 use Rattle.dc_store.proofs.NodesKept.{node_found}
 use Rattle.dc_store.proofs.Stores.{sound_as}
@@ -47,3 +48,22 @@ module _ {inodes : List (ℕ × Inode)} {next : ℕ} {t : Tree} (now : Keeps ino
   pub none_told : (o : Option (Bor Inode)) → option_copied o ≡ inode_at inodes n → IfNone o ([] ≡ names_in t n)
   none_told None is = none_in (sym is)
   none_told (Some b) is = tt
+
+  pairs_of_tree : IsTrue (is_sorted name_cmp (names_at (inode_at inodes n))) → names_at (inode_at inodes n) ≡ entries_in t n
+  pairs_of_tree ordered = sym (pairs_listed inodes (from_test _ (in_order now)) n ordered) ∙ ap (λ (es : List (Spot × ℕ)). map (λ (e : Spot × ℕ). (e.0.name, e.1)) (filter (λ (e : Spot × ℕ). e.0.dir == n) es)) (entries_are now)
+
+  -- the entries of a directory are those of its inode
+  pub entries_told : (inode : Inode) → Some inode ≡ inode_at inodes n → IsTrue (is_sorted name_cmp inode.names) → inode.names ≡ entries_in t n
+  entries_told inode e ordered = ap names_at e ∙ pairs_of_tree (subst (λ o. IsTrue (is_sorted name_cmp (names_at o))) e ordered)
+
+  -- where nothing lives there is none
+  pub no_entries : None ≡ inode_at inodes n → [] ≡ entries_in t n
+  no_entries none = ap names_at none ∙ pairs_of_tree (subst (λ o. IsTrue (is_sorted name_cmp (names_at o))) none refl)
+
+take_none : (most : ℕ) → ◌≡◌ {A = List (List ℕ × ℕ)} [] (take most [])
+take_none zero = refl
+take_none (suc most) = refl
+
+-- a page of no entries is empty
+pub no_page : (t : Tree) (d : ℕ) (after : Option (List ℕ)) (most : ℕ) → [] ≡ entries_in t d → [] ≡ page_of t d after most
+no_page t d after most none = ap (λ (es : List (List ℕ × ℕ)). map (told_in t) (by_names es)) (take_none most) ∙ ap (λ (es : List (List ℕ × ℕ)). map (told_in t) (by_names (take most (behind d after es)))) none

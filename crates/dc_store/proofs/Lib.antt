@@ -19,6 +19,8 @@ pub mod SlotSteps
 pub mod Named
 pub mod Hashed
 pub mod Ordered
+pub mod Paged
+pub mod Gapless
 pub mod Changes
 pub mod Entered
 pub mod Changed

@@ -1,5 +1,5 @@
 -- The names that stand in a directory are those that its inode keeps.
-use Rattle.std.proofs.Common.{◌≡◌, ℕ, ◌==◌, ◌&&◌, List, [], ◌∷◌, Bool, true, false, cond, map, Option, Some, None, option_and_then, IsTrue, refl, ap, sym, ◌∙◌}
+use Rattle.std.proofs.Common.{◌≡◌, ℕ, ◌==◌, ◌&&◌, List, [], ◌∷◌, Bool, true, false, cond, map, filter, Option, Some, None, option_and_then, IsTrue, refl, ap, sym, ◌∙◌}
 use Rattle.std.specs.Cmp.{nat_cmp_total, tied_itself, unsigned_tied}
 use Rattle.std.specs.FinMap.Entries.{where_key, below_all, is_sorted, is_sorted-where_key, find-where_key}
 use Rattle.std.specs.FinMap.Entries.{find as lookup}
@@ -73,3 +73,12 @@ module _ (inodes : List (ℕ × Inode)) (sorted : IsTrue (is_sorted nat_cmp inod
 
   pub names_listed : names_by d (entries_of inodes) ≡ map (λ e. e.0) (names_at (inode_at inodes d))
   names_listed = ap (map (λ (e : Spot × ℕ). e.0.name)) standing ∙ names_same (names_at (inode_at inodes d))
+
+  pairs_same : (xs : List (List ℕ × ℕ)) → map (λ (e : Spot × ℕ). (e.0.name, e.1)) (map (entered d) xs) ≡ xs
+  unfolding entered
+  pairs_same [] = refl
+  pairs_same (x ∷ xs) = ap (λ l. x ∷ l) (pairs_same xs)
+
+  -- and they lead to the numbers that it keeps
+  pub pairs_listed : map (λ (e : Spot × ℕ). (e.0.name, e.1)) (filter (λ (e : Spot × ℕ). e.0.dir == d) (entries_of inodes)) ≡ names_at (inode_at inodes d)
+  pairs_listed = ap (map (λ (e : Spot × ℕ). (e.0.name, e.1))) standing ∙ pairs_same (names_at (inode_at inodes d))

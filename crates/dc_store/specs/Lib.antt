@@ -12,3 +12,5 @@ pub mod Lending
 pub mod Slabs
 pub mod Laws
 pub mod Nodes
+pub mod Pages
+pub mod PageLaws

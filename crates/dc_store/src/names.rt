@@ -1,17 +1,20 @@
 //! The names in one directory.
 
-ghost use Rattle.std.specs.Prelude.{◌≡◌, ℕ, List, [], length, map, IsSome, IsTrue, IfOk, OnOk, OnErr};
+ghost use Rattle.std.specs.Prelude.{◌≡◌, ℕ, List, [], length, map, IsSome, IsTrue, IfOk, OnOk, OnErr, take};
 ghost use Rattle.std.specs.FinMap.Entries.{put, is_sorted};
 ghost use Rattle.std.specs.FinMap.Entries.{find as lookup};
 ghost use Rattle.dc_plain.specs.BytesShown.{names_shown};
 ghost use Rattle.dc_names.specs.Hash.{hash_of};
 ghost use Rattle.dc_store.specs.Names.{by_names, in_order, name_cmp, without_name, AreHashed};
+ghost use Rattle.dc_store.specs.Pages.{behind, leads_shown, name_shown};
 
 use crate::name_bytes::{NameBytes, SoughtBytes};
+use crate::pages::{Led, first_of};
 use dc_names::{Name, NoMemory};
 use std::alloc::Global;
 use std::collections::BTreeMap;
 use std::marker::Model;
+use std::ops::Bound;
 
 /// The names in a directory, each with the number that it leads to, in the order of the hash of the
 /// directory's number and the name, and of their bytes if that is one. Whoever chooses the names, a search
@@ -107,5 +110,34 @@ impl Names {
         }
         names.sort_unstable();
         Ok(names)
+    }
+
+    /// The names behind one, or all, in the order of the map, at most this many, each with the number that it
+    /// leads to. It costs one search and a step for each name that it tells. The directory's number is the
+    /// caller's, since these names are seen without it.
+    #[tactic(auto, using(crate::proofs::Named::view_sorted))]
+    pub fn page(
+        &self,
+        alloc: Global,
+        dir: u64,
+        after: Option<Name<'_>>,
+        most: usize,
+    ) -> Result<Vec<Led>, NoMemory>
+        ensures told { IfOk result (λ page.
+            leads_shown page ≡ by_names (take most (behind dir (name_shown after.entry) self.now))) }
+        ensures sorted { IsTrue (is_sorted name_cmp self.now) }
+    {
+        // In the order of another directory's hashes the names would be told amiss. Nobody asks with its
+        // number, as each directory's inode has that directory's names.
+        if self.dir != dir {
+            return Err(NoMemory);
+        }
+        match after {
+            Some(name) => {
+                let start = Bound::Excluded(NameBytes::new(alloc, dir, name)?);
+                first_of(alloc, self.by_name.range((start, Bound::Unbounded)), most)
+            }
+            None => first_of(alloc, self.by_name.range(..), most),
+        }
     }
 }

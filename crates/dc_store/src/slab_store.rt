@@ -1,6 +1,6 @@
 //! The store that the cache holds: inodes in a slab, and the names of each directory in an ordered map.
 
-ghost use Rattle.std.specs.Prelude.{◌≡◌, ◌<◌, [], None, Some, option_map, IfSome, IfNone, IfOk, OnOk, OnErr, IsTrue};
+ghost use Rattle.std.specs.Prelude.{◌≡◌, ◌<◌, [], None, Some, map, option_map, IfSome, IfNone, IfOk, OnOk, OnErr, IsTrue};
 ghost use Rattle.dc_plain.specs.Effects.{with_new, with_entry_for};
 ghost use Rattle.dc_plain.specs.IsWellFormed.{IsWellFormed};
 ghost use Rattle.dc_plain.specs.Trees.{Tree, empty_tree, inode_of, entry_number, names_in, is_live_directory};
@@ -8,6 +8,7 @@ ghost use Rattle.dc_plain.specs.Conditions.{CanBeNamed};
 ghost use Rattle.dc_store.specs.Inodes.{tree_of};
 ghost use Rattle.dc_store.specs.Maps.{node_shown, CanKeep};
 ghost use Rattle.dc_store.specs.Moved.{CanStandAt, tree_moved};
+ghost use Rattle.dc_store.specs.Pages.{leads_shown, name_shown, page_of, page_told, told_in};
 ghost use Rattle.dc_store.specs.Slabs.{IsTied, IsInodeAt};
 ghost use Rattle.dc_plain.specs.Spots.{spot_at, spot_shown};
 ghost use Rattle.dc_names.specs.declared.limits.TheConstants.{NUMBER_LIMIT};
@@ -17,6 +18,7 @@ use crate::inodes::Inodes;
 use crate::laws::trees_keep_their_laws;
 use crate::names::Names;
 use crate::node::Node;
+use crate::pages::{Entry, Led};
 use crate::store::{New, Store};
 use dc_names::{Kind, Name, NoMemory};
 use dc_plain::Spot;
@@ -80,6 +82,39 @@ impl SlabStore {
         ensures well { IsWellFormed self.now }
     {
         self.inodes.get(number)
+    }
+
+    /// The entries of a directory behind a name, or all, at most this many, in the order of the hashes of the
+    /// directory's number and their names. None if no directory lives under the number. It costs as much for
+    /// each entry that it tells as a search, whatever the directory holds.
+    pub fn page(
+        &self,
+        alloc: Global,
+        dir: u64,
+        after: Option<Name<'_>>,
+        most: usize,
+    ) -> Result<Vec<Entry>, NoMemory>
+        ensures told { IfOk result (λ page.
+            page_told page ≡ page_of self.now dir (name_shown after.entry) most) }
+    {
+        match self.inodes.get(dir) {
+            Some(inode) => self.with_kinds(alloc, inode.names.page(alloc, dir, after, most)?),
+            None => Ok(Vec::new(alloc)),
+        }
+    }
+
+    /// Entries of a directory, each with the kind of what its name leads to.
+    fn with_kinds(&self, alloc: Global, leads: Vec<Led>) -> Result<Vec<Entry>, NoMemory>
+        ensures { IfOk result (λ page.
+            page_told page ≡ map (told_in self.now) (leads_shown leads)) }
+    {
+        let mut page = Vec::new(alloc);
+        for Led { name, number } in leads {
+            // A name leads to what lives.
+            let kind = self.kind(number).unwrap_or(Kind::File);
+            page.push(Entry { name, number, kind })?;
+        }
+        Ok(page)
     }
 
     /// Adds an inode under the next number, and an entry for it. The inode goes again if the entry

@@ -13,6 +13,7 @@ use dc_store::{MapStore, New, SlabStore, Store};
 use std::alloc::Global;
 use std::test::Fail;
 
+mod pages;
 mod refused;
 
 /// Whether a name in a directory is free.
