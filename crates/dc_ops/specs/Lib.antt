@@ -9,3 +9,4 @@ pub mod Same
 pub mod Settled
 pub mod Found
 pub mod Knowing
+pub mod Whereabouts
