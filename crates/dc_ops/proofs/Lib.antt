@@ -8,3 +8,6 @@ pub mod Distinct
 pub mod Alters
 pub mod Knowing
 pub mod LastNames
+pub mod SpelledNames
+pub mod Ways
+pub mod Climbing

@@ -10,3 +10,4 @@ pub mod Same
 pub mod Settled
 pub mod Found
 pub mod Knowing
+pub mod Whereabouts

@@ -14,6 +14,7 @@ mod plans;
 mod reads;
 mod renames;
 mod takes;
+mod whereabouts;
 
 pub use dc_plain::{Call, Flags, Key, Label, Reply};
 pub use dispatch::{plan, plan_knowing};
@@ -23,3 +24,4 @@ pub use known::Known;
 pub use pages::page;
 pub use plans::{Moved, Plan};
 pub use reads::{ask, leads_to, look_by, seek};
+pub use whereabouts::path_of;

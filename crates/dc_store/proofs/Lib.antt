@@ -36,3 +36,5 @@ pub mod KeepsSwapped
 pub mod KeepsRead
 pub mod Redirected
 pub mod SlabSteps
+pub mod Standing
+pub mod Leading

@@ -1,6 +1,6 @@
 //! The names in one directory.
 
-ghost use Rattle.std.specs.Prelude.{◌≡◌, ℕ, List, [], length, map, IsSome, IsTrue, IfOk, OnOk, OnErr, take};
+ghost use Rattle.std.specs.Prelude.{◌≡◌, ℕ, List, [], length, map, IsSome, IsTrue, IfOk, OnOk, OnErr, take, ◌≢◌, Some, IfSome, IfNone};
 ghost use Rattle.std.specs.FinMap.Entries.{put, is_sorted};
 ghost use Rattle.std.specs.FinMap.Entries.{find as lookup};
 ghost use Rattle.dc_plain.specs.BytesShown.{names_shown};
@@ -96,6 +96,20 @@ impl Names {
         ensures sorted { IsTrue (is_sorted name_cmp self.now) }
     {
         self.by_name.len() as u64
+    }
+
+    /// A name that leads to a number. It looks at one name after another, as no order of them tells which
+    /// number they lead to.
+    pub fn leading_to(&self, number: u64) -> Option<&[u8]>
+        ensures found { IfSome result (λ name. lookup name_cmp name.now self.now ≡ Some number) }
+        ensures none { IfNone result ((name : List ℕ) → lookup name_cmp name self.now ≢ Some number) }
+    {
+        for (key, target) in &self.by_name {
+            if *target == number {
+                return Some(key.as_slice());
+            }
+        }
+        None
     }
 
     /// The names in the order of their bytes.

@@ -1,9 +1,9 @@
 //! The store that the cache holds: inodes in a slab, and the names of each directory in an ordered map.
 
-ghost use Rattle.std.specs.Prelude.{◌≡◌, ◌<◌, [], None, Some, map, option_map, IfSome, IfNone, IfOk, OnOk, OnErr, IsTrue};
+ghost use Rattle.std.specs.Prelude.{◌≡◌, ◌<◌, [], None, Some, map, option_map, IfSome, IfNone, IfOk, OnOk, OnErr, IsTrue, ◌≢◌, ℕ, List, false};
 ghost use Rattle.dc_plain.specs.Effects.{with_new, with_entry_for};
 ghost use Rattle.dc_plain.specs.IsWellFormed.{IsWellFormed};
-ghost use Rattle.dc_plain.specs.Trees.{Tree, empty_tree, inode_of, entry_number, names_in, is_live_directory};
+ghost use Rattle.dc_plain.specs.Trees.{Tree, Spot as PlainSpot, empty_tree, inode_of, entry_number, names_in, is_live_directory};
 ghost use Rattle.dc_plain.specs.Conditions.{CanBeNamed};
 ghost use Rattle.dc_store.specs.Inodes.{tree_of};
 ghost use Rattle.dc_store.specs.Maps.{node_shown, CanKeep};
@@ -11,6 +11,7 @@ ghost use Rattle.dc_store.specs.Moved.{CanStandAt, tree_moved};
 ghost use Rattle.dc_store.specs.Pages.{leads_shown, name_shown, page_of, page_told, told_in};
 ghost use Rattle.dc_store.specs.Slabs.{IsTied, IsInodeAt};
 ghost use Rattle.dc_plain.specs.Spots.{spot_at, spot_shown};
+ghost use Rattle.dc_names.specs.Bytes.{is_name};
 ghost use Rattle.dc_names.specs.declared.limits.TheConstants.{NUMBER_LIMIT};
 
 use crate::inode::Inode;
@@ -21,7 +22,7 @@ use crate::node::Node;
 use crate::pages::{Entry, Led};
 use crate::store::{New, Store};
 use dc_names::{Kind, Name, NoMemory};
-use dc_plain::Spot;
+use dc_plain::{Spot, directories_have_one_holder, names_lead_to_the_living};
 use std::alloc::Global;
 use std::marker::Model;
 
@@ -71,6 +72,38 @@ impl SlabStore {
             entries: 0,
             most_entries,
         })
+    }
+
+    /// Where a directory stands: in which directory, and under which name. `None` for the root, and if no
+    /// directory lives under the number. Its inode has no name, so the names in the directory above are
+    /// looked at one after another, in the order of their hashes.
+    pub fn own_entry(&self, number: u64) -> Option<(u64, &[u8])>
+        ensures found { IfSome result (λ r.
+            entry_number self.now (spot_at r.0 r.1.now) ≡ Some number) }
+        ensures alone { IfSome result (λ r. IsTrue (is_live_directory self.now number) →
+            (spot : PlainSpot) → entry_number self.now spot ≡ Some number
+            → spot ≡ spot_at r.0 r.1.now) }
+        ensures named { IfSome result (λ r. IsTrue (is_name r.1.now)) }
+        ensures none { IfNone result (number ≢ 1 → is_live_directory self.now number ≡ false) }
+        ensures well { IsWellFormed self.now }
+    {
+        directories_have_one_holder();
+        names_lead_to_the_living();
+        let inode = self.inode(number)?;
+        let dir = inode.node.parent()?;
+        let name = self.leading_to(dir, number)?;
+        Some((dir, name))
+    }
+
+    /// A name in a directory that leads to a number.
+    fn leading_to(&self, dir: u64, number: u64) -> Option<&[u8]>
+        ensures found { IfSome result (λ name.
+            entry_number self.now (spot_at dir name.now) ≡ Some number) }
+        ensures none { IfNone result ((name : List ℕ) →
+            entry_number self.now (spot_at dir name) ≢ Some number) }
+        ensures well { IsWellFormed self.now }
+    {
+        self.inodes.get(dir)?.names.leading_to(number)
     }
 
     /// What is kept under a number.
