@@ -6,6 +6,7 @@ ghost use Rattle.dc_plain.specs.Tellers.{Extends};
 ghost use Rattle.dc_tree_tests.specs.Tables.{target_in, parent_in, text_in, said_by};
 
 mod places;
+mod trails;
 mod walks;
 
 use arrayvec::ArrayVec;
