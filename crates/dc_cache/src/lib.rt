@@ -47,7 +47,7 @@
 //! | `look_fast`, `look_text` | never | none | `Again`, with the cause |
 //! | `readlink_fast` | never | none | `Again`, with the cause; `Link` for a link |
 //! | `try_look` | tries once | for rows, as far as there is any | `None` |
-//! | `try_stat`, `try_shrink` | tries once | none | `None` |
+//! | `try_stat`, `try_path_of`, `try_shrink` | tries once | none | `None` |
 //! | `try_readlink`, `try_list` | tries once | for the text or the names | `None`, `NoMemory` |
 //! | `try_change`, `try_change_telling` | tries once | for what it makes or moves | `None`, `NoMemory`, `Spent` |
 //! | `learn` | never | none | `NotYet` |
@@ -56,7 +56,7 @@
 //! | `look_missed`, after `look_fast` | waits, once | for rows, as far as there is any | never |
 //! | `look_counted` | waits, for each row that it pins and once more | for rows | `Again`, with the cause |
 //! | `look` | waits as `look_counted`, and once more, if the rows don't answer | for rows, as far as there is any | never |
-//! | `stat` | waits, once | none | never |
+//! | `stat`, `path_of` | waits, once | none | never |
 //! | `readlink`, `list` | waits, once | for the text or the names | `NoMemory` |
 //! | `change` | waits, once | for what it makes or moves | `NoMemory`, `Spent` |
 //! | `shrink` | waits, once | none | never |
@@ -116,9 +116,10 @@ mod never_waits;
 mod passes;
 mod under_lock;
 mod waits;
+mod whereabouts;
 
 pub use cache::{Cache, Dcache, Ended, NotYet, Pass, Sleepless};
-pub use dc_names::{Kind, Name, NoMemory, Part, PathText, Refusal, TextFault, parse};
+pub use dc_names::{Kind, Name, NoMemory, PATH_MAX, Part, PathText, Refusal, TextFault, parse};
 pub use dc_plain::{Call, Flags, Follow, Reply, Sort, Stamped};
 pub use dc_rows::ChangeFault;
 pub use dc_store::{SlabStore, Store};
@@ -126,6 +127,7 @@ pub use dc_table::{Counts, MakeFault, Nobody, Sleepers, Wakes};
 pub use dc_walk::{Fast, MOST_LOADS, Why};
 pub use gone::Gone;
 pub use links::FastLink;
+pub use whereabouts::Whereabouts;
 
 /// The number of the root directory: the base of a caller that has no other directory.
 pub const ROOT: u64 = 1;
