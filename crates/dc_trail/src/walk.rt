@@ -14,9 +14,9 @@ use dc_resolve::{Finder, Walked, walk};
 
 /// Where a path leads from a starting directory, as `walk` of `dc_resolve`, and its trail: each directory
 /// in which the resolution asks for a name or for dot-dot, up to where it ends, once, in the order in which
-/// it asks there first. The trail is written into the caller's places, and this many of them it takes.
+/// it asks there first. It is written into the caller's places, and the number says how many it takes.
 ///
-/// A relative path asks its starting directory first, also if it is `.`; a dot and the root's dot-dot
+/// A relative path asks its starting directory first, whether that lives; a dot and the root's dot-dot
 /// ask nothing. `Full` if the trail has more directories than there are places.
 pub fn walk_along<F: Finder>(
     finder: &mut F,

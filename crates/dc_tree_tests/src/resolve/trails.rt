@@ -97,7 +97,7 @@ fn trail_all() -> Result<(), Fail> {
         let Ok((_, many)) = told else {
             continue;
         };
-        if numbers[..many] != **trail {
+        if &numbers[..many] != *trail {
             return Err(Fail::from(*path));
         }
     }
