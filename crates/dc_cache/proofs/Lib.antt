@@ -3,3 +3,4 @@ pub mod Tellings
 pub mod ReadLinks
 pub mod Taken
 pub mod Takes
+pub mod Paged

@@ -1,6 +1,6 @@
 //! What is done under one hold of the lock: a guard comes in, and the pass is handed back, without the lock.
 
-ghost use Rattle.std.specs.Prelude.{ℕ, IfSome, IfNone};
+ghost use Rattle.std.specs.Prelude.{◌≡◌, ℕ, IfSome, IfNone};
 ghost use Rattle.dc_cache.specs.Holds.{FillsOnce, KeepsPins, KeepsRows, Records, RecordsOne, TellsOne};
 ghost use Rattle.dc_cache.specs.Losses.{MakesOnce};
 ghost use Rattle.dc_cache.specs.Passes.{TriedAfterWalk};
@@ -27,12 +27,17 @@ use std::alloc::Global;
 use std::sync::Wait;
 
 /// Answers a call that alters nothing, whose reply is known.
-fn answer<'t, W: Wakes>(guard: Guard<'t>, call: &Call<'_>, reply: Reply) -> (&'t mut Seat, Stamped)
+pub(crate) fn answer<'t, W: Wakes>(
+    guard: Guard<'t>,
+    call: &Call<'_>,
+    reply: Reply,
+) -> (&'t mut Seat, Stamped)
     requires taken { IsTaken (view (seat_of guard)) }
     requires declines { (limit : ℕ) → DeclinesCall limit (kept_by guard).store call.now reply }
     ensures back { IsBack guard.entry result.0 }
     ensures rows { KeepsRows guard.entry result.0 }
     ensures recorded { RecordsOne guard.entry result.0 (request_of call.now) result.1 }
+    ensures same { result.1.reply ≡ reply }
 {
     let at = guard.clock();
     (guard.answer::<W>(call), Stamped { reply, at })
