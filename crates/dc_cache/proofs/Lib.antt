@@ -4,3 +4,4 @@ pub mod ReadLinks
 pub mod Taken
 pub mod Takes
 pub mod Wheres
+pub mod Paged

@@ -7,3 +7,4 @@ pub mod Fillings
 pub mod Links
 pub mod Losses
 pub mod Whereabouts
+pub mod Pages

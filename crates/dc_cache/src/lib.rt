@@ -49,6 +49,7 @@
 //! | `try_look` | tries once | for rows, as far as there is any | `None` |
 //! | `try_stat`, `try_path_of`, `try_shrink` | tries once | none | `None` |
 //! | `try_readlink`, `try_list` | tries once | for the text or the names | `None`, `NoMemory` |
+//! | `try_entries` | tries once | for the entries | `None`, `NoMemory` |
 //! | `try_change`, `try_change_telling` | tries once | for what it makes or moves | `None`, `NoMemory`, `Spent` |
 //! | `learn` | never | none | `NotYet` |
 //! | `counts`, `split`, `join`, `close` | never | none | as said above |
@@ -58,6 +59,7 @@
 //! | `look` | waits as `look_counted`, and once more, if the rows don't answer | for rows, as far as there is any | never |
 //! | `stat`, `path_of` | waits, once | none | never |
 //! | `readlink`, `list` | waits, once | for the text or the names | `NoMemory` |
+//! | `entries` | waits, once | for the entries | `NoMemory` |
 //! | `change` | waits, once | for what it makes or moves | `NoMemory`, `Spent` |
 //! | `shrink` | waits, once | none | never |
 //!
@@ -69,7 +71,7 @@
 //! A call that waits takes `rt`, a runtime that can put a thread to sleep (the bound `Wait`); the type of
 //! a call without it says that it returns. A call that may take memory takes `alloc`, the allocator. If
 //! memory is refused, the tree and the book are as they were. A change that is refused, an `Unlink`, a
-//! `Rmdir` and an exchange take none, and a `readlink` or a `list` that is refused takes none.
+//! `Rmdir` and an exchange take none, and a `readlink`, a `list` or an `entries` that is refused takes none.
 //!
 //! # Without a runtime
 //!
@@ -109,6 +111,7 @@
 #![tactic(auto)]
 
 mod cache;
+mod entries;
 mod filler;
 mod gone;
 mod links;
@@ -122,9 +125,10 @@ pub use cache::{Cache, Dcache, Ended, NotYet, Pass, Sleepless};
 pub use dc_names::{Kind, Name, NoMemory, PATH_MAX, Part, PathText, Refusal, TextFault, parse};
 pub use dc_plain::{Call, Flags, Follow, Reply, Sort, Stamped};
 pub use dc_rows::ChangeFault;
-pub use dc_store::{SlabStore, Store};
+pub use dc_store::{Entry, SlabStore, Store};
 pub use dc_table::{Counts, MakeFault, Nobody, Sleepers, Wakes};
 pub use dc_walk::{Fast, MOST_LOADS, Why};
+pub use entries::Entries;
 pub use gone::Gone;
 pub use links::FastLink;
 pub use whereabouts::Whereabouts;

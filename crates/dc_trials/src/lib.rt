@@ -11,6 +11,8 @@ mod chains;
 #[cfg(test)]
 mod check;
 #[cfg(test)]
+mod entries;
+#[cfg(test)]
 mod holds;
 #[cfg(test)]
 mod lang;

@@ -2,7 +2,7 @@
 
 ghost use Rattle.dc_cache.specs.Passes.{Fits, IsChange};
 
-use dc_cache::{Dcache, Fast, Pass, Why, parse};
+use dc_cache::{Dcache, Entries, Fast, Pass, Why, parse};
 use dc_plain::{Call, Stamped};
 use std::alloc::Global;
 use std::sync::Wait;
@@ -20,6 +20,8 @@ pub enum Way {
     FillsPath,
     /// A look-up for who has just asked the rows, which fills them too.
     Missed,
+    /// A page of a directory is told.
+    Pages,
     /// Before it come calls that take no memory.
     Free,
 }
@@ -33,6 +35,7 @@ impl Way {
             "counted" => Some(Way::Fills),
             "filled" => Some(Way::FillsPath),
             "missed" => Some(Way::Missed),
+            "pages" => Some(Way::Pages),
             "free" => Some(Way::Free),
             _ => None,
         }
@@ -206,6 +209,32 @@ fn look_missed<R: Wait>(
     Ok(cache.look_missed(rt, alloc, pass, base, text, follow))
 }
 
+/// Tells a page of the directory that is to be listed.
+fn page<R: Wait>(
+    rt: &R,
+    alloc: Global,
+    cache: &Dcache,
+    pass: &mut Pass,
+    call: &Call<'_>,
+) -> Result<Stamped, Unanswered>
+    requires { Fits cache.now pass.old }
+    ensures { Fits cache.now pass.new }
+{
+    let Call::List { base, path } = *call else {
+        return Err(Unanswered::Strange);
+    };
+    let asked = Entries {
+        base,
+        path,
+        after: None,
+        most: 8,
+    };
+    match cache.entries(rt, alloc, pass, asked) {
+        Ok((stamped, _)) => Ok(stamped),
+        Err(_) => Err(Unanswered::Memory),
+    }
+}
+
 /// Whether the rows alone answer a look-up.
 pub fn is_told(cache: &Dcache, pass: &mut Pass, call: &Call<'_>) -> bool
     requires { Fits cache.now pass.old }
@@ -252,6 +281,7 @@ pub fn answer_by<R: Wait>(
             Some(told) => told,
             None => Err(Unanswered::Strange),
         },
+        Way::Pages => page(rt, alloc, cache, pass, call),
         Way::Free => {
             do_free(rt, cache, pass);
             answer(rt, alloc, cache, pass, call)
