@@ -13,6 +13,7 @@ use std::alloc::Global;
 use std::test::Fail;
 
 mod stores_agree;
+mod whereabouts;
 
 /// The plan of a change on a store of at most 16 inodes. A read has none.
 fn planned<'a, S: Store>(store: &S, call: &Call<'a>) -> Result<Plan<'a>, Reply>
