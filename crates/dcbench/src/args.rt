@@ -1,7 +1,9 @@
 //! The words of the command line.
 
 use crate::fault::Fault;
-use crate::work::{ChangeTask, LookTask, Miss, RaceTask, Shape, Sort, Style, Task, WaitTask, Work};
+use crate::work::{
+    ChangeTask, HoldTask, LookTask, Miss, RaceTask, Shape, Sort, Style, Task, WaitTask, Work,
+};
 use clap::builder::ValueParser;
 use clap::{Arg, ArgAction, ArgMatches, Command, Error};
 use dc_names::MOST_TABLE_BUCKETS;
@@ -108,6 +110,16 @@ const WAITS: [Choice; 4] = [
     JSON,
 ];
 
+const HOLDS: [Choice; 3] = [
+    Choice(
+        "threads",
+        Given::Value("N", "4", ValueParser::Unsigned(1, 64)),
+        "Threads, from 1 to 64",
+    ),
+    SECONDS,
+    JSON,
+];
+
 const RACE: [Choice; 6] = [
     Choice("RACE", Given::Race, "What is renamed above the path"),
     Choice(
@@ -142,7 +154,7 @@ struct Deed(
     &'static [Choice],
 );
 
-static DEEDS: [Deed; 5] = [
+static DEEDS: [Deed; 6] = [
     Deed("look", "Times look-ups by 1 to N threads", &LOOK, &SHAPE),
     Deed(
         "change",
@@ -154,6 +166,12 @@ static DEEDS: [Deed; 5] = [
         "waits",
         "Times changes and missed look-ups beside 1 to N threads that hold the lock for long",
         &WAITS,
+        &[],
+    ),
+    Deed(
+        "holds",
+        "Times how long each kind of call holds the lock, and how long it waits, by 1 to N threads",
+        &HOLDS,
         &[],
     ),
     Deed(
@@ -307,6 +325,14 @@ fn waits_of(matches: &ArgMatches<'_>) -> WaitTask {
     }
 }
 
+fn holds_of(matches: &ArgMatches<'_>) -> HoldTask {
+    HoldTask {
+        threads: number_of(matches, "threads"),
+        time: time_of(matches),
+        json: matches.get_flag("json"),
+    }
+}
+
 /// What a command and its options ask for.
 fn task_in<'a>(matches: &ArgMatches<'a>) -> Task<'a> {
     let Some((name, found)) = matches.subcommand() else {
@@ -316,6 +342,7 @@ fn task_in<'a>(matches: &ArgMatches<'a>) -> Task<'a> {
         "look" => Task::Look(look_of(found)),
         "change" => Task::Change(change_of(found)),
         "waits" => Task::Waits(waits_of(found)),
+        "holds" => Task::Holds(holds_of(found)),
         "race" => Task::Race(race_of(found)),
         _ => Task::Tree(shape_of(found, Miss::NameByName)),
     }

@@ -1,5 +1,5 @@
-//! Times the cache by its public calls alone, also beside threads that hold the lock for long, and races
-//! look-ups against changes.
+//! Times the cache by its public calls alone, and how long they hold its lock, also beside threads that hold
+//! it for long, and races look-ups against changes.
 #![tactic(auto)]
 
 mod answers;
@@ -8,6 +8,9 @@ mod causes;
 mod drawing;
 mod fault;
 mod gate;
+mod held;
+mod holding;
+mod holds;
 mod look;
 mod order;
 mod own;

@@ -139,6 +139,11 @@ impl Own {
         })
     }
 
+    /// Whether the next change is the first of a file's.
+    pub fn is_first(&self) -> bool {
+        self.done.checked_rem(self.round()) == Some(0)
+    }
+
     /// Goes on to the next change.
     pub fn step(&mut self) {
         self.done = self.done.wrapping_add(1);

@@ -16,14 +16,14 @@ pub trait Row: fmt::Display {
 
 /// An object of JSON that is being filled.
 #[derive(Drop)]
-struct Members {
+pub struct Members {
     alloc: Global,
     map: Map<String, Value>,
 }
 
 impl Members {
     /// An object with the name of a command.
-    fn of(alloc: Global, command: &str) -> Result<Members, AllocError> {
+    pub fn of(alloc: Global, command: &str) -> Result<Members, AllocError> {
         let mut members = Members {
             alloc,
             map: Map::new(alloc),
@@ -33,14 +33,14 @@ impl Members {
     }
 
     /// Adds a text.
-    fn text(&mut self, name: &str, text: &str) -> Result<(), AllocError> {
+    pub fn text(&mut self, name: &str, text: &str) -> Result<(), AllocError> {
         let value = Value::try_from_str(self.alloc, text)?;
         put(&mut self.map, self.alloc, name, value)?;
         Ok(())
     }
 
     /// Adds numbers by their names.
-    fn numbers(&mut self, numbers: &[(&str, u64)]) -> Result<(), AllocError> {
+    pub fn numbers(&mut self, numbers: &[(&str, u64)]) -> Result<(), AllocError> {
         for member in numbers {
             let (name, number) = *member;
             put(&mut self.map, self.alloc, name, Value::from(number))?;
@@ -49,7 +49,7 @@ impl Members {
     }
 
     /// Adds the times of a call.
-    fn times(&mut self, tally: &Tally) -> Result<(), AllocError> {
+    pub fn times(&mut self, tally: &Tally) -> Result<(), AllocError> {
         self.numbers(&[
             ("median_ps", tally.quantile(50)),
             ("p99_ps", tally.quantile(99)),
@@ -79,7 +79,7 @@ impl Members {
     }
 
     /// The object as a line.
-    fn line(self) -> Result<String, AllocError> {
+    pub fn line(self) -> Result<String, AllocError> {
         let Members { alloc, map } = self;
         Value::Object(map).to_string(alloc)
     }
@@ -110,7 +110,10 @@ impl fmt::Display for Milliseconds {
 }
 
 /// Writes numbers, each behind a space and at the right of this many places.
-fn write_cells<W: fmt::Write>(f: &mut fmt::Formatter<W>, cells: &[(usize, u64)]) -> fmt::Result {
+pub fn write_cells<W: fmt::Write>(
+    f: &mut fmt::Formatter<W>,
+    cells: &[(usize, u64)],
+) -> fmt::Result {
     for cell in cells {
         let (width, number) = *cell;
         write!(f, " {number:>width$}")?;

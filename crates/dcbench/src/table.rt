@@ -5,13 +5,17 @@ ghost use Rattle.std.specs.Thread.{IsSync};
 use crate::answers::Answers;
 use crate::drawing::draw;
 use crate::fault::Fault;
+use crate::held::HOLD_HEAD;
+use crate::holding::hold_row;
 use crate::order::{ordered, texts_of};
 use crate::racing::race_row;
 use crate::report::{CHANGE_HEAD, LOOK_HEAD, RACE_HEAD, Row, WAIT_HEAD};
 use crate::rows::{Plan, change_row, look_row};
 use crate::tree::{asked_in, lines_in, parsed};
 use crate::waiting::wait_rows;
-use crate::work::{ChangeTask, LookTask, Miss, RaceTask, Shape, Sort, Style, Task, WaitTask, Work};
+use crate::work::{
+    ChangeTask, HoldTask, LookTask, Miss, RaceTask, Shape, Sort, Style, Taker, Task, WaitTask, Work,
+};
 use std::alloc::{AllocError, Global};
 use std::fs;
 use std::io::Write;
@@ -152,6 +156,39 @@ fn waits<R: Threads + Wait + Clock + Sync + Print>(
     Ok(())
 }
 
+/// Times the holds of each kind of call by these numbers of threads.
+fn holds_by<R: Threads + Wait + Clock + Sync + Print>(
+    rt: &R,
+    alloc: Global,
+    task: &HoldTask,
+    taker: Taker,
+    threads: &[u64],
+) -> Result<(), Fault>
+    requires { IsSync R.row }
+{
+    for threads in threads {
+        let row = hold_row(rt, alloc, task.time, taker, *threads)?;
+        tell(rt, alloc, &row, task.json)?;
+    }
+    Ok(())
+}
+
+/// Times the holds of all kinds of calls by these numbers of threads.
+fn holds<R: Threads + Wait + Clock + Sync + Print>(
+    rt: &R,
+    alloc: Global,
+    task: &HoldTask,
+    threads: &[u64],
+) -> Result<(), Fault>
+    requires { IsSync R.row }
+{
+    head(rt, HOLD_HEAD, task.json)?;
+    for taker in Taker::ALL {
+        holds_by(rt, alloc, task, taker, threads)?;
+    }
+    Ok(())
+}
+
 /// Tells a race in its style.
 fn race<R: Threads + Wait + Clock + Sync + Print>(
     rt: &R,
@@ -256,6 +293,12 @@ fn all<R: Threads + Wait + Clock + Sync + Print + Eprint + Files + AllocGlobal>(
         json: false,
     };
     waits(rt, alloc, &task)?;
+    let task = HoldTask {
+        threads: 4,
+        time: Duration::from_millis(BRIEFLY),
+        json: false,
+    };
+    holds(rt, alloc, &task, &[1, 4])?;
     races(rt, alloc)?;
     explain(rt, &answers);
     Ok(())
@@ -306,6 +349,7 @@ pub fn perform<R: Threads + Wait + Clock + Sync + Print + Eprint + Files + Alloc
             change_by(rt, alloc, change, &up_to(alloc, change.threads)?)
         }
         Task::Waits(task) => waits(rt, alloc, task),
+        Task::Holds(task) => holds(rt, alloc, task, &up_to(alloc, task.threads)?),
         Task::Race(task) => {
             head(rt, RACE_HEAD, !matches!(task.style, Style::Table))?;
             race(rt, alloc, task)

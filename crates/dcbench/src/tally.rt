@@ -33,6 +33,8 @@ pub struct Tally {
     pub rate: u64,
     /// Picoseconds of a call, by turn.
     pub turns: Vec<u64>,
+    /// Picoseconds of each call that found the lock taken, of those that tell so.
+    pub waits: Vec<u64>,
 }
 
 /// The picoseconds of a time, shared out over some calls.
@@ -58,6 +60,13 @@ pub fn a_second(calls: u64, time: Duration) -> u64 {
         .unwrap_or(0)
 }
 
+/// The time that this many in a hundred of some sorted times don't exceed.
+fn quantile_of(times: &[u64], hundredths: usize) -> u64 {
+    let at = times.len().saturating_mul(hundredths) / 100;
+    let last = times.len().saturating_sub(1);
+    times.get(at.min(last)).copied().unwrap_or(0)
+}
+
 impl Tally {
     pub fn new(alloc: Global) -> Tally {
         Tally {
@@ -72,6 +81,7 @@ impl Tally {
             passed: 0,
             rate: 0,
             turns: Vec::with_capacity(alloc, FIRST_TURNS).unwrap_or(Vec::new(alloc)),
+            waits: Vec::new(alloc),
         }
     }
 
@@ -94,6 +104,13 @@ impl Tally {
         }
     }
 
+    /// Keeps the time of a call that found the lock taken, as far as there is memory for it.
+    pub fn wait(&mut self, took: Duration) {
+        if self.waits.len() < MOST_TURNS {
+            let _ = self.waits.push(picoseconds(took, 1));
+        }
+    }
+
     /// Takes in what another thread counted and timed.
     pub fn take_in(&mut self, other: Tally) {
         self.looks = self.looks.saturating_add(other.looks);
@@ -107,17 +124,22 @@ impl Tally {
         self.passed = self.passed.max(other.passed);
         self.rate = self.rate.saturating_add(other.rate);
         let _ = self.turns.extend_from_slice(&other.turns);
+        let _ = self.waits.extend_from_slice(&other.waits);
     }
 
-    /// Sorts the times of the turns, so that `quantile` can be read.
+    /// Sorts the times, so that `quantile` and `waited` can be read.
     pub fn sort(&mut self) {
         self.turns.sort_unstable();
+        self.waits.sort_unstable();
     }
 
     /// The time that this many in a hundred turns don't exceed, once the turns are sorted.
     pub fn quantile(&self, hundredths: usize) -> u64 {
-        let at = self.turns.len().saturating_mul(hundredths) / 100;
-        let last = self.turns.len().saturating_sub(1);
-        self.turns.get(at.min(last)).copied().unwrap_or(0)
+        quantile_of(&self.turns, hundredths)
+    }
+
+    /// The same of the calls that found the lock taken.
+    pub fn waited(&self, hundredths: usize) -> u64 {
+        quantile_of(&self.waits, hundredths)
     }
 }

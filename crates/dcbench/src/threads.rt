@@ -3,6 +3,7 @@
 ghost use Rattle.dc_cache.specs.Passes.{Fits};
 ghost use Rattle.std.specs.Thread.{IsSync};
 
+use crate::holds::Holds;
 use crate::look::Looks;
 use crate::race::Race;
 use crate::tally::Tally;
@@ -18,6 +19,7 @@ pub enum Job<'a> {
     Look(Looks<'a>),
     Race(Race<'a>),
     Wait(Waits<'a>),
+    Hold(Holds<'a>),
 }
 
 /// What one thread does.
@@ -34,6 +36,7 @@ fn work<R: Wait + Clock>(
         Job::Look(looks) => looks.run(rt, cache, &mut pass, thread),
         Job::Race(race) => race.run(rt, cache, &mut pass, thread),
         Job::Wait(waits) => waits.run(rt, cache, &mut pass, thread),
+        Job::Hold(holds) => holds.run(rt, cache, &mut pass, thread),
     }
 }
 

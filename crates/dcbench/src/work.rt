@@ -138,6 +138,72 @@ pub struct WaitTask {
     pub json: bool,
 }
 
+/// Calls that take the lock.
+#[derive(Clone, Copy)]
+pub enum Taker {
+    /// Nothing is done under the lock: a shrink of no row.
+    Nothing,
+    Make,
+    Unlink,
+    Rename,
+    /// A look-up of a name that was never asked for, behind three others.
+    Miss,
+    Stat,
+    /// Of a directory of 64 names.
+    List,
+}
+
+impl Taker {
+    /// All, in the order of the table.
+    pub const ALL: [Taker; 7] = [
+        Taker::Nothing,
+        Taker::Make,
+        Taker::Unlink,
+        Taker::Rename,
+        Taker::Miss,
+        Taker::Stat,
+        Taker::List,
+    ];
+
+    pub fn name(self) -> &'static str {
+        match self {
+            Taker::Nothing => "nothing",
+            Taker::Make => "make",
+            Taker::Unlink => "unlink",
+            Taker::Rename => "rename",
+            Taker::Miss => "miss",
+            Taker::Stat => "stat",
+            Taker::List => "list",
+        }
+    }
+
+    /// The changes of which it is one. None if it changes nothing.
+    pub fn changes(self) -> Option<Work> {
+        match self {
+            Taker::Make | Taker::Unlink => Some(Work::Change),
+            Taker::Rename => Some(Work::Mixed),
+            Taker::Nothing | Taker::Miss | Taker::Stat | Taker::List => None,
+        }
+    }
+
+    /// Whether a change is one of these, if it is the first of a file's or not.
+    pub fn is_it(self, is_first: bool) -> bool {
+        match self {
+            Taker::Make => is_first,
+            Taker::Unlink => !is_first,
+            _ => true,
+        }
+    }
+}
+
+/// Calls by 1 to this many threads, whose holds of the lock are timed.
+#[derive(Clone, Copy)]
+pub struct HoldTask {
+    pub threads: u64,
+    pub time: Duration,
+    pub json: bool,
+}
+
 /// A race of this many look-ups by this many threads.
 #[derive(Clone, Copy)]
 pub struct RaceTask {
@@ -165,6 +231,7 @@ pub enum Task<'a> {
     Look(LookTask<'a>),
     Change(ChangeTask),
     Waits(WaitTask),
+    Holds(HoldTask),
     Race(RaceTask),
     /// The lines of a tree that is drawn.
     Tree(Shape),
