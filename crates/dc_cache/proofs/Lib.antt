@@ -3,3 +3,5 @@ pub mod Tellings
 pub mod ReadLinks
 pub mod Taken
 pub mod Takes
+pub mod Looking
+pub mod Alongs

@@ -6,3 +6,4 @@ pub mod Holds
 pub mod Fillings
 pub mod Links
 pub mod Losses
+pub mod Trails

@@ -47,6 +47,7 @@
 //! | `look_fast`, `look_text` | never | none | `Again`, with the cause |
 //! | `readlink_fast` | never | none | `Again`, with the cause; `Link` for a link |
 //! | `try_look` | tries once | for rows, as far as there is any | `None` |
+//! | `try_look_along` | tries once | none | `None`, `TooFewPlaces` |
 //! | `try_stat`, `try_shrink` | tries once | none | `None` |
 //! | `try_readlink`, `try_list` | tries once | for the text or the names | `None`, `NoMemory` |
 //! | `try_change`, `try_change_telling` | tries once | for what it makes or moves | `None`, `NoMemory`, `Spent` |
@@ -108,6 +109,7 @@
 //! the others only a call that takes the lock does: `look_missed`, or `try_look`, and both fill the rows.
 #![tactic(auto)]
 
+mod along;
 mod cache;
 mod filler;
 mod gone;
@@ -117,6 +119,7 @@ mod passes;
 mod under_lock;
 mod waits;
 
+pub use along::TooFewPlaces;
 pub use cache::{Cache, Dcache, Ended, NotYet, Pass, Sleepless};
 pub use dc_names::{Kind, Name, NoMemory, Part, PathText, Refusal, TextFault, parse};
 pub use dc_plain::{Call, Flags, Follow, Reply, Sort, Stamped};

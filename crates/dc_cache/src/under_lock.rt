@@ -27,7 +27,11 @@ use std::alloc::Global;
 use std::sync::Wait;
 
 /// Answers a call that alters nothing, whose reply is known.
-fn answer<'t, W: Wakes>(guard: Guard<'t>, call: &Call<'_>, reply: Reply) -> (&'t mut Seat, Stamped)
+pub(crate) fn answer<'t, W: Wakes>(
+    guard: Guard<'t>,
+    call: &Call<'_>,
+    reply: Reply,
+) -> (&'t mut Seat, Stamped)
     requires taken { IsTaken (view (seat_of guard)) }
     requires declines { (limit : ℕ) → DeclinesCall limit (kept_by guard).store call.now reply }
     ensures back { IsBack guard.entry result.0 }
