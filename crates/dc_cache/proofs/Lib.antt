@@ -5,3 +5,5 @@ pub mod Taken
 pub mod Takes
 pub mod Wheres
 pub mod Paged
+pub mod Looking
+pub mod Alongs

@@ -8,3 +8,4 @@ pub mod Links
 pub mod Losses
 pub mod Whereabouts
 pub mod Pages
+pub mod Trails

@@ -47,6 +47,7 @@
 //! | `look_fast`, `look_text` | never | none | `Again`, with the cause |
 //! | `readlink_fast` | never | none | `Again`, with the cause; `Link` for a link |
 //! | `try_look` | tries once | for rows, as far as there is any | `None` |
+//! | `try_look_along` | tries once | none | `None`, `TooFewPlaces` |
 //! | `try_stat`, `try_path_of`, `try_shrink` | tries once | none | `None` |
 //! | `try_readlink`, `try_list` | tries once | for the text or the names | `None`, `NoMemory` |
 //! | `try_entries` | tries once | for the entries | `None`, `NoMemory` |
@@ -110,6 +111,7 @@
 //! the others only a call that takes the lock does: `look_missed`, or `try_look`, and both fill the rows.
 #![tactic(auto)]
 
+mod along;
 mod cache;
 mod entries;
 mod filler;
@@ -121,6 +123,7 @@ mod under_lock;
 mod waits;
 mod whereabouts;
 
+pub use along::TooFewPlaces;
 pub use cache::{Cache, Dcache, Ended, NotYet, Pass, Sleepless};
 pub use dc_names::{Kind, Name, NoMemory, PATH_MAX, Part, PathText, Refusal, TextFault, parse};
 pub use dc_plain::{Call, Flags, Follow, Reply, Sort, Stamped};

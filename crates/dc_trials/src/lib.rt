@@ -35,6 +35,8 @@ mod steps;
 #[cfg(test)]
 mod storms;
 #[cfg(test)]
+mod trails;
+#[cfg(test)]
 mod trying;
 #[cfg(test)]
 mod uses;
