@@ -36,3 +36,5 @@ mod storms;
 mod trying;
 #[cfg(test)]
 mod uses;
+#[cfg(test)]
+mod whereabouts;
