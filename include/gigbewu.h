@@ -21,6 +21,7 @@
  * You want                                     Call
  * to look a path up                            gb_look; gb_look_fast if it may not wait
  * its kind and names; a link's text; a list    gb_stat; gb_readlink; gb_list
+ * the path of a directory, by its number       gb_path_of
  * to change the tree                           gb_mkdir, gb_create, gb_symlink, gb_link, gb_unlink, gb_rmdir, gb_rename
  * the same, but never to wait                  gb_try_stat, gb_try_mkdir, .. (GB_BUSY: another pass has the lock)
  * a pass for one more thread                   gb_pass_split
@@ -91,9 +92,12 @@ enum {
     GB_SPENT = -4,        /* 2^62 changes were made, and no more can be; look-ups go on */
     GB_BAD_SIZE = -5,     /* gb_cache_new, gb_cache_with_names: not those numbers of buckets or inodes */
     GB_BAD_PASS = -6,     /* a blank pass for an open one, an open one for a blank one, or one of another cache */
-    GB_BAD_ARGUMENT = -7, /* `follow` or `flags` is none of the numbers below */
+    GB_BAD_ARGUMENT = -7, /* `follow` or `flags` is none of the numbers below; gb_path_of: less room than it needs */
     GB_NOT_YET = -8       /* gb_learn: not that many changes have been made */
 };
+
+/* The most bytes that a path has, and so the least room of gb_path_of. */
+enum { GB_PATH_MOST = 4095 };
 
 /* What a number names. */
 enum { GB_DIR = 1, GB_FILE = 2, GB_LINK = 3 };
@@ -121,7 +125,7 @@ enum {
  * hold is 0. GB_BAD_PASS and GB_BAD_ARGUMENT leave it as it was, as they do all that a call may write to. */
 struct gb_found {
     uint64_t number; /* what the path leads to; the inode that a change made, or gb_link gave a name; else 0 */
-    uint64_t count;  /* of gb_stat names or entries, of gb_readlink and gb_list bytes; else 0 */
+    uint64_t count;  /* of gb_stat names or entries, of gb_readlink, gb_list and gb_path_of bytes; else 0 */
     uint64_t at;     /* how many changes came before the moment of this answer */
     uint32_t kind;   /* GB_DIR, GB_FILE, GB_LINK; of changes 0 */
     uint32_t why;    /* GB_WHY_NONE, or the cause of GB_AGAIN */
@@ -218,6 +222,16 @@ int gb_try_readlink(struct gb_pass *pass, uint64_t base, const char *path, size_
  * Answers 0, a refusal (ENOTDIR), GB_BUSY, GB_NO_MEMORY, GB_BAD_PASS. */
 int gb_try_list(struct gb_pass *pass, uint64_t base, const char *path, size_t len, char *names, size_t room,
                 struct gb_found *found);
+
+/* Where the directory `number` is: its path from the root, as getcwd tells it, by names alone, without a link, a dot or
+ * a slash at its end; the root's is a slash. Writes it into `path`, which has room for GB_PATH_MOST bytes or more, and
+ * no zero byte behind it. `count` is how many bytes it has. Takes the lock, and no memory. In each directory on the way
+ * the names are looked at one after another, up to the one that leads on, while nobody else has the lock.
+ * Proved: from the root the names lead to that directory, at the moment of the answer. What stands behind the path may
+ * change up to byte GB_PATH_MOST, and no further.
+ * Answers 0 with number and kind, ENOENT if no directory has the number (any more), ENAMETOOLONG if its path has more
+ * than GB_PATH_MOST bytes, GB_BUSY, GB_BAD_PASS, GB_BAD_ARGUMENT if `room` is less than GB_PATH_MOST. */
+int gb_try_path_of(struct gb_pass *pass, uint64_t number, char *path, size_t room, struct gb_found *found);
 
 /* The seven changes. Each first looks up the directory of its name by rows, and then takes the lock: for the name alone
  * if the rows answered. Of gb_try_link that is the new name. Of gb_try_rename it is the old one, and the new one too if
@@ -637,6 +651,13 @@ static inline int gb_list(struct gb_gate *gate, struct gb_pass *pass, uint64_t b
                           char *names, size_t room, struct gb_found *found)
 {
     GB_BLOCKING(gate, gb_try_list(pass, base, path, len, names, room, found));
+}
+
+/* gb_try_path_of. */
+static inline int gb_path_of(struct gb_gate *gate, struct gb_pass *pass, uint64_t number, char *path, size_t room,
+                             struct gb_found *found)
+{
+    GB_BLOCKING(gate, gb_try_path_of(pass, number, path, room, found));
 }
 
 /* gb_try_mkdir. */

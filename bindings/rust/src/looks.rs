@@ -162,6 +162,32 @@ impl Pass {
         Ok(OsString::from_vec(read).into())
     }
 
+    /// Where a directory is: its path from the root at one moment, by names alone, as `getcwd` tells it. ENOENT if no
+    /// directory has the number, ENAMETOOLONG if the path has more than 4,095 bytes. The lock is held while the names in
+    /// each directory on the way are looked at, up to the one that leads on.
+    ///
+    /// ```
+    /// # use gigbewu::{Cache, Replace, ROOT};
+    /// # use std::path::Path;
+    /// # let mut pass = Cache::new(64, 100)?.pass()?;
+    /// pass.mkdir(ROOT, "/a")?;
+    /// let directory = pass.mkdir(ROOT, "/a/b")?.number;
+    /// pass.rename(ROOT, "/a", "/c", Replace::Yes)?;
+    /// assert_eq!(pass.path_of(directory)?, Path::new("/c/b"));
+    /// assert_eq!(pass.path_of(ROOT)?, Path::new("/"));
+    /// # Ok::<(), gigbewu::Error>(())
+    /// ```
+    pub fn path_of(&mut self, number: u64) -> Result<PathBuf, Error> {
+        let mut path = vec![0; LONGEST_TEXT];
+        let to: *mut c_char = path.as_mut_ptr().cast();
+        let found = self.ask(|pass, found| unsafe {
+            raw::gb_try_path_of(pass, number, to, LONGEST_TEXT, found)
+        })?;
+        path.truncate(found.count as usize);
+        path.shrink_to_fit();
+        Ok(OsString::from_vec(path).into())
+    }
+
     /// The names in a directory at one moment, in no promised order, without dot and dot-dot, as bytes. All others wait
     /// until every name is read: with ten million names for seconds.
     ///

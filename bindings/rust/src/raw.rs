@@ -97,6 +97,13 @@ extern "C" {
         room: usize,
         found: *mut Found,
     ) -> c_int;
+    pub fn gb_try_path_of(
+        pass: *mut Pass,
+        number: u64,
+        path: *mut c_char,
+        room: usize,
+        found: *mut Found,
+    ) -> c_int;
     pub fn gb_try_mkdir(
         pass: *mut Pass,
         base: u64,

@@ -11,6 +11,7 @@ mod held;
 mod looks;
 mod parts;
 mod passes;
+mod whereabouts;
 
 pub use changes::{
     gb_try_create, gb_try_link, gb_try_mkdir, gb_try_rename, gb_try_rmdir, gb_try_symlink,
@@ -24,3 +25,4 @@ pub use passes::{
     gb_cache_new, gb_cache_with_names, gb_close, gb_counts, gb_learn, gb_pass_join, gb_pass_split,
     gb_try_shrink,
 };
+pub use whereabouts::gb_try_path_of;

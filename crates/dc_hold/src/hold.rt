@@ -1,11 +1,13 @@
 //! One thread's hold on a cache, for callers that have no runtime.
 
-ghost use Rattle.std.specs.Prelude.{◌≡◌, ◌-◌, ◌^◌, ◌≤◌, ◌↔◌, true, min, IfOk, IfErr, IfSome, IfNone};
+ghost use Rattle.std.specs.Prelude.{◌≡◌, ◌-◌, ◌^◌, ◌<◌, ◌≤◌, ◌↔◌, true, min, IfOk, IfErr, IfSome, IfNone};
 ghost use Rattle.std.specs.Arc.{arc_value};
 ghost use Rattle.dc_cache.specs.Answers.{Answered, Loaded, Made, Told};
 ghost use Rattle.dc_cache.specs.Calls.{look, stat, readlink, list, request_of};
 ghost use Rattle.dc_cache.specs.Losses.{TakesAway};
 ghost use Rattle.dc_cache.specs.Passes.{view, Fits, FoundHeld, IsChange, Shrinks, WalkedAndFoundHeld};
+ghost use Rattle.dc_cache.specs.Whereabouts.{Locates};
+ghost use Rattle.dc_names.specs.declared.limits.TheConstants.{PATH_MAX};
 ghost use Rattle.dc_hold.specs.Allowed.{IsFirst, IsSplit, MayFind, MayReadFast};
 ghost use Rattle.dc_hold.specs.Fitting.{fits_prop};
 ghost use Rattle.dc_hold.specs.Numbers.{status_of_sizes};
@@ -14,7 +16,9 @@ ghost use Rattle.dc_table.specs.Changes.{NothingNew};
 use crate::status::Status;
 use dc_cache::{
     Call, ChangeFault, Fast, FastLink, Follow, Gone, NoMemory, NotYet, Pass, Sleepless, Stamped,
+    Whereabouts,
 };
+use dc_names::PATH_MAX;
 use std::alloc::Global;
 use std::sync::Arc;
 use std::sync::atomic::AtomicU64;
@@ -167,6 +171,19 @@ impl Hold {
         self.common
             .cache
             .try_list(alloc, &mut self.pass, base, path)
+    }
+
+    /// Where a directory is, as `Sleepless::try_path_of`.
+    #[must_use]
+    pub fn try_path_of(&mut self, number: u64, buffer: &mut [u8; PATH_MAX]) -> Option<Whereabouts>
+        ensures told { IfSome result (Locates self.old.pass self.new.pass number buffer.new) }
+        ensures within { IfSome result (λ told. IfOk told.start (λ start. start < PATH_MAX)) }
+        ensures held { IfNone result (FoundHeld self.old.pass self.new.pass
+            × (buffer.new ≡ buffer.old)) }
+    {
+        self.common
+            .cache
+            .try_path_of(&mut self.pass, number, buffer)
     }
 
     /// Makes a change, as `Sleepless::try_change`.

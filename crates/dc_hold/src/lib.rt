@@ -10,6 +10,7 @@ mod buffer;
 mod hold;
 mod status;
 mod told;
+mod whereabouts;
 
 pub use asked::{flags_of, follow_of};
 pub use buffer::{put_names, put_text};
@@ -18,3 +19,4 @@ pub use status::Status;
 pub use told::{
     Found, Gone, Told, told_change, told_fast, told_gone, told_link, told_read, told_tried,
 };
+pub use whereabouts::{put_path, told_where};

@@ -46,7 +46,7 @@ pub struct Told {
 }
 
 /// The number of a kind in C.
-fn kind_number(kind: Kind) -> u32
+pub(crate) fn kind_number(kind: Kind) -> u32
     ensures { result ≡ kind_number kind }
 {
     match kind {
@@ -88,14 +88,14 @@ fn nothing(status: Status) -> Told
 }
 
 /// Another pass had the lock.
-fn busy() -> Told
+pub(crate) fn busy() -> Told
     ensures { result ≡ nothing Status.Busy }
 {
     nothing(Status::Busy)
 }
 
 /// An answer that names an inode.
-fn inode(number: u64, kind: u32, count: u64, at: u64) -> Told
+pub(crate) fn inode(number: u64, kind: u32, count: u64, at: u64) -> Told
     ensures { result ≡ record {
       status = Status.Done;
       found = record { number = number; count = count; at = at; kind = kind; why = 0 };

@@ -40,3 +40,5 @@ mod trails;
 mod trying;
 #[cfg(test)]
 mod uses;
+#[cfg(test)]
+mod whereabouts;
