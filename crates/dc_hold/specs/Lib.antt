@@ -4,3 +4,4 @@ pub mod Tells
 pub mod Fitting
 pub mod Buffers
 pub mod Allowed
+pub mod Pages
