@@ -101,6 +101,12 @@ static int list(void)
     return gb_try_list(&pass, ROOT, "/directory", 10, names, 0, &found);
 }
 
+static int entries(void)
+{
+    struct gb_entry page[1];
+    return gb_try_entries(&pass, ROOT, "/directory", 10, "", 0, page, 1, &found);
+}
+
 static uint64_t changes_made(void)
 {
     uint64_t clock = 0;
@@ -173,6 +179,7 @@ int main(void)
     look_without_memory();
     refuse_each("readlink", readlink);
     refuse_each("list", list);
+    refuse_each("entries", entries);
     refuse_each("rename", rename_file);
     must(refused > 0, "no allocation was seen");
     take_no_memory();

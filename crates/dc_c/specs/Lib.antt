@@ -3,3 +3,4 @@ pub mod Owned
 pub mod Holding
 pub mod Answering
 pub mod Shapes
+pub mod Pages
