@@ -22,6 +22,7 @@
  * to look a path up                            gb_look; gb_look_fast if it may not wait
  * its kind and names; a link's text; a list    gb_stat; gb_readlink; gb_list
  * the path of a directory, by its number       gb_path_of
+ * a large directory, some entries at a time    gb_entries
  * to change the tree                           gb_mkdir, gb_create, gb_symlink, gb_link, gb_unlink, gb_rmdir, gb_rename
  * the same, but never to wait                  gb_try_stat, gb_try_mkdir, .. (GB_BUSY: another pass has the lock)
  * a pass for one more thread                   gb_pass_split
@@ -92,7 +93,7 @@ enum {
     GB_SPENT = -4,        /* 2^62 changes were made, and no more can be; look-ups go on */
     GB_BAD_SIZE = -5,     /* gb_cache_new, gb_cache_with_names: not those numbers of buckets or inodes */
     GB_BAD_PASS = -6,     /* a blank pass for an open one, an open one for a blank one, or one of another cache */
-    GB_BAD_ARGUMENT = -7, /* `follow` or `flags` is none of the numbers below; gb_path_of: less room than it needs */
+    GB_BAD_ARGUMENT = -7, /* `follow` or `flags` is none of the numbers below; too little room; no name */
     GB_NOT_YET = -8       /* gb_learn: not that many changes have been made */
 };
 
@@ -125,10 +126,18 @@ enum {
  * hold is 0. GB_BAD_PASS and GB_BAD_ARGUMENT leave it as it was, as they do all that a call may write to. */
 struct gb_found {
     uint64_t number; /* what the path leads to; the inode that a change made, or gb_link gave a name; else 0 */
-    uint64_t count;  /* of gb_stat names or entries, of gb_readlink, gb_list and gb_path_of bytes; else 0 */
+    uint64_t count;  /* of gb_stat, gb_entries names or entries, of gb_readlink, gb_list, gb_path_of bytes; else 0 */
     uint64_t at;     /* how many changes came before the moment of this answer */
     uint32_t kind;   /* GB_DIR, GB_FILE, GB_LINK; of changes 0 */
     uint32_t why;    /* GB_WHY_NONE, or the cause of GB_AGAIN */
+};
+
+/* An entry of a directory, as gb_entries writes it: 272 bytes, whatever the length of its name. */
+struct gb_entry {
+    uint64_t number; /* the inode that the name leads to */
+    uint32_t kind;   /* GB_DIR, GB_FILE, GB_LINK */
+    uint32_t length; /* how many bytes the name has, at most 255 */
+    char name[256];  /* the name, with zero bytes behind it */
 };
 
 /* What a change took away, so that you can let go of what you keep by inode number: the number and kind of what stood
@@ -232,6 +241,19 @@ int gb_try_list(struct gb_pass *pass, uint64_t base, const char *path, size_t le
  * Answers 0 with number and kind, ENOENT if no directory has the number (any more), ENAMETOOLONG if its path has more
  * than GB_PATH_MOST bytes, GB_BUSY, GB_BAD_PASS, GB_BAD_ARGUMENT if `room` is less than GB_PATH_MOST. */
 int gb_try_path_of(struct gb_pass *pass, uint64_t number, char *path, size_t room, struct gb_found *found);
+
+/* Entries of a directory, each with its number and kind, without dot and dot-dot: those behind the name `after`, or all
+ * if `after_len` is 0. Writes the first `room` of them, or all if there are fewer, and `count` is how many it wrote. To
+ * read a directory, call again with the last name that was written, until `count` is less than `room`; the name needn't
+ * stand there any more. Such a run tells each name that stands in the directory throughout once, whatever else comes
+ * and goes meanwhile. Number and kind that are found are those of the directory. Takes the lock, and memory for the
+ * entries, for no longer than the call.
+ * Proved: the entries of one call are those of one moment, in the order of hashes, the first ones behind `after`, and
+ * they are written one after the other from the first on. The rest of `entries` is as it was.
+ * Answers 0, a refusal (ENOTDIR), GB_BUSY, GB_NO_MEMORY, GB_BAD_PASS, GB_BAD_ARGUMENT if `room` is 0, or if `after` has
+ * bytes that are no name: more than 255, a slash or a zero byte among them, a dot or two dots. */
+int gb_try_entries(struct gb_pass *pass, uint64_t base, const char *path, size_t len, const char *after,
+                   size_t after_len, struct gb_entry *entries, size_t room, struct gb_found *found);
 
 /* The seven changes. Each first looks up the directory of its name by rows, and then takes the lock: for the name alone
  * if the rows answered. Of gb_try_link that is the new name. Of gb_try_rename it is the old one, and the new one too if
@@ -658,6 +680,14 @@ static inline int gb_path_of(struct gb_gate *gate, struct gb_pass *pass, uint64_
                              struct gb_found *found)
 {
     GB_BLOCKING(gate, gb_try_path_of(pass, number, path, room, found));
+}
+
+/* gb_try_entries. */
+static inline int gb_entries(struct gb_gate *gate, struct gb_pass *pass, uint64_t base, const char *path, size_t len,
+                             const char *after, size_t after_len, struct gb_entry *entries, size_t room,
+                             struct gb_found *found)
+{
+    GB_BLOCKING(gate, gb_try_entries(pass, base, path, len, after, after_len, entries, room, found));
 }
 
 /* gb_try_mkdir. */

@@ -14,6 +14,7 @@ static struct gb_pass pass;
 static struct gb_found found;
 static struct gb_gone gone;
 static char bytes[3];
+static struct gb_entry entries[1];
 static uint64_t emptied;
 static const char path[] = "p", other[] = "o";
 static int wrong, sleeps;
@@ -78,6 +79,17 @@ int gb_try_list(struct gb_pass *pass, uint64_t base, const char *path, size_t le
                 struct gb_found *found)
 {
     CALL("list", base, WORD(path), len, WORD(names), room, WORD(found));
+}
+
+int gb_try_entries(struct gb_pass *pass, uint64_t base, const char *path, size_t len, const char *after,
+                   size_t after_len, struct gb_entry *entries, size_t room, struct gb_found *found)
+{
+    CALL("entries", base, WORD(path), len, WORD(after), after_len, WORD(entries), room, WORD(found));
+}
+
+int gb_try_path_of(struct gb_pass *pass, uint64_t number, char *path, size_t room, struct gb_found *found)
+{
+    CALL("path_of", number, WORD(path), room, WORD(found));
 }
 
 int gb_try_mkdir(struct gb_pass *pass, uint64_t base, const char *path, size_t len, struct gb_found *found)
@@ -167,6 +179,9 @@ static void try_forms(void)
     TRY(gb_readlink, "readlink", (&gate, &pass, 2, path, 3, bytes, 4, &found), 2, WORD(path), 3, WORD(bytes), 4,
         WORD(&found));
     TRY(gb_list, "list", (&gate, &pass, 2, path, 3, bytes, 4, &found), 2, WORD(path), 3, WORD(bytes), 4, WORD(&found));
+    TRY(gb_entries, "entries", (&gate, &pass, 2, path, 3, other, 4, entries, 5, &found), 2, WORD(path), 3, WORD(other), 4,
+        WORD(entries), 5, WORD(&found));
+    TRY(gb_path_of, "path_of", (&gate, &pass, 2, bytes, 3, &found), 2, WORD(bytes), 3, WORD(&found));
     TRY(gb_mkdir, "mkdir", (&gate, &pass, 2, path, 3, &found), 2, WORD(path), 3, WORD(&found));
     TRY(gb_create, "create", (&gate, &pass, 2, path, 3, &found), 2, WORD(path), 3, WORD(&found));
     TRY(gb_symlink, "symlink", (&gate, &pass, 2, other, 3, path, 4, &found), 2, WORD(other), 3, WORD(path), 4,

@@ -101,6 +101,12 @@ static int list(void)
     return gb_try_list(&pass, ROOT, "/directory", 10, names, 0, &found);
 }
 
+static int entries(void)
+{
+    struct gb_entry page[1];
+    return gb_try_entries(&pass, ROOT, "/directory", 10, "", 0, page, 1, &found);
+}
+
 static uint64_t changes_made(void)
 {
     uint64_t clock = 0;
@@ -146,6 +152,7 @@ static void must_ask_for_none(int answer, int wanted, const char *what)
 
 static void take_no_memory(void)
 {
+    static char path[GB_PATH_MOST];
     uint64_t number;
     must(gb_try_look(&pass, ROOT, "/link", 5, GB_FOLLOW, &found) == 0, "rows of a link");
     asked = 0;
@@ -155,6 +162,7 @@ static void take_no_memory(void)
     must_ask_for_none(gb_readlink_fast(&pass, ROOT, "/link", 5, &found), 0, "readlink_fast");
     must_ask_for_none(gb_readlink_fast(&pass, ROOT, "/directory", 10, &found), EINVAL, "readlink_fast of a directory");
     must_ask_for_none(gb_try_stat(&pass, ROOT, "/link", 5, &found), 0, "stat");
+    must_ask_for_none(gb_try_path_of(&pass, ROOT, path, sizeof path, &found), 0, "path_of");
     must_ask_for_none(gb_learn(&pass, 0, &number), 0, "learn");
     must_ask_for_none(gb_counts(&pass, &number), 0, "counts");
     must_ask_for_none(gb_try_shrink(&pass, UINT64_MAX, &number), 0, "shrink");
@@ -173,6 +181,7 @@ int main(void)
     look_without_memory();
     refuse_each("readlink", readlink);
     refuse_each("list", list);
+    refuse_each("entries", entries);
     refuse_each("rename", rename_file);
     must(refused > 0, "no allocation was seen");
     take_no_memory();

@@ -21,7 +21,7 @@ pub enum Kind {
 }
 
 impl Kind {
-    fn of(code: u32) -> Kind {
+    pub(crate) fn of(code: u32) -> Kind {
         match code {
             1 => Kind::Dir,
             2 => Kind::File,

@@ -40,8 +40,8 @@
 //! once, up to 16. Passes that were dropped are handed out again, which takes some 0.1 microseconds; no more than 64 are
 //! there at once.
 //!
-//! Beside the call of the library, this crate copies the answer alone; [`Pass::readlink`], [`Pass::list`] and
-//! [`Pass::read_dir`] take memory for it. A call that may wait also loads two numbers before it and one after it, which
+//! Beside the call of the library, this crate copies the answer alone; [`Pass::readlink`], [`Pass::list`],
+//! [`Pass::read_dir`] and [`Pass::entries`] take memory for it. A call that may wait also loads two numbers before it and one after it, which
 //! tell whether threads sleep.
 //!
 //! # What can't be written
@@ -83,6 +83,7 @@ compile_error!("gigbewu is for Linux: refusals have its numbers");
 mod answer;
 mod cache;
 mod changes;
+mod entries;
 mod error;
 mod gate;
 mod looks;
@@ -95,6 +96,7 @@ mod spares;
 pub use answer::{Done, Found, Gone, Kind, Looks, Made, Stat};
 pub use cache::Cache;
 pub use changes::Replace;
+pub use entries::{Entries, Entry};
 pub use error::{Error, Why};
 pub use looks::Follow;
 pub use names::{Iter, Names, ReadDir};

@@ -34,6 +34,29 @@ pub struct Found {
 }
 
 #[repr(C)]
+#[derive(Clone, Copy, Debug)]
+pub struct Entry {
+    pub number: u64,
+    pub kind: u32,
+    pub length: u32,
+    pub name: [u8; 256],
+}
+
+impl Entry {
+    pub const EMPTY: Entry = Entry {
+        number: 0,
+        kind: 0,
+        length: 0,
+        name: [0; 256],
+    };
+
+    /// The bytes of its name.
+    pub fn bytes(&self) -> &[u8] {
+        &self.name[..self.length as usize]
+    }
+}
+
+#[repr(C)]
 #[derive(Default)]
 pub struct Gone {
     pub number: u64,
@@ -101,6 +124,17 @@ extern "C" {
         pass: *mut Pass,
         number: u64,
         path: *mut c_char,
+        room: usize,
+        found: *mut Found,
+    ) -> c_int;
+    pub fn gb_try_entries(
+        pass: *mut Pass,
+        base: u64,
+        path: Path,
+        len: usize,
+        after: Path,
+        after_len: usize,
+        entries: *mut Entry,
         room: usize,
         found: *mut Found,
     ) -> c_int;

@@ -56,6 +56,12 @@ fn long_lists() -> Result<(), Error> {
     told.sort_unstable();
     assert!(told.iter().copied().eq(made.iter().map(String::as_bytes)));
     assert_eq!((names.at(), names.is_empty()), (1_000, false));
+    let mut paged = Vec::new();
+    for entry in pass.entries(ROOT, "/")? {
+        paged.push(entry?.name.into_string().unwrap());
+    }
+    paged.sort_unstable();
+    assert_eq!(paged, made);
     let mut owned: Vec<_> = pass.read_dir(ROOT, "/")?.collect();
     owned.sort();
     assert!(owned

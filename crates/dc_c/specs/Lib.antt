@@ -4,3 +4,4 @@ pub mod Holding
 pub mod Answering
 pub mod Shapes
 pub mod Whereabouts
+pub mod Pages

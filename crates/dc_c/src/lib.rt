@@ -6,6 +6,7 @@
 #![tactic(auto)]
 
 mod changes;
+mod entries;
 mod handle;
 mod held;
 mod looks;
@@ -17,6 +18,7 @@ pub use changes::{
     gb_try_create, gb_try_link, gb_try_mkdir, gb_try_rename, gb_try_rmdir, gb_try_symlink,
     gb_try_unlink,
 };
+pub use entries::gb_try_entries;
 pub use handle::Handle;
 pub use looks::{
     gb_look_fast, gb_readlink_fast, gb_try_list, gb_try_look, gb_try_readlink, gb_try_stat,

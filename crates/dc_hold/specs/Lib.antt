@@ -5,3 +5,4 @@ pub mod Fitting
 pub mod Buffers
 pub mod Allowed
 pub mod Whereabouts
+pub mod Pages

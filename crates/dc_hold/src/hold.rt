@@ -5,6 +5,7 @@ ghost use Rattle.std.specs.Arc.{arc_value};
 ghost use Rattle.dc_cache.specs.Answers.{Answered, Loaded, Made, Told};
 ghost use Rattle.dc_cache.specs.Calls.{look, stat, readlink, list, request_of};
 ghost use Rattle.dc_cache.specs.Losses.{TakesAway};
+ghost use Rattle.dc_cache.specs.Pages.{asked_for, ToldPage};
 ghost use Rattle.dc_cache.specs.Passes.{view, Fits, FoundHeld, IsChange, Shrinks, WalkedAndFoundHeld};
 ghost use Rattle.dc_cache.specs.Whereabouts.{Locates};
 ghost use Rattle.dc_names.specs.declared.limits.TheConstants.{PATH_MAX};
@@ -15,8 +16,8 @@ ghost use Rattle.dc_table.specs.Changes.{NothingNew};
 
 use crate::status::Status;
 use dc_cache::{
-    Call, ChangeFault, Fast, FastLink, Follow, Gone, NoMemory, NotYet, Pass, Sleepless, Stamped,
-    Whereabouts,
+    Call, ChangeFault, Entries, Entry, Fast, FastLink, Follow, Gone, NoMemory, NotYet, Pass,
+    Sleepless, Stamped, Whereabouts,
 };
 use dc_names::PATH_MAX;
 use std::alloc::Global;
@@ -155,6 +156,19 @@ impl Hold {
         self.common
             .cache
             .try_readlink(alloc, &mut self.pass, base, path)
+    }
+
+    /// A page of the entries of a directory, as `Sleepless::try_entries`.
+    #[must_use]
+    pub fn try_entries(
+        &mut self,
+        alloc: Global,
+        asked: Entries<'_>,
+    ) -> Option<Result<(Stamped, Vec<Entry>), NoMemory>>
+        ensures told { IfSome result (ToldPage self.old.pass self.new.pass (asked_for asked.entry)) }
+        ensures held { IfNone result (FoundHeld self.old.pass self.new.pass) }
+    {
+        self.common.cache.try_entries(alloc, &mut self.pass, asked)
     }
 
     /// The names in a directory, as `Sleepless::try_list`.

@@ -8,6 +8,7 @@
 mod asked;
 mod buffer;
 mod hold;
+mod pages;
 mod status;
 mod told;
 mod whereabouts;
@@ -15,6 +16,7 @@ mod whereabouts;
 pub use asked::{flags_of, follow_of};
 pub use buffer::{put_names, put_text};
 pub use hold::Hold;
+pub use pages::{DirEntry, NAME_ROOM, asked_page, told_page};
 pub use status::Status;
 pub use told::{
     Found, Gone, Told, told_change, told_fast, told_gone, told_link, told_read, told_tried,

@@ -71,7 +71,7 @@ fn why_number(why: &Why) -> u32
 }
 
 /// An end at which nothing is found.
-fn nothing(status: Status) -> Told
+pub(crate) fn nothing(status: Status) -> Told
     ensures { result ≡ record {
       status = status;
       found = record { number = 0; count = 0; at = 0; kind = 0; why = 0 };
@@ -115,7 +115,7 @@ pub(crate) fn inode(number: u64, kind: u32, count: u64, at: u64) -> Told
 }
 
 /// What an answer says. Of names it says no count.
-fn told_stamped(stamped: &Stamped) -> Told
+pub(crate) fn told_stamped(stamped: &Stamped) -> Told
     ensures { result ≡ told_by stamped.now }
 {
     let at = stamped.at;
