@@ -106,7 +106,8 @@ fn is_put(hold: &mut Hold) -> bool {
         kind: 1,
         why: 0,
     };
-    told.status == Status::Done && told.found == want && buffer[..3] == *b"/ab"
+    let path: &[u8] = b"/ab";
+    told.status == Status::Done && told.found == want && buffer[..3] == path[..]
 }
 
 /// Whether a hold refuses a number that nothing has, and its buffer stays.
