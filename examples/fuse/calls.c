@@ -1,6 +1,9 @@
 /* What the kernel asks of the file system, each by a call of libfuse's. */
 #define FUSE_USE_VERSION 31
 #include "calls.h"
+#include "attributes.h"
+#include "listings.h"
+#include "modes.h"
 #include "tree.h"
 #include <errno.h>
 #include <fuse_lowlevel.h>
@@ -10,35 +13,6 @@
 #include <stdlib.h>
 #include <string.h>
 #include <sys/statvfs.h>
-
-/* What the kernel is told of a body. */
-
-static void attributes_of(struct body *body, struct stat *attributes)
-{
-    memset(attributes, 0, sizeof *attributes);
-    pthread_mutex_lock(&body->lock);
-    attributes->st_ino = body->number;
-    attributes->st_mode = body->mode;
-    attributes->st_nlink = body->names;
-    attributes->st_uid = body->owner;
-    attributes->st_gid = body->group;
-    attributes->st_size = (off_t)body->size;
-    attributes->st_blocks = (blkcnt_t)(body->pages.blocks * (PAGE / 512));
-    attributes->st_blksize = PAGE;
-    attributes->st_atim = body->read;
-    attributes->st_mtim = body->written;
-    attributes->st_ctim = body->changed;
-    pthread_mutex_unlock(&body->lock);
-}
-
-static struct fuse_entry_param entry_of(struct body *body)
-{
-    struct fuse_entry_param entry;
-    memset(&entry, 0, sizeof entry);
-    entry.ino = body->number;
-    attributes_of(body, &entry.attr);
-    return entry;
-}
 
 /* The caller's use of the body becomes the kernel's, until that forgets it. */
 static void reply_body(fuse_req_t request, struct body *body)
@@ -59,7 +33,9 @@ static void reply(fuse_req_t request, int answer, struct body *body)
 static void fs_lookup(fuse_req_t request, fuse_ino_t parent, const char *name)
 {
     struct body *body;
-    int answer = tree_look(parent, name, &body);
+    int answer = modes_search(request, parent);
+    if (answer == 0)
+        answer = tree_look(parent, name, &body);
     reply(request, answer, body);
 }
 
@@ -97,35 +73,16 @@ static void fs_getattr(fuse_req_t request, fuse_ino_t number, struct fuse_file_i
     fuse_reply_attr(request, &attributes, 0);
 }
 
-static struct timespec time_of(struct timespec was, struct timespec wanted, int is_set, int is_now)
-{
-    if (is_now)
-        return now();
-    return is_set ? wanted : was;
-}
-
-static void set_attributes(struct body *body, const struct stat *wanted, int set)
-{
-    pthread_mutex_lock(&body->lock);
-    if (set & FUSE_SET_ATTR_MODE)
-        body->mode = (body->mode & S_IFMT) | (wanted->st_mode & 07777);
-    if (set & FUSE_SET_ATTR_UID)
-        body->owner = wanted->st_uid;
-    if (set & FUSE_SET_ATTR_GID)
-        body->group = wanted->st_gid;
-    if (set & FUSE_SET_ATTR_SIZE)
-        body_resize(body, (uint64_t)wanted->st_size);
-    body->read = time_of(body->read, wanted->st_atim, set & FUSE_SET_ATTR_ATIME, set & FUSE_SET_ATTR_ATIME_NOW);
-    body->written = time_of(body->written, wanted->st_mtim, set & FUSE_SET_ATTR_MTIME, set & FUSE_SET_ATTR_MTIME_NOW);
-    body->changed = now();
-    pthread_mutex_unlock(&body->lock);
-}
-
 static void fs_setattr(fuse_req_t request, fuse_ino_t number, struct stat *wanted, int set, struct fuse_file_info *file)
 {
-    struct body *body = body_of(number);
+    int answer = modes_set(request, number, wanted, set, file);
+    struct body *body = answer == 0 ? body_of(number) : NULL;
+    if (answer != 0) {
+        fuse_reply_err(request, answer);
+        return;
+    }
     if (body) {
-        set_attributes(body, wanted, set);
+        set_attributes(body, wanted, set, fuse_req_ctx(request)->uid);
         body_let_go(body, 1, false);
     }
     fs_getattr(request, number, file);
@@ -137,7 +94,8 @@ static int make(fuse_req_t request, mode_t mode, uint64_t parent, const char *na
                 struct body **body)
 {
     const struct fuse_ctx *caller = fuse_req_ctx(request);
-    return tree_make(mode, caller->uid, caller->gid, parent, name, text, body);
+    int answer = modes_make(request, parent);
+    return answer != 0 ? answer : tree_make(mode, caller->uid, caller->gid, parent, name, text, body);
 }
 
 static void make_and_reply(fuse_req_t request, mode_t mode, uint64_t parent, const char *name, const char *text)
@@ -196,24 +154,29 @@ static void fs_create(fuse_req_t request, fuse_ino_t parent, const char *name, m
 
 static void fs_unlink(fuse_req_t request, fuse_ino_t parent, const char *name)
 {
-    fuse_reply_err(request, tree_unlink(parent, name));
+    int answer = modes_take(request, parent, name);
+    fuse_reply_err(request, answer != 0 ? answer : tree_unlink(parent, name));
 }
 
 static void fs_rmdir(fuse_req_t request, fuse_ino_t parent, const char *name)
 {
-    fuse_reply_err(request, tree_rmdir(parent, name));
+    int answer = modes_take(request, parent, name);
+    fuse_reply_err(request, answer != 0 ? answer : tree_rmdir(parent, name));
 }
 
 static void fs_rename(fuse_req_t request, fuse_ino_t old_parent, const char *old_name, fuse_ino_t parent, const char *name,
                       unsigned flags)
 {
-    fuse_reply_err(request, tree_rename(old_parent, old_name, parent, name, flags));
+    int answer = modes_move(request, old_parent, old_name, parent, name, flags);
+    fuse_reply_err(request, answer != 0 ? answer : tree_rename(old_parent, old_name, parent, name, flags));
 }
 
 static void fs_link(fuse_req_t request, fuse_ino_t number, fuse_ino_t parent, const char *name)
 {
     struct body *body;
-    int answer = tree_link(number, parent, name, &body);
+    int answer = modes_make(request, parent);
+    if (answer == 0)
+        answer = tree_link(number, parent, name, &body);
     reply(request, answer, body);
 }
 
@@ -230,105 +193,6 @@ static void fs_readlink(fuse_req_t request, fuse_ino_t number)
     tree_readlink(body, text);
     body_let_go(body, 1, false);
     fuse_reply_readlink(request, text);
-}
-
-/* An open directory: its names as they were when it was last read from its beginning. */
-struct listing {
-    char *names;
-    size_t size;
-};
-
-static struct listing *listing_in(const struct fuse_file_info *file)
-{
-    return (struct listing *)(uintptr_t)file->fh;
-}
-
-static void free_listing(struct listing *listing)
-{
-    free(listing->names);
-    free(listing);
-}
-
-static void fs_opendir(fuse_req_t request, fuse_ino_t number, struct fuse_file_info *file)
-{
-    struct listing *listing = calloc(1, sizeof *listing);
-    (void)number;
-    if (!listing) {
-        fuse_reply_err(request, ENOMEM);
-        return;
-    }
-    file->fh = (uintptr_t)listing;
-    if (fuse_reply_open(request, file) != 0)
-        free_listing(listing);
-}
-
-static void fs_releasedir(fuse_req_t request, fuse_ino_t number, struct fuse_file_info *file)
-{
-    (void)number;
-    free_listing(listing_in(file));
-    fuse_reply_err(request, 0);
-}
-
-/* A reply of entries, and how much room it still has. */
-struct entries {
-    fuse_req_t request;
-    char *bytes;
-    size_t size, used;
-};
-
-/* Whether there was room for it. Its kind isn't told, and its number only of dot. */
-static int add(struct entries *entries, const char *name, uint64_t number, off_t behind)
-{
-    struct stat attributes = {.st_ino = number};
-    size_t left = entries->size - entries->used;
-    size_t takes = fuse_add_direntry(entries->request, entries->bytes + entries->used, left, name, &attributes, behind);
-    if (takes > left)
-        return 0;
-    entries->used += takes;
-    return 1;
-}
-
-/* Behind dot the offset is 1, behind dot-dot 2, and behind a name 2 more than where the next one begins. */
-static void add_from(struct entries *entries, const struct listing *listing, uint64_t number, off_t from)
-{
-    const uint64_t unknown = UINT32_MAX;
-    if (from == 0 && !add(entries, ".", number, 1))
-        return;
-    if (from < 2 && !add(entries, "..", unknown, 2))
-        return;
-    for (size_t at = from < 2 ? 0 : (size_t)from - 2; at < listing->size;) {
-        const char *name = listing->names + at;
-        at += strlen(name) + 1;
-        if (!add(entries, name, unknown, (off_t)at + 2))
-            return;
-    }
-}
-
-static int read_anew(struct listing *listing, uint64_t directory)
-{
-    char *names;
-    int answer = tree_list(directory, &names, &listing->size);
-    if (answer != 0)
-        return answer;
-    free(listing->names);
-    listing->names = names;
-    return 0;
-}
-
-static void fs_readdir(fuse_req_t request, fuse_ino_t number, size_t size, off_t from, struct fuse_file_info *file)
-{
-    struct listing *listing = listing_in(file);
-    struct entries entries = {request, malloc(size), size, 0};
-    int answer = entries.bytes ? 0 : ENOMEM;
-    if (answer == 0 && from == 0)
-        answer = read_anew(listing, number);
-    if (answer == 0) {
-        add_from(&entries, listing, number, from);
-        fuse_reply_buf(request, entries.bytes, entries.used);
-    } else {
-        fuse_reply_err(request, answer);
-    }
-    free(entries.bytes);
 }
 
 /* Files are as many as the cache was made for. */
@@ -352,19 +216,27 @@ static void fs_statfs(fuse_req_t request, fuse_ino_t number)
 
 static void fs_open(fuse_req_t request, fuse_ino_t number, struct fuse_file_info *file)
 {
-    struct body *body = body_of(number);
+    int answer = modes_open(request, number, file->flags);
+    struct body *body = answer == 0 ? body_of(number) : NULL;
     if (!body) {
-        fuse_reply_err(request, ESTALE);
+        fuse_reply_err(request, answer != 0 ? answer : ESTALE);
         return;
     }
     if (file->flags & O_TRUNC) {
         pthread_mutex_lock(&body->lock);
+        written_by(body, fuse_req_ctx(request)->uid);
         body_resize(body, 0);
         pthread_mutex_unlock(&body->lock);
     }
     file->fh = (uintptr_t)body;
     if (fuse_reply_open(request, file) != 0)
         body_let_go(body, 1, false);
+}
+
+/* If modes aren't tested, the kernel needn't ask again. */
+static void fs_access(fuse_req_t request, fuse_ino_t number, int mask)
+{
+    fuse_reply_err(request, modes_are_tested() ? modes_access(request, number, mask) : ENOSYS);
 }
 
 static void fs_release(fuse_req_t request, fuse_ino_t number, struct fuse_file_info *file)
@@ -401,8 +273,10 @@ static void fs_write(fuse_req_t request, fuse_ino_t number, const char *bytes, s
     pthread_mutex_lock(&body->lock);
     size_t written = pages_write(&body->pages, bytes, count, (uint64_t)at);
     uint64_t end = (uint64_t)at + written;
-    if (written > 0)
+    if (written > 0) {
+        written_by(body, fuse_req_ctx(request)->uid);
         body_resize(body, end > body->size ? end : body->size);
+    }
     if (written < count)
         pages_cut(&body->pages, body->size);
     body->changed = now();
@@ -418,6 +292,7 @@ static void fs_write(fuse_req_t request, fuse_ino_t number, const char *bytes, s
 void tell(void)
 {
     tree_tell();
+    modes_tell();
     fprintf(stderr, "pages: %llu; inodes: %ld\n", (unsigned long long)pages_used(), bodies_count());
 }
 
@@ -429,10 +304,12 @@ static void *tell_at(void *signals)
     return NULL;
 }
 
+/* The kernel walks a name that it keeps without a question, so it is to keep none if modes are tested here. */
 static void fs_init(void *signals, struct fuse_conn_info *connection)
 {
     pthread_t teller;
-    (void)connection;
+    if (modes_are_tested())
+        connection->want &= ~(unsigned)FUSE_CAP_READDIRPLUS;
     if (pthread_create(&teller, NULL, tell_at, signals) == 0)
         pthread_detach(teller);
 }
@@ -455,9 +332,11 @@ const struct fuse_lowlevel_ops calls = {
     .readlink = fs_readlink,
     .opendir = fs_opendir,
     .readdir = fs_readdir,
+    .readdirplus = fs_readdirplus,
     .releasedir = fs_releasedir,
     .statfs = fs_statfs,
     .open = fs_open,
+    .access = fs_access,
     .release = fs_release,
     .read = fs_read,
     .write = fs_write,

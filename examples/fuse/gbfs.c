@@ -1,20 +1,23 @@
 /* A file system in memory whose names and tree are Gigbewu's, mounted by libfuse3.
  *
- * usage: gbfs [-o size=BYTES] [libfuse's options] MOUNTPOINT
+ * usage: gbfs [-o size=BYTES] [-o permissions] [libfuse's options] MOUNTPOINT
  *
- * The kernel asks for one name in a directory at a time, by the directory's inode number, and is told to keep none: so
- * each name on a path is a look-up here, first by rows alone, and if these don't answer under the lock. What the tree
- * doesn't keep is in bodies (bodies.c). A body stays as long as the kernel may ask for its number, also without a name.
+ * The kernel asks for one name in a directory at a time, by the directory's inode number, and is told to keep none, but for
+ * those of a listing (listings.c): so each name on a path is a look-up here, first by rows alone, and if these don't answer
+ * under the lock. What the tree doesn't keep is in bodies (bodies.c). A body stays as long as the kernel may ask for its
+ * number, also without a name.
  *
  * Of the library's calls with two paths both start in one directory, while the kernel names two. So a rename or a link
  * is made from the nearest directory above both (ways.c), and no two of them at once. No other lock of this program is
  * held over a call of the library: what a change took away, the library tells.
  *
  * All files together may have half as many bytes as the machine has memory, or as `size` says, in bytes or with k, m or g
- * behind it. SIGUSR1 makes it tell how look-ups were answered, as it does at its end.
+ * behind it. Owners and modes are tested by the kernel with libfuse's option default_permissions, here with `permissions`
+ * (modes.c), and else by nobody: then mount it for yourself alone. SIGUSR1 makes it tell how look-ups were answered, as it does at its end.
  */
 #define FUSE_USE_VERSION 31
 #include "calls.h"
+#include "modes.h"
 #include "tree.h"
 #include <gigbewu.h>
 #include <signal.h>
@@ -72,7 +75,7 @@ static int serve(struct fuse_session *session, const struct fuse_cmdline_opts *o
 
 static void help(const char *program)
 {
-    printf("usage: %s [-o size=BYTES] [options] MOUNTPOINT\n", program);
+    printf("usage: %s [-o size=BYTES] [-o permissions] [options] MOUNTPOINT\n", program);
     fuse_cmdline_help();
     fuse_lowlevel_help();
 }
@@ -83,8 +86,11 @@ int main(int count, char **words)
     struct fuse_cmdline_opts options;
     struct settings {
         char *size;
-    } settings = {NULL};
-    const struct fuse_opt known[] = {{"size=%s", offsetof(struct settings, size), 0}, FUSE_OPT_END};
+        int permissions;
+    } settings = {NULL, 0};
+    const struct fuse_opt known[] = {{"size=%s", offsetof(struct settings, size), 0},
+                                     {"permissions", offsetof(struct settings, permissions), 1},
+                                     FUSE_OPT_END};
     sigset_t signals;
     if (fuse_opt_parse(&arguments, &settings, known, NULL) != 0 || fuse_parse_cmdline(&arguments, &options) != 0)
         return 2;
@@ -95,6 +101,8 @@ int main(int count, char **words)
     sigemptyset(&signals);
     sigaddset(&signals, SIGUSR1);
     pthread_sigmask(SIG_BLOCK, &signals, NULL);
+    if (settings.permissions)
+        modes_begin();
     int status = begin(settings.size);
     if (status != 0)
         return status;

@@ -8,13 +8,16 @@
 #include <string.h>
 
 /* Two rows for each inode that may live: they take some 200 MB, and 340 while they are made. */
-enum { BUCKETS = TREE_INODES / 2, LIST_ROOM = 4096 };
+enum { BUCKETS = TREE_INODES / 2 };
 
 static struct gb_gate gate;
 static struct gb_pass first_pass; /* its lock is `splitting` */
 static pthread_mutex_t splitting = PTHREAD_MUTEX_INITIALIZER;
 static pthread_key_t own_pass;
-static atomic_long changes, refused, lists, by_rows, by_lock[GB_WHY_LINK + 1], texts, copies;
+static atomic_long by_rows, by_lock[GB_WHY_LINK + 1], pages, listed, texts, copies;
+/* Changes that were made, of each kind, and how many the tree refused. */
+enum change { MAKE, LINK, REMOVE, RENAME, CHANGES };
+static atomic_long changes[CHANGES], refused;
 /* Whoever has it may rely on the parents and names of directories. */
 static pthread_mutex_t moving = PTHREAD_MUTEX_INITIALIZER;
 
@@ -70,9 +73,11 @@ void tree_tell(void)
     fprintf(stderr, "look-ups: %ld without the lock; with it %ld to fill rows, %ld of long paths, %ld beside a change\n",
             by_rows, by_lock[GB_WHY_MISS] + by_lock[GB_WHY_LINK], by_lock[GB_WHY_LONG],
             by_lock[GB_WHY_BUSY] + by_lock[GB_WHY_CHANGED]);
-    fprintf(stderr, "rows that another name got: %llu; lists: %ld; texts of links: %ld, and %ld from copies; ",
-            (unsigned long long)evictions, lists, texts, copies);
-    fprintf(stderr, "changes: %ld, and %ld refused; ", changes, refused);
+    fprintf(stderr, "rows that another name got: %llu; pages of directories: %ld, with %ld entries; ",
+            (unsigned long long)evictions, pages, listed);
+    fprintf(stderr, "texts of links: %ld, and %ld from copies\n", texts, copies);
+    fprintf(stderr, "changes: %ld makes, %ld links, %ld removals, %ld renames, and %ld refused; ", changes[MAKE],
+            changes[LINK], changes[REMOVE], changes[RENAME], refused);
 }
 
 static int told(int answer)
@@ -85,10 +90,10 @@ static int told(int answer)
 }
 
 /* Of a change. */
-static int changed(int answer)
+static int changed(enum change change, int answer)
 {
     if (answer >= 0)
-        atomic_fetch_add(answer == 0 ? &changes : &refused, 1);
+        atomic_fetch_add(answer == 0 ? &changes[change] : &refused, 1);
     return told(answer);
 }
 
@@ -173,7 +178,7 @@ int tree_make(mode_t mode, uid_t owner, gid_t group, uint64_t parent, const char
     else
         body_free(body);
     making_end();
-    return changed(answer);
+    return changed(MAKE, answer);
 }
 
 /* What follows of a change of names for the body, unless it has gone since. The one that took the last name says so, and
@@ -189,11 +194,11 @@ static void count_names(struct body *body, int more, bool gone)
     body_let_go(body, 1, gone);
 }
 
-static int took(int answer, const struct gb_gone *gone)
+static int took(enum change change, int answer, const struct gb_gone *gone)
 {
     if (answer == 0 && gone->number)
         count_names(body_of(gone->number), -1, gone->last);
-    return changed(answer);
+    return changed(change, answer);
 }
 
 int tree_unlink(uint64_t parent, const char *name)
@@ -201,7 +206,7 @@ int tree_unlink(uint64_t parent, const char *name)
     struct gb_found found;
     struct gb_gone gone;
     int answer = gb_unlink(&gate, pass(), parent, name, strlen(name), &found, &gone);
-    return took(answer, &gone);
+    return took(REMOVE, answer, &gone);
 }
 
 int tree_rmdir(uint64_t parent, const char *name)
@@ -209,7 +214,7 @@ int tree_rmdir(uint64_t parent, const char *name)
     struct gb_found found;
     struct gb_gone gone;
     int answer = gb_rmdir(&gate, pass(), parent, name, strlen(name), &found, &gone);
-    return took(answer, &gone);
+    return took(REMOVE, answer, &gone);
 }
 
 static int rename_names(uint64_t old_parent, const char *old_name, uint64_t parent, const char *name, unsigned flags)
@@ -222,7 +227,7 @@ static int rename_names(uint64_t old_parent, const char *old_name, uint64_t pare
         return answer;
     answer = gb_rename(&gate, pass(), way.base, way.old_path, strlen(way.old_path), way.path, strlen(way.path), flags,
                        &found, &gone);
-    return took(answer, &gone);
+    return took(RENAME, answer, &gone);
 }
 
 /* The kernel keeps both directories as they are meanwhile, and so what the two names lead to. */
@@ -303,7 +308,7 @@ static int link_name(struct body *body, uint64_t parent, const char *name, struc
     if (answer != 0)
         return answer;
     answer = gb_link(&gate, pass(), way.base, way.old_path, strlen(way.old_path), way.path, strlen(way.path), found);
-    return answer == ENOENT || answer == ENOTDIR || answer == EPERM ? ESTALE : changed(answer);
+    return answer == ENOENT || answer == ENOTDIR || answer == EPERM ? ESTALE : changed(LINK, answer);
 }
 
 int tree_link(uint64_t number, uint64_t parent, const char *name, struct body **linked)
@@ -323,29 +328,34 @@ int tree_link(uint64_t number, uint64_t parent, const char *name, struct body **
     return *linked ? 0 : ESTALE;
 }
 
-/* What is read of a list is kept, and no more room. */
-static void keep_names(char **names, size_t size)
-{
-    char *fewer = size > 0 ? realloc(*names, size) : NULL;
-    *names = fewer ? fewer : *names;
-}
-
-int tree_list(uint64_t directory, char **names, size_t *size)
+int tree_page(uint64_t directory, const char *after, struct gb_entry *entries, size_t room, size_t *count)
 {
     struct gb_found found;
-    for (size_t room = LIST_ROOM;; room = 2 * found.count) {
-        int answer = GB_NO_MEMORY;
-        *names = malloc(room);
-        if (*names)
-            answer = gb_list(&gate, pass(), directory, ".", 1, *names, room, &found);
-        if (answer == 0 && found.count <= room) {
-            atomic_fetch_add(&lists, 1);
-            *size = found.count;
-            keep_names(names, found.count);
-            return 0;
-        }
-        free(*names);
-        if (answer != 0)
-            return told(answer);
+    int answer = gb_entries(&gate, pass(), directory, ".", 1, after, strlen(after), entries, room, &found);
+    *count = answer == 0 ? found.count : 0;
+    if (answer == 0) {
+        atomic_fetch_add(&pages, 1);
+        atomic_fetch_add(&listed, (long)found.count);
     }
+    return told(answer);
+}
+
+struct body *tree_listed(uint64_t directory, const struct gb_entry *entry)
+{
+    struct body *body = body_of(entry->number);
+    if (body && entry->kind != GB_DIR)
+        remember(body, directory, entry->name);
+    return body;
+}
+
+uint64_t tree_above(uint64_t directory)
+{
+    struct body *body = directory == GB_ROOT ? NULL : body_of(directory);
+    if (!body)
+        return directory;
+    pthread_mutex_lock(&body->lock);
+    uint64_t above = body->parent;
+    pthread_mutex_unlock(&body->lock);
+    body_let_go(body, 1, false);
+    return above;
 }

@@ -8,6 +8,9 @@
 /* How many inodes may live, and the bytes of the longest name and path. */
 enum { TREE_INODES = 262144, LONGEST_NAME = 255, LONGEST_PATH = 4095 };
 
+/* How many entries a page has at most. */
+enum { TREE_PAGE = 256 };
+
 /* Once, before all else, and after all: then no thread but this one has a pass. */
 int tree_begin(void);
 void tree_end(void);
@@ -31,7 +34,14 @@ int tree_link(uint64_t number, uint64_t parent, const char *name, struct body **
  * takes the longest path, and a zero byte behind it. */
 void tree_readlink(struct body *body, char *text);
 
-/* All names of a directory at one moment, each with a zero byte behind it, for the caller to free. */
-int tree_list(uint64_t directory, char **names, size_t *size);
+/* Up to `room` entries of a directory behind a name, or from the first on if that is empty: those of one moment. */
+struct gb_entry;
+int tree_page(uint64_t directory, const char *after, struct gb_entry *entries, size_t room, size_t *count);
+
+/* The body of an entry of a page, for the caller to let go; NULL if it has gone since. */
+struct body *tree_listed(uint64_t directory, const struct gb_entry *entry);
+
+/* The directory above one, the root above the root. */
+uint64_t tree_above(uint64_t directory);
 
 #endif
