@@ -29,20 +29,17 @@ struct fuse_entry_param entry_of(struct body *body)
     return entry;
 }
 
-/* Its bytes or owner were changed, so it sets no identity any more. */
-static void drop_privileges(struct body *body)
+mode_t mode_behind_change(mode_t mode)
 {
-    if (!S_ISREG(body->mode))
-        return;
-    body->mode &= ~(mode_t)S_ISUID;
-    if (body->mode & S_IXGRP)
-        body->mode &= ~(mode_t)S_ISGID;
+    if (!S_ISREG(mode))
+        return mode;
+    return mode & ~(mode_t)(mode & S_IXGRP ? S_ISUID | S_ISGID : S_ISUID);
 }
 
 void written_by(struct body *body, uid_t by)
 {
     if (by != 0)
-        drop_privileges(body);
+        body->mode = mode_behind_change(body->mode);
 }
 
 static struct timespec time_of(struct timespec was, struct timespec wanted, int is_set, int is_now)
@@ -61,7 +58,7 @@ void set_attributes(struct body *body, const struct stat *wanted, int set, uid_t
     if (set & FUSE_SET_ATTR_GID)
         body->group = wanted->st_gid;
     if (set & (FUSE_SET_ATTR_UID | FUSE_SET_ATTR_GID))
-        drop_privileges(body);
+        body->mode = mode_behind_change(body->mode);
     if (set & FUSE_SET_ATTR_MODE)
         body->mode = (body->mode & S_IFMT) | (wanted->st_mode & 07777);
     if (set & FUSE_SET_ATTR_SIZE) {

@@ -12,7 +12,10 @@ struct fuse_entry_param entry_of(struct body *body);
 /* `set` has FUSE_SET_ATTR_ bits, and `by` is who sets them. */
 void set_attributes(struct body *body, const struct stat *wanted, int set, uid_t by);
 
-/* Of a body that is locked, whose bytes somebody changes: unless it is root, the file sets no identity any more. */
+/* The mode of a file that was written to by another than root, or got another owner: it sets no identity any more. */
+mode_t mode_behind_change(mode_t mode);
+
+/* Of a body that is locked, whose bytes somebody changes. */
 void written_by(struct body *body, uid_t by);
 
 #endif

@@ -13,7 +13,8 @@
  *
  * All files together may have half as many bytes as the machine has memory, or as `size` says, in bytes or with k, m or g
  * behind it. Owners and modes are tested by the kernel with libfuse's option default_permissions, here with `permissions`
- * (modes.c), and else by nobody: then mount it for yourself alone. SIGUSR1 makes it tell how look-ups were answered, as it does at its end.
+ * (modes.c), and else by nobody: then mount it for yourself alone. SIGUSR1 makes it tell how look-ups were answered, as it
+ * does at its end.
  */
 #define FUSE_USE_VERSION 31
 #include "calls.h"

@@ -208,10 +208,20 @@ static bool may_give(fuse_req_t request, const struct stat *of, const struct sta
     return !(set & FUSE_SET_ATTR_GID) || wanted->st_gid == of->st_gid || has_group(request, wanted->st_gid);
 }
 
+/* Before another than root writes to a file that sets an identity, the kernel asks in its name that it set none. */
+static bool writes(fuse_req_t request, const struct stat *of, const struct stat *wanted, int set)
+{
+    const int others = FUSE_SET_ATTR_UID | FUSE_SET_ATTR_GID | FUSE_SET_ATTR_SIZE;
+    mode_t left = mode_behind_change(of->st_mode);
+    if (set & others || left == of->st_mode || (wanted->st_mode & 07777) != (left & 07777))
+        return false;
+    return may(request, of, W_OK);
+}
+
 static int may_set(fuse_req_t request, const struct stat *of, const struct stat *wanted, int set, bool is_open)
 {
     const int owners = FUSE_SET_ATTR_MODE | FUSE_SET_ATTR_UID | FUSE_SET_ATTR_GID;
-    if (set & owners && !is_owner(request, of))
+    if (set & owners && !is_owner(request, of) && !writes(request, of, wanted, set))
         return EPERM;
     if (!may_give(request, of, wanted, set))
         return EPERM;
