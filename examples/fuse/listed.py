@@ -1,5 +1,6 @@
 #!/usr/bin/env python3
-"""Reads directories that change meanwhile, from other places and with little room, a line each: the same on any file system.
+"""Reads directories that change meanwhile, from other places and with little room, and uses their names beside that, a line
+each: the same on any file system.
 
 usage: examples/fuse/listed.py FOLDER
 """
@@ -8,10 +9,11 @@ import collections
 import ctypes
 import os
 import random
+import signal
 import struct
 import sys
 
-NAMES, FEW, LITTLE = 3000, 100, 300
+NAMES, FEW, LITTLE, TURNS = 3000, 100, 300, 500
 LONGEST = 255
 KINDS = {4: "directory", 8: "file", 10: "link"}
 LIBC = ctypes.CDLL(None, use_errno=True)
@@ -207,12 +209,56 @@ def fresh():
     tell("attributes that differ", wrong)
 
 
+def list_for_ever(path):
+    while True:
+        for entry in os.scandir(path):
+            try:
+                entry.stat(follow_symlinks=False)
+            except FileNotFoundError:
+                pass
+
+
+def in_place(turn):
+    """Makes a file in place of another, links it, and changes its mode and size. How often it was seen otherwise."""
+    text, mode = f"{turn}", 0o600 if turn % 2 else 0o644
+    with open("beside/new", "w") as file:
+        file.write(text)
+    number = os.stat("beside/new").st_ino
+    os.replace("beside/new", "beside/name")
+    seen = [os.stat("beside/name").st_ino == number, not os.path.exists("beside/new")]
+    with open("beside/name") as file:
+        seen.append(file.read() == text)
+    os.link("beside/name", "beside/link")
+    seen.append(os.stat("beside/name").st_nlink == 2)
+    os.unlink("beside/link")
+    os.chmod("beside/name", mode)
+    with open("beside/name", "a") as file:
+        file.write("more")
+    told = os.stat("beside/name")
+    seen.append((told.st_nlink, told.st_mode & 0o777, told.st_size) == (1, mode, len(text) + 4))
+    return seen.count(False)
+
+
+def beside():
+    """What the kernel keeps of a listing is right while another process lists all the time."""
+    os.mkdir("beside")
+    for i in range(FEW):
+        make(f"beside/{i}")
+    child = os.fork()
+    if child == 0:
+        list_for_ever("beside")
+    wrong = sum(in_place(turn) for turn in range(TURNS))
+    os.kill(child, signal.SIGKILL)
+    os.waitpid(child, 0)
+    tell("seen otherwise beside listings", wrong)
+
+
 def main():
     if len(sys.argv) != 2 or not os.path.isdir(sys.argv[1]):
         print(__doc__.split("\n\n")[1], file=sys.stderr)
         return 2
     os.chdir(sys.argv[1])
-    for part in (kinds, places, changes, removed, in_turn, little, fresh):
+    for part in (kinds, places, changes, removed, in_turn, little, fresh, beside):
         part()
     return 0
 

@@ -2,8 +2,8 @@
  * directory change while it asks, so it may keep what is told with attributes: it changes what it kept by itself later.
  * Entries of an earlier page may lead elsewhere by now, and so none is told.
  *
- * An entry's offset has a serial number, and a mark of its name. An open directory keeps the names of the last reply, by
- * which the kernel goes on: behind a name, whether that stands there still or not. If a program seeks further back, the
+ * An entry's offset has its place in the reply, and a mark of its name. An open directory keeps the names of the last reply,
+ * by which the kernel goes on: behind a name, whether that stands there still or not. If a program seeks further back, the
  * names are read from the first on, up to the one that has the mark.
  */
 #define FUSE_USE_VERSION 31
@@ -16,15 +16,14 @@
 #include <stdlib.h>
 #include <string.h>
 
-/* Behind dot the offset is 1, behind dot-dot 2. Behind a name it has a serial number, of 1 and more, above the mark. */
-enum { MARK_BITS = 40, SERIALS = 1 << 23 };
+/* Behind dot the offset is 1, behind dot-dot 2. Behind a name it has the place, of 1 and more, above the mark. */
+enum { MARK_BITS = 54 };
 
 /* For how long the kernel may keep what it was told with attributes. Who lists a directory asks for its files next. */
 static const double KEPT_SECONDS = 1;
 
 /* The kernel lets one thread at a time read an open directory. */
 struct listing {
-    uint64_t first; /* the serial number of the first name */
     size_t count;
     char *names; /* of the last reply, each with a zero byte behind it */
 };
@@ -60,7 +59,7 @@ void fs_releasedir(fuse_req_t request, fuse_ino_t number, struct fuse_file_info 
     fuse_reply_err(request, 0);
 }
 
-/* 40 bits of the FNV-1a hash. */
+/* The highest bits of the FNV-1a hash. Whoever makes names with one mark meets the wrong one if he seeks it. */
 static uint64_t mark_of(const char *name)
 {
     uint64_t hash = 0xcbf29ce484222325;
@@ -69,26 +68,20 @@ static uint64_t mark_of(const char *name)
     return hash >> (64 - MARK_BITS);
 }
 
-static off_t offset_of(uint64_t serial, const char *name)
+/* Two names in one reply have two offsets, whatever their marks. */
+static off_t offset_of(size_t place, const char *name)
 {
-    return (off_t)(serial << MARK_BITS | mark_of(name));
+    return (off_t)((uint64_t)(place + 1) << MARK_BITS | mark_of(name));
 }
 
-static uint64_t serial_behind(uint64_t serial)
-{
-    return serial % (SERIALS - 1) + 1;
-}
-
-/* The name of the last reply that has the offset, or NULL. */
+/* The name of the last reply that has an offset, or NULL. */
 static const char *name_told(const struct listing *listing, off_t offset)
 {
     const char *name = listing->names;
-    uint64_t serial = listing->first;
     for (size_t i = 0; i < listing->count; i++) {
-        if (offset_of(serial, name) == offset)
+        if (offset_of(i, name) == offset)
             return name;
         name += strlen(name) + 1;
-        serial = serial_behind(serial);
     }
     return NULL;
 }
@@ -130,8 +123,8 @@ struct reply {
     fuse_req_t request;
     char *bytes;
     size_t size, used;
-    bool plus;                       /* with attributes */
-    struct body *bodies[TREE_PAGE];  /* of which the kernel is told, each with a use */
+    bool plus;                      /* with attributes */
+    struct body *bodies[TREE_PAGE]; /* of which the kernel is told, each with a use */
     size_t told;
 };
 
@@ -195,7 +188,7 @@ static bool add_entry(struct reply *reply, const struct gb_entry *from, uint64_t
 
 /* Keeps what was told in place of what was told before. The end of a directory is told without a name, and changes
  * nothing. */
-static void keep_names(struct listing *listing, uint64_t first, char *names, size_t count, size_t size)
+static void keep_names(struct listing *listing, char *names, size_t count, size_t size)
 {
     if (count == 0) {
         free(names);
@@ -204,23 +197,21 @@ static void keep_names(struct listing *listing, uint64_t first, char *names, siz
     char *fewer = realloc(names, size);
     free(listing->names);
     listing->names = fewer ? fewer : names;
-    listing->first = first;
     listing->count = count;
 }
 
 /* Adds the entries of a page as far as there is room. `names` has the room of the reply, in which each takes more. */
-static void add_page(struct reply *reply, struct listing *listing, uint64_t directory, off_t from,
-                     const struct gb_entry *page, size_t count, char *names)
+static void add_page(struct reply *reply, struct listing *listing, uint64_t directory, const struct gb_entry *page,
+                     size_t count, char *names)
 {
-    uint64_t first = serial_behind(from > 2 ? (uint64_t)from >> MARK_BITS : 0), serial = first;
     size_t told = 0, size = 0;
-    for (; told < count; told++, serial = serial_behind(serial)) {
-        if (!add_entry(reply, &page[told], directory, offset_of(serial, page[told].name)))
+    for (; told < count; told++) {
+        if (!add_entry(reply, &page[told], directory, offset_of(told, page[told].name)))
             break;
         strcpy(names + size, page[told].name);
         size += page[told].length + 1;
     }
-    keep_names(listing, first, names, told, size);
+    keep_names(listing, names, told, size);
 }
 
 /* Answers 0, or a number of errno, and then nothing was told. */
@@ -235,7 +226,7 @@ static int fill(struct reply *reply, struct listing *listing, uint64_t directory
     if (answer != 0)
         return answer;
     bool has_room = from > 2 || add_dots(reply, directory, from);
-    add_page(reply, listing, directory, from, page, has_room ? count : 0, names);
+    add_page(reply, listing, directory, page, has_room ? count : 0, names);
     return 0;
 }
 
