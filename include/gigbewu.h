@@ -662,8 +662,9 @@ static inline int gb_look_counting(struct gb_gate *gate, struct gb_pass *pass, u
     return answer;
 }
 
-/* gb_try_resolve. The one call to make if many look-ups miss: a miss is quicker than by gb_look, and a look-up that the
- * rows answer pays for the gate besides. While a ticket is out, the rows alone are asked before it waits. */
+/* gb_try_resolve: one call that always answers, for a caller many of whose look-ups miss. A miss is quicker than by
+ * gb_look. A look-up that the rows answer calls at the gate as one that had the lock, so while others sleep there it
+ * wakes one. While a ticket is out, the rows alone are asked before it waits. */
 static inline int gb_resolve(struct gb_gate *gate, struct gb_pass *pass, uint64_t base, const char *path, size_t len,
                              uint32_t follow, struct gb_found *found)
 {
