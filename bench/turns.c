@@ -1,12 +1,13 @@
 /* Times one kind of call of the library for C, on one thread, in the thread's own time of the processor, and prints the
  * median over turns of 512 calls, in nanoseconds, and how many calls there were.
  *
- * usage: turns look|miss|rename|churn|hold DEPTH MILLISECONDS
+ * usage: turns look|miss|once|rename|churn|hold DEPTH MILLISECONDS
  *
  * Paths have DEPTH names. `look` looks 1,000 files up in a random order by gb_look_fast. `miss` looks up names that are
- * nowhere and that no row tells of, by gb_look_fast and then gb_try_look. `rename` renames a file to and fro, with rows
- * for both of its names. `churn` makes, renames and unlinks files, with a look-up of a file after each. `hold` gets the
- * lock and gives it back, by a gb_try_shrink of no row.
+ * nowhere and that no row tells of, by gb_look_fast and then gb_try_look, `once` such names by gb_try_resolve, or as `miss`
+ * if the library is so old that it lacks that. `rename` renames a file to and fro, with rows for both of its names.
+ * `churn` makes, renames and unlinks files, with a look-up of a file after each. `hold` gets the lock and gives it back, by
+ * a gb_try_shrink of no row.
  */
 #include <gigbewu.h>
 #include <stdio.h>
@@ -21,6 +22,9 @@ struct text {
     char bytes[ROOM];
     size_t len;
 };
+
+int gb_try_resolve(struct gb_pass *pass, uint64_t base, const char *path, size_t len, uint32_t follow,
+                   struct gb_found *found) __attribute__((weak));
 
 static struct gb_pass pass;
 static struct gb_found found;
@@ -73,9 +77,13 @@ static void move(const struct text *from, const struct text *to)
     must(answer == 0, "gb_try_rename");
 }
 
-static void miss(const char *folder)
+static void miss(const char *folder, int once)
 {
     struct text text = named(folder, "no", counter++);
+    if (once && gb_try_resolve) {
+        must(gb_try_resolve(&pass, ROOT, text.bytes, text.len, GB_FOLLOW, &found) > 0, "gb_try_resolve");
+        return;
+    }
     must(gb_look_fast(&pass, ROOT, text.bytes, text.len, GB_FOLLOW, &found) == GB_AGAIN, "a miss");
     must(gb_try_look(&pass, ROOT, text.bytes, text.len, GB_FOLLOW, &found) > 0, "gb_try_look");
 }
@@ -106,8 +114,8 @@ static void call(const char *work, const char *folder)
         hold();
     else if (work[0] == 'l')
         look(&files[draw() % FILES]);
-    else if (work[0] == 'm')
-        miss(folder);
+    else if (work[0] == 'm' || work[0] == 'o')
+        miss(folder, work[0] == 'o');
     else if (work[0] == 'r')
         move(&pairs[0][counter & 1], &pairs[0][~counter & 1]), counter++;
     else
@@ -122,7 +130,7 @@ static int by_size(const void *a, const void *b)
 
 int main(int count, char **words)
 {
-    must(count == 4 && strchr("lmrch", words[1][0]), "its usage");
+    must(count == 4 && strchr("lmorch", words[1][0]), "its usage");
     char folder[ROOM] = "";
     must(gb_cache_new(BUCKETS, INODES, &pass) == 0, "gb_cache_new");
     for (int names = atoi(words[2]); names > 1; names--) {

@@ -20,6 +20,7 @@
  *
  * You want                                     Call
  * to look a path up                            gb_look; gb_look_fast if it may not wait
+ * the same in one call, quicker if many miss   gb_resolve; gb_try_resolve if it may not wait
  * its kind and names; a link's text; a list    gb_stat; gb_readlink; gb_list
  * the path of a directory, by its number       gb_path_of
  * a large directory, some entries at a time    gb_entries
@@ -195,6 +196,16 @@ int gb_close(struct gb_pass *pass);
  * Answers 0 with number and kind, a refusal, GB_AGAIN, GB_BAD_PASS, GB_BAD_ARGUMENT. */
 int gb_look_fast(struct gb_pass *pass, uint64_t base, const char *path, size_t len, uint32_t follow,
                  struct gb_found *found);
+
+/* Looks a path up by the rows alone, as gb_look_fast, and if they don't answer under the lock, for which it tries once.
+ * There the rows that it has just read answer again if none of them has changed, and the tree answers for the names
+ * behind them, whose rows are filled for the next look-up as far as there is memory. So a miss is quicker than by
+ * gb_look_fast and gb_try_look, which asks the tree for the whole path. It never answers GB_NO_MEMORY. A text that is
+ * no path is refused without the lock.
+ * Proved: the answer. That rows are asked first, and filled, is tested.
+ * Answers 0 with number and kind, a refusal, GB_BUSY, GB_BAD_PASS, GB_BAD_ARGUMENT. */
+int gb_try_resolve(struct gb_pass *pass, uint64_t base, const char *path, size_t len, uint32_t follow,
+                   struct gb_found *found);
 
 /* Looks a path up under the lock, for a caller whose gb_look_fast has answered GB_AGAIN, and fills rows for the next
  * look-up as far as there is memory. It never answers GB_NO_MEMORY. A text that is no path is refused without the lock.
@@ -649,6 +660,21 @@ static inline int gb_look_counting(struct gb_gate *gate, struct gb_pass *pass, u
     answer = gb_look_missed(gate, pass, base, path, len, follow, found);
     looks->under_lock += answer >= 0;
     return answer;
+}
+
+/* gb_try_resolve: one call that always answers, for a caller many of whose look-ups miss. A miss is quicker than by
+ * gb_look. A look-up that the rows answer calls at the gate as one that had the lock, so while others sleep there it
+ * wakes one. While a ticket is out, the rows alone are asked before it waits. */
+static inline int gb_resolve(struct gb_gate *gate, struct gb_pass *pass, uint64_t base, const char *path, size_t len,
+                             uint32_t follow, struct gb_found *found)
+{
+    uint32_t next;
+    if (gb_gate_next(gate, &next)) {
+        int told = gb_look_fast(pass, base, path, len, follow, found);
+        if (told != GB_AGAIN)
+            return told;
+    }
+    GB_BLOCKING(gate, gb_try_resolve(pass, base, path, len, follow, found));
 }
 
 /* gb_try_stat. */

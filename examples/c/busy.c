@@ -17,7 +17,7 @@ static char bytes[3];
 static struct gb_entry entries[1];
 static uint64_t emptied;
 static const char path[] = "p", other[] = "o";
-static int wrong, sleeps;
+static int wrong, sleeps, by_rows = GB_AGAIN;
 
 /* What the library's functions were called with: their name, how often, and what a word says of each argument. */
 static const char *called;
@@ -49,13 +49,19 @@ int gb_look_fast(struct gb_pass *pass, uint64_t base, const char *path, size_t l
                  struct gb_found *found)
 {
     (void)pass, (void)base, (void)path, (void)len, (void)follow, (void)found;
-    return GB_AGAIN;
+    return by_rows;
 }
 
 int gb_readlink_fast(struct gb_pass *pass, uint64_t base, const char *path, size_t len, struct gb_found *found)
 {
     (void)pass, (void)base, (void)path, (void)len, (void)found;
     return GB_AGAIN;
+}
+
+int gb_try_resolve(struct gb_pass *pass, uint64_t base, const char *path, size_t len, uint32_t follow,
+                   struct gb_found *found)
+{
+    CALL("resolve", base, WORD(path), len, follow, WORD(found));
 }
 
 int gb_try_look(struct gb_pass *pass, uint64_t base, const char *path, size_t len, uint32_t follow,
@@ -175,6 +181,7 @@ static void try_forms(void)
 {
     TRY(gb_look_missed, "look", (&gate, &pass, 2, path, 3, 4, &found), 2, WORD(path), 3, 4, WORD(&found));
     TRY(gb_look, "look", (&gate, &pass, 2, path, 3, 4, &found), 2, WORD(path), 3, 4, WORD(&found));
+    TRY(gb_resolve, "resolve", (&gate, &pass, 2, path, 3, 4, &found), 2, WORD(path), 3, 4, WORD(&found));
     TRY(gb_stat, "stat", (&gate, &pass, 2, path, 3, &found), 2, WORD(path), 3, WORD(&found));
     TRY(gb_readlink, "readlink", (&gate, &pass, 2, path, 3, bytes, 4, &found), 2, WORD(path), 3, WORD(bytes), 4,
         WORD(&found));
@@ -194,6 +201,18 @@ static void try_forms(void)
     TRY(gb_shrink, "shrink", (&gate, &pass, 2, &emptied), 2, WORD(&emptied));
 }
 
+/* What the rows answer while a ticket is out doesn't wait. */
+static void resolve_past_a_ticket(void)
+{
+    begin();
+    gate.tickets++;
+    by_rows = ANSWER;
+    is("gb_resolve", "the answer while a ticket is out", gb_resolve(&gate, &pass, 2, path, 3, 4, &found), ANSWER);
+    is("gb_resolve", "the number of calls while a ticket is out", calls + sleeps, 0);
+    gate.tickets--;
+    by_rows = GB_AGAIN;
+}
+
 int main(void)
 {
     static const int often[] = {0, 1, GB_PAUSES + 1, BUSY_LONG};
@@ -203,6 +222,7 @@ int main(void)
         busy = often[i];
         try_forms();
     }
+    resolve_past_a_ticket();
     printf("%d things of blocking forms are not as they should be\n", wrong);
     return wrong != 0;
 }

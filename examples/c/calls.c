@@ -34,6 +34,11 @@ static int look(struct gb_pass *with, const char *path, size_t len)
     return gb_try_look(with, ROOT, path, len, GB_FOLLOW, &found);
 }
 
+static int resolve(struct gb_pass *with, const char *path, size_t len)
+{
+    return gb_try_resolve(with, ROOT, path, len, GB_FOLLOW, &found);
+}
+
 static int stat(struct gb_pass *with, const char *path, size_t len)
 {
     return gb_try_stat(with, ROOT, path, len, &found);
@@ -105,7 +110,8 @@ static const struct {
     const char *name;
     int (*call)(struct gb_pass *with, const char *path, size_t len);
 } calls[] = {
-    {"look_fast", look_fast},   {"look", look},           {"stat", stat},         {"readlink", readlink},
+    {"look_fast", look_fast},   {"look", look},           {"resolve", resolve},   {"stat", stat},
+    {"readlink", readlink},
     {"list", list},             {"mkdir", mkdir},         {"create", create},     {"symlink to", symlink_to},
     {"symlink at", symlink_at}, {"link old", link_old},   {"link new", link_new}, {"unlink", unlink},
     {"rmdir", rmdir},           {"rename old", rename_old}, {"rename new", rename_new},
@@ -230,6 +236,12 @@ static void look_all(void)
     is("look", "from no directory", gb_try_look(&pass, 3, "g", 1, GB_FOLLOW, &found), ENOENT);
     is("look", "from no inode", gb_try_look(&pass, 99, "g", 1, GB_FOLLOW, &found), ENOENT);
     is("look", "a wrong follow", gb_try_look(&pass, ROOT, "/d", 2, 3, &found), GB_BAD_ARGUMENT);
+    is_found("resolve", resolve(&pass, "/d/../f", 7), 3, GB_FILE, 4);
+    is_found("resolve", gb_try_resolve(&pass, 2, "g", 1, GB_NO_FOLLOW, &found), 3, GB_FILE, 4);
+    is_found("resolve", gb_try_resolve(&pass, ROOT, "/l", 2, GB_NO_FOLLOW, &found), 4, GB_LINK, 4);
+    is("resolve", "a file as a directory", gb_try_resolve(&pass, ROOT, "/l", 2, GB_DIRECTORY, &found), ENOTDIR);
+    is("resolve", "from no inode", gb_try_resolve(&pass, 99, "g", 1, GB_FOLLOW, &found), ENOENT);
+    is("resolve", "a wrong follow", gb_try_resolve(&pass, ROOT, "/d", 2, 3, &found), GB_BAD_ARGUMENT);
     is("look_fast", "a wrong follow", gb_look_fast(&pass, ROOT, "/d", 2, UINT32_MAX, &found), GB_BAD_ARGUMENT);
 }
 
@@ -246,6 +258,9 @@ static void look_by_rows(void)
     is("look_fast", "why", found.why, GB_WHY_MISS);
     is("look", "the longest name", look(&pass, name, sizeof name), ENOENT);
     is("look_fast", "the longest name in a row", look_fast(&pass, name, sizeof name), ENOENT);
+    is("look_fast", "a name beside it", look_fast(&pass, name, sizeof name - 1), GB_AGAIN);
+    is("resolve", "a name beside it", resolve(&pass, name, sizeof name - 1), ENOENT);
+    is("look_fast", "a name beside it, in a row", look_fast(&pass, name, sizeof name - 1), ENOENT);
 }
 
 /* A path of as many names as a walk can note, and one of a name more. */
@@ -258,6 +273,7 @@ static void try_a_deep_path(void)
         is("mkdir", "a deep path", mkdir(&pass, path, length), 0);
     }
     is("look", "a deeper path", look(&pass, path, sizeof path), 0);
+    is("resolve", "a deeper path", resolve(&pass, path, sizeof path), 0);
     is("look_fast", "a deeper path", look_fast(&pass, path, sizeof path), GB_AGAIN);
     is("look_fast", "why", found.why, GB_WHY_LONG);
     is("look", "a deep path", look(&pass, path, sizeof path - 2), 0);

@@ -36,6 +36,11 @@ static int look_missed(struct gb_pass *with, const char *path, size_t len)
     return gb_look_missed(&gate, with, base, path, len, GB_FOLLOW, &found);
 }
 
+static int resolve(struct gb_pass *with, const char *path, size_t len)
+{
+    return gb_resolve(&gate, with, base, path, len, GB_FOLLOW, &found);
+}
+
 static struct gb_looks looks;
 
 static int look_counting(struct gb_pass *with, const char *path, size_t len)
@@ -108,7 +113,7 @@ static const struct {
 } forms[] = {
     {"mkdir", make_directory, "/d", 2}, {"create", create, "/d/f", 3},      {"symlink", make_link, "/l", 4},
     {"link", give_name, "/h", 3},       {"look", look, "/l", 3},            {"look_missed", look_missed, "/d", 2},
-    {"look_counting", look_counting, "/l", 3},
+    {"look_counting", look_counting, "/l", 3}, {"resolve", resolve, "/l", 3},
     {"stat", count, "/h", 3},           {"readlink", read_link, "/l", 0},   {"list", list, "/d", 0},
     {"shrink", shrink, "x", MARK},      {"rename", move, "/d/f", 0},        {"rename", move, "/m", 0},
     {"unlink", take_name, "/l", 0},     {"unlink", take_name, "/d/f", 0},   {"rmdir", take_directory, "/d", 0},
@@ -190,6 +195,7 @@ static void try_arguments(void)
     mark();
     is("look", "a wrong follow", gb_look(&gate, &pass, GB_ROOT, "/", 1, 3, &found), GB_BAD_ARGUMENT);
     is("look_missed", "a wrong follow", gb_look_missed(&gate, &pass, GB_ROOT, "/", 1, 3, &found), GB_BAD_ARGUMENT);
+    is("resolve", "a wrong follow", gb_resolve(&gate, &pass, GB_ROOT, "/", 1, 3, &found), GB_BAD_ARGUMENT);
     is("rename", "a wrong flag", gb_rename(&gate, &pass, GB_ROOT, "/", 1, "/", 1, 4, &found, &gone), GB_BAD_ARGUMENT);
     is_marked("a wrong argument", "writes nothing");
     is("readlink", "of a file", read_link(&pass, "/m", 2), EINVAL);

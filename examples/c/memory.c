@@ -137,7 +137,11 @@ static void look_without_memory(void)
         path[12] = (char)('0' + i % 10);
         must(gb_try_look(&pass, ROOT, path, sizeof path - 1, GB_FOLLOW, &found) == ENOENT, "look");
         granted = 0;
+        must(gb_try_resolve(&pass, ROOT, path, sizeof path - 1, GB_FOLLOW, &found) == ENOENT, "resolve");
+        granted = 0;
     }
+    must(gb_try_resolve(&pass, ROOT, "/link", 5, GB_FOLLOW, &found) == 0, "resolve");
+    granted = 0;
     must(gb_try_look(&pass, ROOT, "/link", 5, GB_FOLLOW, &found) == 0, "look");
     granted = 0;
     must(gb_try_stat(&pass, ROOT, "/link", 5, &found) == 0, "stat");

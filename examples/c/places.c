@@ -6,8 +6,8 @@
  * A look-up of three names is stopped. Its rows are emptied and filled again with the same words: it must then answer as
  * ever, or from its first note to its last check with GB_WHY_CHANGED, and the next one answers. A directory on its way is
  * renamed, or exchanged with another, and a file made in it then: the path never leads to the file, so it must not be
- * found. A call that takes the lock is stopped, and each call that tries for it meanwhile answers GB_BUSY and writes what
- * the header says. Prints the same whatever the number of instructions is.
+ * found, nor by gb_try_resolve, which answers all the same. A call that takes the lock is stopped, and each call that tries
+ * for it meanwhile answers GB_BUSY and writes what the header says. Prints the same whatever the number of instructions is.
  */
 #define _GNU_SOURCE
 #include <errno.h>
@@ -91,6 +91,11 @@ static int look(struct gb_pass *with)
     return gb_look_fast(with, GB_ROOT, path, sizeof path - 1, GB_FOLLOW, &found);
 }
 
+static int resolve(struct gb_pass *with)
+{
+    return gb_try_resolve(with, GB_ROOT, path, sizeof path - 1, GB_FOLLOW, &found);
+}
+
 static int count(struct gb_pass *with)
 {
     return gb_try_stat(with, GB_ROOT, path, sizeof path - 1, &found);
@@ -156,6 +161,14 @@ static int judge_moved(int answer)
     return answer == ENOENT ? AS_EVER : WRONG;
 }
 
+/* It asks the tree if the rows have changed, and always answers: before the two changes, or after them. */
+static int judge_resolved(int answer)
+{
+    if (answer != ENOENT || (found.at != 3 && found.at != 5))
+        return WRONG;
+    return found.at == 5 ? OTHERWISE : AS_EVER;
+}
+
 /* What a call may write to. */
 static struct gb_found told;
 static struct gb_gone gone;
@@ -186,6 +199,7 @@ static int is_busy(int answer, uint32_t went)
 static int are_busy(void)
 {
     return is_busy(gb_try_look(&other, GB_ROOT, "/a", 2, GB_FOLLOW, &told), MARK) &&
+           is_busy(gb_try_resolve(&other, GB_ROOT, "/m", 2, GB_FOLLOW, &told), MARK) &&
            is_busy(gb_try_stat(&other, GB_ROOT, "/a", 2, &told), MARK) &&
            is_busy(gb_try_readlink(&other, GB_ROOT, "/a", 2, bytes, ROOM, &told), MARK) &&
            is_busy(gb_try_list(&other, GB_ROOT, "/a", 2, bytes, ROOM, &told), MARK) &&
@@ -204,6 +218,8 @@ static int are_answered(void)
     return gb_try_look(&other, GB_ROOT, "", 0, GB_FOLLOW, &told) == ENOENT &&
            gb_try_rename(&other, GB_ROOT, "/a", 2, "/m", 2, 4, &told, &gone) == GB_BAD_ARGUMENT && gone.number == MARK &&
            gb_look_fast(&other, GB_ROOT, path, sizeof path - 1, GB_FOLLOW, &told) == 0 &&
+           gb_try_resolve(&other, GB_ROOT, path, sizeof path - 1, GB_FOLLOW, &told) == 0 &&
+           gb_try_resolve(&other, GB_ROOT, "", 0, GB_FOLLOW, &told) == ENOENT &&
            gb_learn(&other, 0, &emptied) == 0 && emptied == 3;
 }
 
@@ -257,6 +273,9 @@ int main(void)
     begin("/y");
     stop_everywhere(look, exchange, judge_moved);
     end("a path that never was, by an exchange", 0);
+    begin("/y");
+    stop_everywhere(resolve, rename_away, judge_resolved);
+    end("a path that never was, by one call", 0);
     begin(path);
     stop_everywhere(count, try_all, judge_held);
     end("a held lock", 1);

@@ -36,7 +36,7 @@ impl Gate {
     }
 
     /// The ticket that is next, if any is out.
-    fn next(&self) -> Option<u32> {
+    pub(crate) fn next(&self) -> Option<u32> {
         let next = self.served.load(SeqCst);
         (self.tickets.load(SeqCst) != next).then_some(next)
     }

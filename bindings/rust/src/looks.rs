@@ -59,14 +59,18 @@ impl Pass {
         path: P,
         follow: Follow,
     ) -> Result<Found, Error> {
-        let path = path.as_path_bytes();
-        let answered = self.ask_once(|pass, found| unsafe {
-            raw::gb_look_fast(pass, base, text(path), path.len(), follow as u32, found)
-        });
+        let answered = self.ask_rows(base, path.as_path_bytes(), follow);
         if !matches!(answered, Err(Error::Again(_))) {
             self.looks.by_rows += 1;
         }
-        answered.map(Found::of)
+        answered
+    }
+
+    fn ask_rows(&mut self, base: u64, path: &[u8], follow: Follow) -> Result<Found, Error> {
+        self.ask_once(|pass, found| unsafe {
+            raw::gb_look_fast(pass, base, text(path), path.len(), follow as u32, found)
+        })
+        .map(Found::of)
     }
 
     /// Looks a path up: by the rows, or if these don't answer under the lock, which fills them.
@@ -93,6 +97,38 @@ impl Pass {
         self.looks.under_lock += 1;
         self.ask(|pass, found| unsafe {
             raw::gb_try_look(pass, base, text(path), path.len(), follow as u32, found)
+        })
+        .map(Found::of)
+    }
+
+    /// Looks a path up as [`Pass::look`] does, in one call of the library. If the rows don't answer it is quicker: those
+    /// that tell of the first names needn't be asked anew under the lock. If they do, it takes a little longer. It isn't
+    /// counted among the [`looks`](Pass::looks).
+    ///
+    /// ```
+    /// # use gigbewu::{Cache, Follow, ROOT};
+    /// # let mut pass = Cache::new(64, 100)?.pass()?;
+    /// pass.mkdir(ROOT, "/a")?;
+    /// let found = pass.resolve(ROOT, "/a", Follow::Yes)?; // which fills rows
+    /// assert_eq!(pass.look_fast(ROOT, "/a", Follow::Yes), Ok(found));
+    /// # Ok::<(), gigbewu::Error>(())
+    /// ```
+    pub fn resolve<P: AsPathBytes>(
+        &mut self,
+        base: u64,
+        path: P,
+        follow: Follow,
+    ) -> Result<Found, Error> {
+        let path = path.as_path_bytes();
+        // What the rows answer doesn't wait for a thread that was passed over.
+        if self.is_held_back() {
+            match self.ask_rows(base, path, follow) {
+                Err(Error::Again(_)) => {}
+                answered => return answered,
+            }
+        }
+        self.ask(|pass, found| unsafe {
+            raw::gb_try_resolve(pass, base, text(path), path.len(), follow as u32, found)
         })
         .map(Found::of)
     }

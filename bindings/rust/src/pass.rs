@@ -130,6 +130,11 @@ impl Pass {
         done(answer, found)
     }
 
+    /// Whether a call that takes the lock waits, since a thread was passed over.
+    pub(crate) fn is_held_back(&self) -> bool {
+        self.shared.gate.next().is_some()
+    }
+
     /// A change that makes or links.
     pub(crate) fn make(
         &mut self,

@@ -80,6 +80,14 @@ extern "C" {
         follow: u32,
         found: *mut Found,
     ) -> c_int;
+    pub fn gb_try_resolve(
+        pass: *mut Pass,
+        base: u64,
+        path: Path,
+        len: usize,
+        follow: u32,
+        found: *mut Found,
+    ) -> c_int;
     pub fn gb_try_look(
         pass: *mut Pass,
         base: u64,

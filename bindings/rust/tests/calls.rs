@@ -16,6 +16,10 @@ fn each_call() -> Result<(), Error> {
     assert_eq!(pass.symlink(ROOT, "d/f", "/l")?.number, 4);
     assert_eq!(pass.link(ROOT, "/d/f", "/h")?.number, 3);
     assert_eq!(pass.look(ROOT, "/l", Follow::No)?.kind, Kind::Link);
+    assert_eq!(pass.resolve(ROOT, "/l", Follow::Yes)?.number, 3);
+    let missing = pass.resolve(2, "g", Follow::Yes).unwrap_err();
+    assert_eq!(missing.errno(), Some(2));
+    assert_eq!(pass.look_fast(2, "g", Follow::Yes), Err(missing));
     assert_eq!(pass.stat(ROOT, "/l")?.count, 2);
     assert_eq!(pass.readlink(ROOT, "/l")?, Path::new("d/f"));
     assert_eq!(pass.readlink_fast(ROOT, "/l")?.kind, Kind::Link);

@@ -3,7 +3,7 @@ use Rattle.std.specs.Prelude.{◌≡◌, ◌⊎◌, ℕ, ℤ, length, List, Opti
 use Rattle.dc_cache.specs.Calls.{Request, Stamped}
 use Rattle.dc_cache.specs.Passes.{view}
 use Rattle.dc_cache.specs.declared.cache.Pass.{Pass}
-use Rattle.dc_hold.specs.Allowed.{Fast, How, Link, Change, Taken, MayFind, MayReadFast, MayLook, MayMake, MayTake, MayRead, MayLearn, MayShrink, IsFirst, IsSplit, bytes_told}
+use Rattle.dc_hold.specs.Allowed.{Fast, How, Link, Change, Taken, MayFind, MayReadFast, MayLook, MayResolve, MayMake, MayTake, MayRead, MayLearn, MayShrink, IsFirst, IsSplit, bytes_told}
 use Rattle.dc_hold.specs.Buffers.{Read, list_over, read_over}
 use Rattle.dc_hold.specs.Numbers.{status_number, status_of_learn, status_of_sizes}
 use Rattle.dc_hold.specs.declared.hold.Hold.{Hold}
@@ -25,6 +25,9 @@ ReadsFast base path = Answers Link Found (MayReadFast base path) (λ fast. Shows
 
 abbrev pub Looks : Request → Handle → Handle → ℤ → Found → Found → Type 0
 Looks call = Answers (Option Stamped) Found (MayLook call) (λ tried. Shows (tells_tried tried))
+
+abbrev pub Resolves : Request → Handle → Handle → ℤ → Found → Found → Type 0
+Resolves call = Answers (Option Stamped) Found (MayResolve call) (λ tried. Shows (tells_tried tried))
 
 abbrev pub Makes : Request → Handle → Handle → ℤ → Found → Found → Type 0
 Makes call = Answers (Option Change) Found (MayMake call) (λ tried. Shows (tells_change tried))

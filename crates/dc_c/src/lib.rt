@@ -21,7 +21,8 @@ pub use changes::{
 pub use entries::gb_try_entries;
 pub use handle::Handle;
 pub use looks::{
-    gb_look_fast, gb_readlink_fast, gb_try_list, gb_try_look, gb_try_readlink, gb_try_stat,
+    gb_look_fast, gb_readlink_fast, gb_try_list, gb_try_look, gb_try_readlink, gb_try_resolve,
+    gb_try_stat,
 };
 pub use passes::{
     gb_cache_new, gb_cache_with_names, gb_close, gb_counts, gb_learn, gb_pass_join, gb_pass_split,

@@ -3,7 +3,7 @@
 ghost use Rattle.std.specs.Prelude.{◌≡◌, length, MatchOption};
 ghost use Rattle.dc_cache.specs.Calls.{look, stat, readlink, list};
 ghost use Rattle.dc_c.specs.Answering.{Refuses, Shows};
-ghost use Rattle.dc_c.specs.Shapes.{Lists, Looks, LooksFast, ReadsFast, ReadsText};
+ghost use Rattle.dc_c.specs.Shapes.{Lists, Looks, LooksFast, ReadsFast, ReadsText, Resolves};
 ghost use Rattle.dc_hold.specs.Allowed.{bytes_told};
 ghost use Rattle.dc_hold.specs.Buffers.{list_over, read_over};
 ghost use Rattle.dc_hold.specs.Numbers.{follow_by};
@@ -73,6 +73,31 @@ pub extern "C" fn gb_look_fast(
     let fast = hold.look_fast(base, path, follow);
     pass.put(hold);
     tell(found, told_fast(&fast))
+}
+
+/// Where a path leads, by the rows, and if they don't answer by the tree, whose answers fill rows.
+#[unsafe(no_mangle)]
+pub extern "C" fn gb_try_resolve(
+    alloc: Global,
+    pass: &mut Handle,
+    base: u64,
+    path: &[u8],
+    follow: u32,
+    found: &mut Found,
+) -> i32
+    ensures looks { MatchOption (follow_by follow)
+        (Refuses Found BadArgument pass.old pass.new result found.old found.new)
+        (λ how. Resolves (look base path.now how) pass.old pass.new result found.old found.new) }
+{
+    let Some(follow) = follow_of(follow) else {
+        return Status::BadArgument.number();
+    };
+    let Some(mut hold) = pass.take() else {
+        return Status::BadPass.number();
+    };
+    let tried = hold.try_resolve(alloc, base, path, follow);
+    pass.put(hold);
+    tell(found, told_tried(&tried))
 }
 
 /// Where a path leads, by the tree, whose answers fill rows.

@@ -46,7 +46,8 @@
 //! |---|---|---|---|
 //! | `look_fast`, `look_text` | never | none | `Again`, with the cause |
 //! | `readlink_fast` | never | none | `Again`, with the cause; `Link` for a link |
-//! | `try_look` | tries once | for rows, as far as there is any | `None` |
+//! | `try_resolve` | tries once, if the rows don't answer | for rows, as far as there is any | `None` |
+//! | `try_look`, after `look_fast` | tries once | for rows, as far as there is any | `None` |
 //! | `try_look_along` | tries once | none | `None`, `TooFewPlaces` |
 //! | `try_stat`, `try_path_of`, `try_shrink` | tries once | none | `None` |
 //! | `try_readlink`, `try_list` | tries once | for the text or the names | `None`, `NoMemory` |
@@ -65,9 +66,9 @@
 //! | `shrink` | waits, once | none | never |
 //!
 //! A `try_` call tries for the lock once. It answers `None` if another pass has it, and then nothing at
-//! all has changed; a change has then read rows, and may have seen a later clock, but records nothing. Else
-//! it answers as the call that waits. `try_look` asks the tree for the whole path, so a caller asks the rows
-//! first, by `look_fast`, which takes no lock.
+//! all has changed; a `try_resolve` or a change has then read rows, and may have seen a later clock, but
+//! records nothing. Else it answers as the call that waits. `try_look` asks the tree for the whole path, so
+//! a caller asks the rows first, by `look_fast`, which takes no lock; `try_resolve` does both.
 //!
 //! A call that waits takes `rt`, a runtime that can put a thread to sleep (the bound `Wait`); the type of
 //! a call without it says that it returns. A call that may take memory takes `alloc`, the allocator. If
@@ -109,6 +110,7 @@
 //! between, `Long` if more than 256 rows would be used (no name is too long for a row),
 //! `Memory` from `look_counted`. After `Busy` and `Changed` a second `look_fast` may well answer; after
 //! the others only a call that takes the lock does: `look_missed`, or `try_look`, and both fill the rows.
+//! If many look-ups miss, ask `resolve` or `try_resolve` at once: a miss is quicker by them.
 #![tactic(auto)]
 
 mod along;

@@ -1,7 +1,7 @@
 //! The calls that never wait: look-ups by rows alone, and each call whose name begins with `try_`, which
 //! tries for the lock once.
 
-ghost use Rattle.std.specs.Prelude.{◌≡◌, ◌≢◌, ◌≤◌, ◌+◌, [], None, Some, IfSome, IfNone, IsSome};
+ghost use Rattle.std.specs.Prelude.{◌≡◌, ◌≢◌, ◌⊎◌, ◌≤◌, ◌+◌, [], None, Some, IfSome, IfNone, IsSome};
 ghost use Rattle.dc_cache.specs.Answers.{Answered, IfFast, Made, Told};
 ghost use Rattle.dc_cache.specs.Holds.{FillsOnce, ReadsOnce};
 ghost use Rattle.dc_cache.specs.Losses.{if_made, parted, LeavesWarm, TakesAway};
@@ -26,7 +26,7 @@ use dc_names::{NoMemory, PathText, TextFault, parse};
 use dc_plain::{Call, Follow, Reply, Stamped};
 use dc_rows::{ChangeFault, Guard};
 use dc_table::Wakes;
-use dc_walk::{Fast, Room, walk_briefly, walk_fast};
+use dc_walk::{Fast, walk_briefly, walk_fast};
 use std::alloc::Global;
 
 impl<W: Wakes> Cache<W> {
@@ -116,6 +116,45 @@ impl<W: Wakes> Cache<W> {
         }
     }
 
+    /// Where a path leads, in one call. If the rows don't answer, it tries for the lock, once however long
+    /// the path is: under it the rows that it has just read answer again if none of them has changed, and
+    /// the tree answers for the names behind them, whose rows it fills under the same hold, as far as memory
+    /// for them can be had. A text that is no path is refused without the lock. `None` if the rows don't
+    /// answer and another pass has the lock: then nothing is recorded.
+    #[must_use]
+    pub fn try_resolve(
+        &self,
+        alloc: Global,
+        pass: &mut Pass,
+        base: u64,
+        path: &[u8],
+        follow: Follow,
+    ) -> Option<Stamped>
+        requires pass { Fits self.now pass.old }
+        ensures same { Fits self.now pass.new × (share pass.new ≡ share pass.old) }
+        ensures answered { IfSome result (Answered pass.old pass.new (Look base path.now follow)) }
+        ensures once { IfSome result (λ _. HasNotTried (known pass.old) (known pass.new)
+            ⊎ FillsOnce (known pass.old) (known pass.new)) }
+        ensures refused { fault_of path.now ≢ None →
+            IsSome result × HasNotTried (known pass.old) (known pass.new) }
+        ensures held { IfNone result (WalkedAndFoundHeld pass.old pass.new) }
+    {
+        let text = match parse(path) {
+            Ok(text) => text,
+            Err(fault) => return Some(self.refuse(pass, base, path, follow, fault)),
+        };
+        if let Some(stamped) = self.look_briefly(pass, base, text, follow) {
+            return Some(stamped);
+        }
+        let look = dc_walk::Look {
+            base,
+            path: text,
+            follow,
+        };
+        let noted = Some(&pass.room);
+        under_lock::look_up_trying::<W>(&self.shared, alloc, &mut pass.seat, noted, look)
+    }
+
     /// Where a path leads, for a caller whose `look_fast` or `look_text` has just given up: it asks the tree
     /// for the whole path, and fills its rows under the same hold of the lock, so that the next look-up
     /// finds them. A text that is no path is refused without the lock. `None` if another pass has the lock:
@@ -143,17 +182,7 @@ impl<W: Wakes> Cache<W> {
             Err(fault) => return Some(self.refuse(pass, base, path, follow, fault)),
         };
         let look = dc_walk::Look { base, path, follow };
-        // For the borrow checker it is made before the guard, whose lifetime it has.
-        let noted: Option<&Room> = None;
-        match Guard::try_lock(&self.shared, &mut pass.seat) {
-            Ok(guard) => {
-                let (back, found) = under_lock::look_up::<W>(guard, alloc, noted, look);
-                // For the proof, here and below: the seat is back as it is bound.
-                let _seat = back;
-                Some(found)
-            }
-            Err(_seat) => None,
-        }
+        under_lock::look_up_trying::<W>(&self.shared, alloc, &mut pass.seat, None, look)
     }
 
     /// Makes a change. It looks the directory of the change's name up by rows, and then tries for the lock,
@@ -255,6 +284,7 @@ impl<W: Wakes> Cache<W> {
         match Guard::try_lock(&self.shared, &mut pass.seat) {
             Ok(guard) => {
                 let (back, sought) = under_lock::seek::<W>(guard, &call);
+                // For the proof, here and below: the seat is back as it is bound.
                 let _seat = back;
                 Some(sought)
             }

@@ -11,6 +11,7 @@ ghost use Rattle.dc_rows.specs.Guards.{seat_of, kept_by};
 ghost use Rattle.dc_rows.specs.Outcomes.{IsBack};
 ghost use Rattle.dc_table.specs.Changes.{IsTaken};
 ghost use Rattle.dc_table.specs.Passes.{known, view, share, IsIdle, IsSamePass};
+ghost use Rattle.dc_table.specs.Shares.{tried};
 ghost use Rattle.dc_walk.specs.Findings.{CanWalk};
 ghost use Rattle.dc_walk.specs.Looks.{look_shown};
 ghost use Rattle.dc_walk.specs.Placing.{AreNoted};
@@ -132,9 +133,34 @@ pub(crate) fn look_up_waiting<R: Wait>(
 {
     let guard = Guard::lock(shared, rt, seat);
     let (back, found) = look_up::<Sleepers>(guard, alloc, noted, look);
-    // For the proof: the seat is back as it is bound.
+    // For the proof, here and below: the seat is back as it is bound.
     let _seat = back;
     found
+}
+
+/// Answers a look-up as `look_up`, under a hold that it tries for once. `None` if another pass has the lock.
+pub(crate) fn look_up_trying<W: Wakes>(
+    shared: &Shared,
+    alloc: Global,
+    seat: &mut Seat,
+    noted: Option<&Room>,
+    look: dc_walk::Look<'_>,
+) -> Option<Stamped>
+    requires can { CanWalk shared.now seat.old }
+    requires noted { IfSome noted (λ room. AreNoted (view seat.old) (share seat.old).rows room.now) }
+    ensures same { IsSamePass seat.old seat.new × IsIdle seat.new }
+    ensures once { IfSome result (λ _. FillsOnce (known seat.old) (known seat.new)) }
+    ensures recorded { IfSome result (Records seat.old seat.new (look_shown look.entry)) }
+    ensures held { IfNone result (known seat.new ≡ tried (known seat.old)) }
+{
+    match Guard::try_lock(shared, seat) {
+        Ok(guard) => {
+            let (back, found) = look_up::<W>(guard, alloc, noted, look);
+            let _seat = back;
+            Some(found)
+        }
+        Err(_seat) => None,
+    }
 }
 
 /// Makes a change, under a hold of the lock that it tries for once, and tells what goes by it if it is made,

@@ -60,6 +60,10 @@ pub record MayReadFast (base : ℕ) (path : List ℕ) (p q : Pass) (fast : Link)
 abbrev pub MayLook : Request → Pass → Pass → Option Stamped → Type 0
 MayLook call p q tried = MatchOption tried (FoundHeld p q) (Answered p q call)
 
+-- a look-up by the rows, and if they don't answer by the tree
+abbrev pub MayResolve : Request → Pass → Pass → Option Stamped → Type 0
+MayResolve call p q tried = MatchOption tried (WalkedAndFoundHeld p q) (Answered p q call)
+
 -- a change
 abbrev pub Change : Type 0
 Change = Result Stamped ChangeFault

@@ -115,6 +115,24 @@ impl Hold {
         self.common.cache.counts().evictions
     }
 
+    /// Where a path leads, as `Sleepless::try_resolve`.
+    #[must_use]
+    pub fn try_resolve(
+        &mut self,
+        alloc: Global,
+        base: u64,
+        path: &[u8],
+        follow: Follow,
+    ) -> Option<Stamped>
+        ensures answered { IfSome result
+            (Answered self.old.pass self.new.pass (look base path.now follow)) }
+        ensures held { IfNone result (WalkedAndFoundHeld self.old.pass self.new.pass) }
+    {
+        self.common
+            .cache
+            .try_resolve(alloc, &mut self.pass, base, path, follow)
+    }
+
     /// Where a path leads, as `Sleepless::try_look`.
     #[must_use]
     pub fn try_look(

@@ -18,7 +18,8 @@ pub enum Way {
     Tries,
     /// A look-up fills and pins the rows of its path one by one. Other calls wait.
     Fills,
-    /// A look-up fills all rows of its path under one hold of the lock. Other calls wait.
+    /// A look-up fills all rows of its path under one hold of the lock, for which it tries first. Other
+    /// calls wait.
     FillsPath,
 }
 
@@ -78,6 +79,10 @@ fn look<R: Wait>(
     }
     let Asked { base, path, follow } = asked;
     if let Way::FillsPath = way {
+        if let Some(found) = cache.try_resolve(alloc, pass, base, path, follow) {
+            return found;
+        }
+        tally.count_held();
         return cache.resolve(rt, alloc, pass, base, path, follow);
     }
     if let Way::Tries = way {

@@ -29,6 +29,14 @@ fn has_a_row_once_it_is_found(alloc: Global, hold: &mut Hold) -> bool {
     missed && is_found && fast == tried
 }
 
+/// Whether a name that is nowhere is refused, and has its row from then on.
+fn has_a_row_once_it_is_resolved(alloc: Global, hold: &mut Hold) -> bool {
+    let tried = told_tried(&hold.try_resolve(alloc, ROOT, b"/b", Follow::Yes));
+    let fast = told_fast(&hold.look_fast(ROOT, b"/b", Follow::Yes));
+    let is_refused = tried.status == Status::Refused(2) && tried.found == found(0, 0, 0, 1);
+    is_refused && fast == tried
+}
+
 /// Whether a directory is made as the first change.
 fn is_made_first(alloc: Global, hold: &mut Hold) -> bool {
     let made = told_change(&hold.try_change(alloc, &mkdir(b"/a")));
@@ -46,10 +54,10 @@ fn is_counted(hold: &mut Hold) -> bool {
     told_tried(&hold.try_stat(ROOT, b"/")).found == found(1, 1, 1, 1)
 }
 
-/// Whether a hold learns of one change alone, and empties the one row that is filled.
+/// Whether a hold learns of one change alone, and empties the two rows that are filled.
 fn learns_and_empties(hold: &mut Hold) -> bool {
     let learns = hold.learn(1) == (true, 1) && hold.learn(2) == (false, 1);
-    learns && hold.try_shrink(9) == Some(1)
+    learns && hold.try_shrink(9) == Some(2)
 }
 
 #[test]
@@ -57,6 +65,7 @@ fn a_directory_is_made_and_found(rt: HostRuntime) {
     let mut hold = Hold::new(rt.alloc(), 16, 16, 32).expect(&rt, "memory");
     assert!(rt; is_made_first(rt.alloc(), &mut hold));
     assert!(rt; has_a_row_once_it_is_found(rt.alloc(), &mut hold));
+    assert!(rt; has_a_row_once_it_is_resolved(rt.alloc(), &mut hold));
     assert!(rt; is_refused(&mut hold) && is_counted(&mut hold));
     assert!(rt; learns_and_empties(&mut hold));
 }

@@ -51,6 +51,8 @@ pub enum Step<'a> {
 pub enum Tried<'a> {
     Change(Act<'a>, Want<'a>, u64),
     Look(&'a [u8], Follow, Want<'a>, u64),
+    /// A look-up that asks the rows first.
+    Resolve(&'a [u8], Follow, Want<'a>, u64),
     Stat(&'a [u8], Want<'a>, u64),
     Readlink(&'a [u8], Want<'a>, u64),
     List(&'a [u8], Want<'a>, u64),
@@ -165,6 +167,30 @@ pub fn is_changed(made: &Option<Result<Stamped, ChangeFault>>, want: Want<'_>, a
     }
 }
 
+/// Whether a look-up that never waits comes to what it should.
+fn is_tried_look(alloc: Global, cache: &Dcache, pass: &mut Pass, tried: &Tried<'_>) -> bool
+    requires { Fits cache.now pass.old }
+    ensures { Fits cache.now pass.new }
+{
+    match tried {
+        Tried::Look(path, follow, want, at) => {
+            is_found(
+                &cache.try_look(alloc, pass, ROOT, path, *follow),
+                *want,
+                *at,
+            )
+        }
+        Tried::Resolve(path, follow, want, at) => {
+            is_found(
+                &cache.try_resolve(alloc, pass, ROOT, path, *follow),
+                *want,
+                *at,
+            )
+        }
+        _ => is_tried_read(alloc, cache, pass, tried),
+    }
+}
+
 /// Whether a read that never waits comes to what it should.
 fn is_tried_read(alloc: Global, cache: &Dcache, pass: &mut Pass, tried: &Tried<'_>) -> bool
     requires { Fits cache.now pass.old }
@@ -191,15 +217,8 @@ fn is_tried(alloc: Global, cache: &Dcache, pass: &mut Pass, tried: &Tried<'_>) -
         Tried::Change(act, want, at) => {
             is_changed(&cache.try_change(alloc, pass, &call_of(*act)), *want, *at)
         }
-        Tried::Look(path, follow, want, at) => {
-            is_found(
-                &cache.try_look(alloc, pass, ROOT, path, *follow),
-                *want,
-                *at,
-            )
-        }
         Tried::Shrink(most, emptied) => cache.try_shrink(pass, *most) == Some(*emptied),
-        _ => is_tried_read(alloc, cache, pass, tried),
+        _ => is_tried_look(alloc, cache, pass, tried),
     }
 }
 

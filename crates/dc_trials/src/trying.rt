@@ -47,14 +47,34 @@ fn list_meanwhile<R: Wait>(
 enum Asked {
     Change,
     Look,
+    Resolve,
     Stat,
     Readlink,
     List,
     Shrink,
 }
 
-/// Whether a call answers `None`. Its other answers alter nothing.
-fn is_none(alloc: Global, cache: &Dcache, pass: &mut Pass, asked: Asked) -> bool
+fn digit(number: u32) -> u8 {
+    b'0' + (number % 10) as u8
+}
+
+/// The path of a name that is nowhere, and that no look-up with another number has filled a row for.
+fn path_of(number: u32) -> [u8; 9] {
+    [
+        b'/',
+        b'n',
+        digit(number / 1_000_000),
+        digit(number / 100_000),
+        digit(number / 10_000),
+        digit(number / 1_000),
+        digit(number / 100),
+        digit(number / 10),
+        digit(number),
+    ]
+}
+
+/// Whether a call answers `None`, the one of the try with this number. Its other answers alter nothing.
+fn is_none(alloc: Global, cache: &Dcache, pass: &mut Pass, asked: Asked, number: u32) -> bool
     requires { Fits cache.now pass.old }
     ensures { Fits cache.now pass.new }
 {
@@ -63,6 +83,9 @@ fn is_none(alloc: Global, cache: &Dcache, pass: &mut Pass, asked: Asked) -> bool
         Asked::Look => cache
             .try_look(alloc, pass, ROOT, b"/n", Follow::Yes)
             .is_none(),
+        Asked::Resolve => cache
+            .try_resolve(alloc, pass, ROOT, &path_of(number), Follow::Yes)
+            .is_none(),
         Asked::Stat => cache.try_stat(pass, ROOT, b"/").is_none(),
         Asked::Readlink => cache.try_readlink(alloc, pass, ROOT, b"/").is_none(),
         Asked::List => cache.try_list(alloc, pass, ROOT, b"/").is_none(),
@@ -70,14 +93,16 @@ fn is_none(alloc: Global, cache: &Dcache, pass: &mut Pass, asked: Asked) -> bool
     }
 }
 
-/// Whether look-ups that need no lock are answered: one by the rows alone, and one of a text that is no path.
+/// Whether look-ups that need no lock are answered: two by the rows alone, and one of a text that is no path.
 fn is_answered(alloc: Global, cache: &Dcache, pass: &mut Pass) -> bool
     requires { Fits cache.now pass.old }
     ensures { Fits cache.now pass.new }
 {
-    let root = Step::Fast(b"/..", Want::Found(1, Kind::Dir), FILES);
+    let root = Want::Found(1, Kind::Dir);
+    let fast = is_soon(alloc, cache, pass, &Step::Fast(b"/..", root, FILES));
+    let found = cache.try_resolve(alloc, pass, ROOT, b"/..", Follow::Yes);
     let none = cache.try_look(alloc, pass, ROOT, b"", Follow::Yes);
-    is_soon(alloc, cache, pass, &root) && is_found(&none, Want::Refused(2), FILES)
+    fast && is_found(&found, root, FILES) && is_found(&none, Want::Refused(2), FILES)
 }
 
 /// Tries a call until another pass has the lock, and says whether it came to that, and whether look-ups
@@ -86,8 +111,8 @@ fn is_refused_once(alloc: Global, cache: &Dcache, pass: &mut Pass, asked: Asked)
     requires { Fits cache.now pass.old }
     ensures { Fits cache.now pass.new }
 {
-    for _ in 0..MOST_TRIES {
-        if is_none(alloc, cache, pass, asked) {
+    for number in 0..MOST_TRIES {
+        if is_none(alloc, cache, pass, asked, number) {
             return is_answered(alloc, cache, pass);
         }
     }
@@ -103,6 +128,7 @@ fn try_each(alloc: Global, cache: &Dcache, mut pass: Pass, over: &AtomicBool) ->
     for asked in [
         Asked::Change,
         Asked::Look,
+        Asked::Resolve,
         Asked::Stat,
         Asked::Readlink,
         Asked::List,
@@ -172,6 +198,27 @@ static WHOLE_PATH: [Step<'static>; 6] = [
 #[test]
 fn one_look_fills_the_whole_path(rt: HostRuntime) -> Result<(), Fail> {
     play_anew(&rt, rt.alloc(), 16, 16, &WHOLE_PATH)
+}
+
+static RESOLVED: [Step<'static>; 12] = [
+    Step::Try(Tried::Change(Act::Mkdir(b"/a"), Want::Done(2), 0)),
+    Step::Try(Tried::Change(Act::Create(b"/a/f"), Want::Done(3), 1)),
+    Step::Try(Tried::Change(Act::Symlink(b"f", b"/a/l"), Want::Done(4), 2)),
+    Step::Again(b"/a/f", Why::Miss(0)),
+    Step::Try(Tried::Resolve(b"/a/f", Follow::Yes, Want::Found(3, Kind::File), 3)),
+    Step::Fast(b"/a/f", Want::Found(3, Kind::File), 3),
+    Step::Try(Tried::Resolve(b"/a/l", Follow::No, Want::Found(4, Kind::Link), 3)),
+    Step::Try(Tried::Resolve(b"/a/../a/l", Follow::Yes, Want::Found(3, Kind::File), 3)),
+    Step::Fast(b"/a/../a/l", Want::Found(3, Kind::File), 3),
+    Step::Try(Tried::Resolve(b"/a/g", Follow::Yes, Want::Refused(2), 3)),
+    Step::Fast(b"/a/g", Want::Refused(2), 3),
+    Step::Try(Tried::Resolve(b"", Follow::Yes, Want::Refused(2), 3)),
+];
+
+/// Behind the names whose rows answer the tree does, and its rows are filled, also of a dot-dot and a link.
+#[test]
+fn one_call_goes_on_from_where_the_rows_end(rt: HostRuntime) -> Result<(), Fail> {
+    play_anew(&rt, rt.alloc(), 16, 16, &RESOLVED)
 }
 
 static ANSWERED: [Step<'static>; 7] = [

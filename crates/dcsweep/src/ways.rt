@@ -18,6 +18,8 @@ pub enum Way {
     Fills,
     /// A look-up that fills the rows of its whole path under one hold of the lock.
     FillsPath,
+    /// The same, which tries for the lock.
+    TriesPath,
     /// A look-up for who has just asked the rows, which fills them too.
     Missed,
     /// A page of a directory is told.
@@ -34,6 +36,7 @@ impl Way {
             "try" => Some(Way::Tries),
             "counted" => Some(Way::Fills),
             "filled" => Some(Way::FillsPath),
+            "tried" => Some(Way::TriesPath),
             "missed" => Some(Way::Missed),
             "pages" => Some(Way::Pages),
             "free" => Some(Way::Free),
@@ -189,6 +192,24 @@ fn fill<R: Wait>(
     }
 }
 
+/// Answers a look-up that fills the rows of its whole path, if the lock is free.
+fn try_fill(
+    alloc: Global,
+    cache: &Dcache,
+    pass: &mut Pass,
+    call: &Call<'_>,
+) -> Option<Result<Stamped, Unanswered>>
+    requires { Fits cache.now pass.old }
+    ensures { Fits cache.now pass.new }
+{
+    match *call {
+        Call::Look { base, path, follow } => {
+            Some(Ok(cache.try_resolve(alloc, pass, base, path, follow)?))
+        }
+        _ => None,
+    }
+}
+
 /// Answers a look-up that asks the tree alone, and fills the rows of its whole path.
 fn look_missed<R: Wait>(
     rt: &R,
@@ -260,6 +281,14 @@ fn do_free<R: Wait>(rt: &R, cache: &Dcache, pass: &mut Pass)
     cache.join(pass, other);
 }
 
+/// What a call that tries for the lock comes to in one thread, where nobody else has it.
+fn at_once(told: Option<Result<Stamped, Unanswered>>) -> Result<Stamped, Unanswered> {
+    match told {
+        Some(told) => told,
+        None => Err(Unanswered::Strange),
+    }
+}
+
 /// Answers the call of a trial in its way.
 pub fn answer_by<R: Wait>(
     rt: &R,
@@ -277,10 +306,8 @@ pub fn answer_by<R: Wait>(
         Way::Fills => count(rt, alloc, cache, pass, call),
         Way::FillsPath => fill(rt, alloc, cache, pass, call),
         Way::Missed => look_missed(rt, alloc, cache, pass, call),
-        Way::Tries => match try_answer(alloc, cache, pass, call) {
-            Some(told) => told,
-            None => Err(Unanswered::Strange),
-        },
+        Way::Tries => at_once(try_answer(alloc, cache, pass, call)),
+        Way::TriesPath => at_once(try_fill(alloc, cache, pass, call)),
         Way::Pages => page(rt, alloc, cache, pass, call),
         Way::Free => {
             do_free(rt, cache, pass);
