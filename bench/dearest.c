@@ -6,7 +6,8 @@
  * and so on, 40 links in all; each text has as many names as 4,090 bytes hold. A change has it before its last name,
  * and a rename and a link have two such paths. The ordinary path has four names. Prints for each kind of call
  * microseconds of the processor, the least of RUNS runs, ordinary and dearest: of gb_try_ calls, nearly all of which is
- * under the lock, or of the same calls of the kernel's. At last lists of a directory of MANY names.
+ * under the lock, or of the same calls of the kernel's. At last the dearest look-up with its trail, and a list of a
+ * directory of MANY names.
  */
 #define _GNU_SOURCE
 #include <fcntl.h>
@@ -18,7 +19,7 @@
 #include <time.h>
 #include <unistd.h>
 
-enum { LINKS = 40, LONGEST = 4090, DEPTH = 2040, RUNS = 5, MANY = 1000000, ROOM = 32 << 20 };
+enum { LINKS = 40, LONGEST = 4090, DEPTH = 2040, RUNS = 5, MANY = 1000000, PLACES = 4096, ROOM = 32 << 20 };
 
 struct path {
     char bytes[LONGEST + 64];
@@ -158,6 +159,22 @@ static void time_all(size_t depth, const char *front, double *least)
     must(call(UNLINK, &link, NULL) == 0, "unlink");
 }
 
+/* The dearest look-up with its trail, which is compared with itself for each name. */
+static void look_along(void)
+{
+    static uint64_t trail[PLACES];
+    struct path it = down(DEPTH, "aa");
+    double least = 0;
+    for (int run = 0; run < RUNS; run++) {
+        double begun = now();
+        int answer = gb_try_look_along(&pass, GB_ROOT, it.bytes, it.len, GB_FOLLOW, trail, PLACES, &found);
+        double took = now() - begun;
+        must(answer == 0, "gb_try_look_along");
+        least = !run || took < least ? took : least;
+    }
+    printf("look along a trail of %d directories: %.1f ms\n", (int)found.count, least / 1e3);
+}
+
 static void list_many(void)
 {
     char name[32];
@@ -185,7 +202,9 @@ int main(int count, char **words)
     printf("%-10s%12s%12s\n", "", "ordinary us", "dearest ms");
     for (int kind = 0; kind < KINDS; kind++)
         printf("%-10s%12.2f%12.2f\n", names[kind], ordinary[kind], dearest[kind] / 1e3);
-    if (!is_kernel)
+    if (!is_kernel) {
+        look_along();
         list_many();
+    }
     return 0;
 }

@@ -23,12 +23,13 @@
  * the same in one call, quicker if many miss   gb_resolve; gb_try_resolve if it may not wait
  * its kind and names; a link's text; a list    gb_stat; gb_readlink; gb_list
  * the path of a directory, by its number       gb_path_of
+ * to test search permission on a path's way    gb_look_along; gb_look_fast_along if it may not wait
  * a large directory, some entries at a time    gb_entries
  * to change the tree                           gb_mkdir, gb_create, gb_symlink, gb_link, gb_unlink, gb_rmdir, gb_rename
  * the same, but never to wait                  gb_try_stat, gb_try_mkdir, .. (GB_BUSY: another pass has the lock)
  * a pass for one more thread                   gb_pass_split
  * to see a change that another thread reports  gb_learn
- * to know whether the cache has too few rows   gb_counts; gb_look_counting, how look-ups were answered
+ * to know whether the cache has too few rows   gb_counts, gb_rows_in_use; gb_look_counting, how look-ups were answered
  *
  * Each thread calls with a pass of its own. gb_cache_new makes the first one, gb_pass_split one more. A cache lives
  * until its last pass is closed. A pass weighs 43 KB, and a split takes 20 to 70 microseconds: keep one for each thread
@@ -95,7 +96,8 @@ enum {
     GB_BAD_SIZE = -5,     /* gb_cache_new, gb_cache_with_names: not those numbers of buckets or inodes */
     GB_BAD_PASS = -6,     /* a blank pass for an open one, an open one for a blank one, or one of another cache */
     GB_BAD_ARGUMENT = -7, /* `follow` or `flags` is none of the numbers below; too little room; no name */
-    GB_NOT_YET = -8       /* gb_learn: not that many changes have been made */
+    GB_NOT_YET = -8,      /* gb_learn: not that many changes have been made */
+    GB_NO_ROOM = -9       /* gb_look_along: the trail has more directories than there are places */
 };
 
 /* The most bytes that a path has, and so the least room of gb_path_of. */
@@ -113,7 +115,7 @@ enum { GB_FOLLOW = 0, GB_NO_FOLLOW = 1, GB_DIRECTORY = 2 };
  * two names swap what they name. Both together are refused with EINVAL. */
 enum { GB_NO_REPLACE = 1, GB_EXCHANGE = 2 };
 
-/* Why gb_look_fast or gb_readlink_fast answered GB_AGAIN. */
+/* Why gb_look_fast, gb_look_fast_along or gb_readlink_fast answered GB_AGAIN. */
 enum {
     GB_WHY_NONE = 0,
     GB_WHY_MISS = 1,    /* no row tells of a name that is asked for */
@@ -123,11 +125,12 @@ enum {
     GB_WHY_LINK = 5     /* no row has the text of a link */
 };
 
-/* What was found. With answer 0 all of it holds, with a refusal `at` alone, with GB_AGAIN `why` alone, and what doesn't
- * hold is 0. GB_BAD_PASS and GB_BAD_ARGUMENT leave it as it was, as they do all that a call may write to. */
+/* What was found. With answer 0 all of it holds, with a refusal `at` alone (of calls that tell a trail `count` too),
+ * with GB_AGAIN `why` alone, and what doesn't hold is 0. GB_BAD_PASS and GB_BAD_ARGUMENT leave it as it was, as they do
+ * all that a call may write to. */
 struct gb_found {
     uint64_t number; /* what the path leads to; the inode that a change made, or gb_link gave a name; else 0 */
-    uint64_t count;  /* of gb_stat, gb_entries names or entries, of gb_readlink, gb_list, gb_path_of bytes; else 0 */
+    uint64_t count;  /* how many names, entries, bytes or directories, of the calls that say so; else 0 */
     uint64_t at;     /* how many changes came before the moment of this answer */
     uint32_t kind;   /* GB_DIR, GB_FILE, GB_LINK; of changes 0 */
     uint32_t why;    /* GB_WHY_NONE, or the cause of GB_AGAIN */
@@ -213,6 +216,40 @@ int gb_try_resolve(struct gb_pass *pass, uint64_t base, const char *path, size_t
  * Answers 0 with number and kind, a refusal, GB_BUSY, GB_BAD_PASS, GB_BAD_ARGUMENT. */
 int gb_try_look(struct gb_pass *pass, uint64_t base, const char *path, size_t len, uint32_t follow,
                 struct gb_found *found);
+
+/* Looks a path up as gb_try_resolve does, and tells its trail: each directory in which the path asks for a name or for
+ * dot-dot, up to where it ends, once, by when it asks there first. `/a/../b` asks in the root, in a, and in the root
+ * again: its trail is 1 and the number of a. What the texts of links lead through is part of it, and a path that is
+ * refused has one too. A relative path asks in `base` first, whether that lives; a dot asks nothing, nor does the
+ * root's dot-dot. Writes the trail into `trail`, which has room for `places` numbers. How many it has is in `count`,
+ * also with a refusal.
+ * It is for a caller that keeps modes by inode number: test search permission in each directory of the trail, and only
+ * then tell the answer. If one may not be searched, POSIX wants EACCES, even if the tree refuses the path for a name
+ * further on, as by ENOENT.
+ * Without a link on its way, a path of n names and dot-dots has at most n directories in its trail, or one if n is 0.
+ * If there are more than `places`, the answer is GB_NO_ROOM: ask again with more. After that and GB_BUSY what stands in
+ * `trail` is no trail. A text that is no path is refused without the lock, and has no trail.
+ * The rows are asked first, without the lock. If they don't answer, it tries for the lock once, asks the tree for the
+ * whole path, and fills its rows for the next look-up as far as there is memory. It never answers GB_NO_MEMORY.
+ * Under the lock others wait while each directory is compared with those before it: a trail of 2,040 takes a
+ * millisecond or so, and filling its rows as long again. By 40 links whose texts have 4,090 bytes each a path may ask
+ * in 80,000, and take two seconds; with 2,048 places none takes longer than some 50 milliseconds.
+ * Proved: number, kind and trail are those of one moment, and with GB_NO_ROOM the trail has more than `places`. What
+ * stands behind the trail may change up to `places`, and no further. That rows are asked first, and filled, is tested.
+ * Answers 0 with number and kind, a refusal, GB_BUSY, GB_NO_ROOM, GB_BAD_PASS, GB_BAD_ARGUMENT. */
+int gb_try_look_along(struct gb_pass *pass, uint64_t base, const char *path, size_t len, uint32_t follow,
+                      uint64_t *trail, size_t places, struct gb_found *found);
+
+/* Looks a path up by the rows alone, and tells its trail as gb_try_look_along does, under the terms of gb_look_fast: no
+ * lock, no memory, no wait, and a bounded number of loads. If it answers GB_AGAIN or GB_NO_ROOM, what stands in `trail`
+ * is no trail, and gb_try_look_along answers.
+ * GB_NO_ROOM says that by the rows that it read the trail has more directories than `places`. Whether these rows have
+ * changed meanwhile isn't checked then, so `places` may be enough all the same: gb_try_look_along says it exactly.
+ * Proved: as of gb_look_fast, and number, kind and trail are those of one moment. What stands behind the trail may
+ * change up to `places`, and no further.
+ * Answers 0 with number and kind, a refusal, GB_AGAIN, GB_NO_ROOM, GB_BAD_PASS, GB_BAD_ARGUMENT. */
+int gb_look_fast_along(struct gb_pass *pass, uint64_t base, const char *path, size_t len, uint32_t follow,
+                       uint64_t *trail, size_t places, struct gb_found *found);
 
 /* Number and kind of what a path leads to, a last link followed, and in `count` how many names it has, or of a
  * directory how many entries. Takes the lock, and no memory.
@@ -323,6 +360,12 @@ int gb_try_shrink(struct gb_pass *pass, uint64_t most, uint64_t *emptied);
  * Proved: no answer is recorded. The number is tested.
  * Answers 0, GB_BAD_PASS. */
 int gb_counts(struct gb_pass *pass, uint64_t *evictions);
+
+/* Writes to `rows` how many rows tell of a name, or of a link's text, at the moment. A cache has four rows for each of
+ * its buckets. Takes no lock and no memory.
+ * Proved: no answer is recorded. The number is tested.
+ * Answers 0, GB_BAD_PASS. */
+int gb_rows_in_use(struct gb_pass *pass, uint64_t *rows);
 
 /* The blocking forms, in plain C. Nothing of them is proved.
  *
@@ -675,6 +718,17 @@ static inline int gb_resolve(struct gb_gate *gate, struct gb_pass *pass, uint64_
             return told;
     }
     GB_BLOCKING(gate, gb_try_resolve(pass, base, path, len, follow, found));
+}
+
+/* gb_look_fast_along, and if the rows don't answer, or tell of a trail with more directories than there are places,
+ * gb_try_look_along. */
+static inline int gb_look_along(struct gb_gate *gate, struct gb_pass *pass, uint64_t base, const char *path, size_t len,
+                                uint32_t follow, uint64_t *trail, size_t places, struct gb_found *found)
+{
+    int told = gb_look_fast_along(pass, base, path, len, follow, trail, places, found);
+    if (told != GB_AGAIN && told != GB_NO_ROOM)
+        return told;
+    GB_BLOCKING(gate, gb_try_look_along(pass, base, path, len, follow, trail, places, found));
 }
 
 /* gb_try_stat. */

@@ -15,7 +15,7 @@ static struct gb_found found;
 static struct gb_gone gone;
 static char bytes[3];
 static struct gb_entry entries[1];
-static uint64_t emptied;
+static uint64_t emptied, trail[1];
 static const char path[] = "p", other[] = "o";
 static int wrong, sleeps, by_rows = GB_AGAIN;
 
@@ -68,6 +68,19 @@ int gb_try_look(struct gb_pass *pass, uint64_t base, const char *path, size_t le
                 struct gb_found *found)
 {
     CALL("look", base, WORD(path), len, follow, WORD(found));
+}
+
+int gb_try_look_along(struct gb_pass *pass, uint64_t base, const char *path, size_t len, uint32_t follow,
+                      uint64_t *trail, size_t places, struct gb_found *found)
+{
+    CALL("look_along", base, WORD(path), len, follow, WORD(trail), places, WORD(found));
+}
+
+int gb_look_fast_along(struct gb_pass *pass, uint64_t base, const char *path, size_t len, uint32_t follow,
+                       uint64_t *trail, size_t places, struct gb_found *found)
+{
+    (void)pass, (void)base, (void)path, (void)len, (void)follow, (void)trail, (void)places, (void)found;
+    return by_rows;
 }
 
 int gb_try_stat(struct gb_pass *pass, uint64_t base, const char *path, size_t len, struct gb_found *found)
@@ -182,6 +195,8 @@ static void try_forms(void)
     TRY(gb_look_missed, "look", (&gate, &pass, 2, path, 3, 4, &found), 2, WORD(path), 3, 4, WORD(&found));
     TRY(gb_look, "look", (&gate, &pass, 2, path, 3, 4, &found), 2, WORD(path), 3, 4, WORD(&found));
     TRY(gb_resolve, "resolve", (&gate, &pass, 2, path, 3, 4, &found), 2, WORD(path), 3, 4, WORD(&found));
+    TRY(gb_look_along, "look_along", (&gate, &pass, 2, path, 3, 4, trail, 5, &found), 2, WORD(path), 3, 4, WORD(trail), 5,
+        WORD(&found));
     TRY(gb_stat, "stat", (&gate, &pass, 2, path, 3, &found), 2, WORD(path), 3, WORD(&found));
     TRY(gb_readlink, "readlink", (&gate, &pass, 2, path, 3, bytes, 4, &found), 2, WORD(path), 3, WORD(bytes), 4,
         WORD(&found));
@@ -202,14 +217,28 @@ static void try_forms(void)
 }
 
 /* What the rows answer while a ticket is out doesn't wait. */
-static void resolve_past_a_ticket(void)
+static void look_past_a_ticket(void)
 {
     begin();
     gate.tickets++;
     by_rows = ANSWER;
     is("gb_resolve", "the answer while a ticket is out", gb_resolve(&gate, &pass, 2, path, 3, 4, &found), ANSWER);
-    is("gb_resolve", "the number of calls while a ticket is out", calls + sleeps, 0);
+    is("gb_look_along", "the answer while a ticket is out",
+       gb_look_along(&gate, &pass, 2, path, 3, 4, trail, 5, &found), ANSWER);
+    is("both", "the number of calls while a ticket is out", calls + sleeps, 0);
     gate.tickets--;
+    by_rows = GB_AGAIN;
+}
+
+/* The tree says whether there are too few places. */
+static void look_along_without_room(void)
+{
+    begin();
+    busy = 0;
+    by_rows = GB_NO_ROOM;
+    is("gb_look_along", "the answer without room by the rows",
+       gb_look_along(&gate, &pass, 2, path, 3, 4, trail, 5, &found), ANSWER);
+    is("gb_look_along", "the number of calls without room by the rows", calls, 1);
     by_rows = GB_AGAIN;
 }
 
@@ -222,7 +251,8 @@ int main(void)
         busy = often[i];
         try_forms();
     }
-    resolve_past_a_ticket();
+    look_past_a_ticket();
+    look_along_without_room();
     printf("%d things of blocking forms are not as they should be\n", wrong);
     return wrong != 0;
 }

@@ -39,6 +39,18 @@ static int resolve(struct gb_pass *with, const char *path, size_t len)
     return gb_try_resolve(with, ROOT, path, len, GB_FOLLOW, &found);
 }
 
+static int look_along(struct gb_pass *with, const char *path, size_t len)
+{
+    uint64_t trail[1];
+    return gb_try_look_along(with, ROOT, path, len, GB_FOLLOW, trail, 1, &found);
+}
+
+static int look_fast_along(struct gb_pass *with, const char *path, size_t len)
+{
+    uint64_t trail[1];
+    return gb_look_fast_along(with, ROOT, path, len, GB_FOLLOW, trail, 1, &found);
+}
+
 static int stat(struct gb_pass *with, const char *path, size_t len)
 {
     return gb_try_stat(with, ROOT, path, len, &found);
@@ -111,7 +123,7 @@ static const struct {
     int (*call)(struct gb_pass *with, const char *path, size_t len);
 } calls[] = {
     {"look_fast", look_fast},   {"look", look},           {"resolve", resolve},   {"stat", stat},
-    {"readlink", readlink},
+    {"look_along", look_along}, {"look_fast_along", look_fast_along}, {"readlink", readlink},
     {"list", list},             {"mkdir", mkdir},         {"create", create},     {"symlink to", symlink_to},
     {"symlink at", symlink_at}, {"link old", link_old},   {"link new", link_new}, {"unlink", unlink},
     {"rmdir", rmdir},           {"rename old", rename_old}, {"rename new", rename_new},
@@ -130,7 +142,7 @@ static void try_texts(void)
         is(calls[i].name, "4,096 bytes", calls[i].call(&pass, longest, sizeof longest), ENAMETOOLONG);
         is(calls[i].name, "a name of 256", calls[i].call(&pass, name, sizeof name), ENAMETOOLONG);
         int answer = calls[i].call(&pass, "/f/x", 4);
-        if (answer == GB_AGAIN && calls[i].call == look_fast)
+        if (answer == GB_AGAIN && (calls[i].call == look_fast || calls[i].call == look_fast_along))
             continue;
         is(calls[i].name, "beneath a file", answer, calls[i].call == symlink_to ? 0 : ENOTDIR);
         if (calls[i].call == symlink_to)

@@ -14,7 +14,7 @@ static struct gb_pass pass, blank;
 static struct gb_found found;
 static struct gb_gone gone;
 static char bytes[ROOM];
-static uint64_t emptied, base = GB_ROOT;
+static uint64_t trail[ROOM], emptied, base = GB_ROOT;
 static int wrong;
 
 static void is(const char *what, const char *detail, int64_t got, int64_t want)
@@ -46,6 +46,11 @@ static struct gb_looks looks;
 static int look_counting(struct gb_pass *with, const char *path, size_t len)
 {
     return gb_look_counting(&gate, with, base, path, len, GB_FOLLOW, &found, &looks);
+}
+
+static int look_along(struct gb_pass *with, const char *path, size_t len)
+{
+    return gb_look_along(&gate, with, base, path, len, GB_FOLLOW, trail, ROOM, &found);
 }
 
 static int count(struct gb_pass *with, const char *path, size_t len)
@@ -114,6 +119,7 @@ static const struct {
     {"mkdir", make_directory, "/d", 2}, {"create", create, "/d/f", 3},      {"symlink", make_link, "/l", 4},
     {"link", give_name, "/h", 3},       {"look", look, "/l", 3},            {"look_missed", look_missed, "/d", 2},
     {"look_counting", look_counting, "/l", 3}, {"resolve", resolve, "/l", 3},
+    {"look_along", look_along, "/l", 3},
     {"stat", count, "/h", 3},           {"readlink", read_link, "/l", 0},   {"list", list, "/d", 0},
     {"shrink", shrink, "x", MARK},      {"rename", move, "/d/f", 0},        {"rename", move, "/m", 0},
     {"unlink", take_name, "/l", 0},     {"unlink", take_name, "/d/f", 0},   {"rmdir", take_directory, "/d", 0},
@@ -129,6 +135,8 @@ static void mark(void)
     gone = marked_gone;
     emptied = MARK;
     memset(bytes, '#', sizeof bytes);
+    for (int i = 0; i < ROOM; i++)
+        trail[i] = MARK;
 }
 
 static int is_marked(const char *what, const char *detail)
@@ -137,9 +145,12 @@ static int is_marked(const char *what, const char *detail)
     struct gb_gone was_gone = gone;
     uint64_t was_emptied = emptied;
     char were[ROOM];
+    uint64_t was_trail[ROOM];
     memcpy(were, bytes, sizeof were);
+    memcpy(was_trail, trail, sizeof was_trail);
     mark();
-    int same = memcmp(&was, &found, sizeof was) == 0 && memcmp(&was_gone, &gone, sizeof was_gone) == 0;
+    int same = memcmp(&was, &found, sizeof was) == 0 && memcmp(&was_gone, &gone, sizeof was_gone) == 0 &&
+               memcmp(was_trail, trail, sizeof was_trail) == 0;
     is(what, detail, same && was_emptied == emptied && memcmp(were, bytes, sizeof were) == 0, 1);
     return same;
 }
@@ -158,6 +169,7 @@ static void try_bad(int i)
     is(name, "a zero byte: number", (int64_t)found.number, 0);
     is(name, "a zero byte: why", found.why, GB_WHY_NONE);
     is(name, "a zero byte: bytes", memcmp(bytes, "########", ROOM), 0);
+    is(name, "a zero byte: trail", (int64_t)trail[0], MARK);
     if (gone.number != MARK)
         is(name, "a zero byte: gone", (int64_t)(gone.number + gone.kind + gone.last), 0);
     is(name, "beneath a missing name", forms[i].call(&pass, "/no/x", 5), ENOENT);
@@ -184,6 +196,8 @@ static void try_good(int i)
     is(forms[i].name, "number", (int64_t)found.number, (int64_t)forms[i].number);
     if (forms[i].call == read_link)
         is("readlink", "text", memcmp(bytes, "d/f#####", ROOM), 0);
+    if (forms[i].call == look_along)
+        is("look_along", "trail", trail[0] == GB_ROOT && trail[1] == 2 && trail[2] == MARK && found.count == 2, 1);
     if (forms[i].call == list)
         is("list", "names", memcmp(bytes, "f\0######", ROOM), 0);
     if (forms[i].call == shrink)
@@ -196,6 +210,8 @@ static void try_arguments(void)
     is("look", "a wrong follow", gb_look(&gate, &pass, GB_ROOT, "/", 1, 3, &found), GB_BAD_ARGUMENT);
     is("look_missed", "a wrong follow", gb_look_missed(&gate, &pass, GB_ROOT, "/", 1, 3, &found), GB_BAD_ARGUMENT);
     is("resolve", "a wrong follow", gb_resolve(&gate, &pass, GB_ROOT, "/", 1, 3, &found), GB_BAD_ARGUMENT);
+    is("look_along", "a wrong follow", gb_look_along(&gate, &pass, GB_ROOT, "/", 1, 3, trail, ROOM, &found),
+       GB_BAD_ARGUMENT);
     is("rename", "a wrong flag", gb_rename(&gate, &pass, GB_ROOT, "/", 1, "/", 1, 4, &found, &gone), GB_BAD_ARGUMENT);
     is_marked("a wrong argument", "writes nothing");
     is("readlink", "of a file", read_link(&pass, "/m", 2), EINVAL);

@@ -131,6 +131,7 @@ static void refuse_each(const char *what, int (*call)(void))
 static void look_without_memory(void)
 {
     granted = 0;
+    uint64_t trail[2];
     for (int i = 0; i < LOOKS; i++) {
         char path[] = "/directory/00";
         path[11] = (char)('0' + i / 10);
@@ -140,6 +141,10 @@ static void look_without_memory(void)
         must(gb_try_resolve(&pass, ROOT, path, sizeof path - 1, GB_FOLLOW, &found) == ENOENT, "resolve");
         granted = 0;
     }
+    must(gb_try_look_along(&pass, ROOT, "/absent", 7, GB_FOLLOW, trail, 2, &found) == ENOENT, "look_along of a miss");
+    granted = 0;
+    must(gb_try_look_along(&pass, ROOT, "/link", 5, GB_FOLLOW, trail, 2, &found) == 0, "look_along");
+    granted = 0;
     must(gb_try_resolve(&pass, ROOT, "/link", 5, GB_FOLLOW, &found) == 0, "resolve");
     granted = 0;
     must(gb_try_look(&pass, ROOT, "/link", 5, GB_FOLLOW, &found) == 0, "look");
@@ -157,7 +162,7 @@ static void must_ask_for_none(int answer, int wanted, const char *what)
 static void take_no_memory(void)
 {
     static char path[GB_PATH_MOST];
-    uint64_t number;
+    uint64_t number, trail[2];
     must(gb_try_look(&pass, ROOT, "/link", 5, GB_FOLLOW, &found) == 0, "rows of a link");
     asked = 0;
     must_ask_for_none(gb_look_fast(&pass, ROOT, "/link", 5, GB_FOLLOW, &found), 0, "look_fast");
@@ -166,9 +171,18 @@ static void take_no_memory(void)
     must_ask_for_none(gb_readlink_fast(&pass, ROOT, "/link", 5, &found), 0, "readlink_fast");
     must_ask_for_none(gb_readlink_fast(&pass, ROOT, "/directory", 10, &found), EINVAL, "readlink_fast of a directory");
     must_ask_for_none(gb_try_stat(&pass, ROOT, "/link", 5, &found), 0, "stat");
+    must_ask_for_none(gb_look_fast_along(&pass, ROOT, "/link", 5, GB_FOLLOW, trail, 2, &found), 0, "look_fast_along");
+    must_ask_for_none(gb_look_fast_along(&pass, ROOT, "/lost", 5, GB_FOLLOW, trail, 2, &found), GB_AGAIN,
+                      "look_fast_along of a miss");
+    must_ask_for_none(gb_look_fast_along(&pass, ROOT, "/link", 5, GB_FOLLOW, trail, 1, &found), GB_NO_ROOM,
+                      "look_fast_along without a place");
+    must_ask_for_none(gb_look_fast_along(&pass, ROOT, "", 0, GB_FOLLOW, trail, 2, &found), ENOENT,
+                      "look_fast_along of no path");
+    must_ask_for_none(gb_try_look_along(&pass, ROOT, "/link", 5, GB_FOLLOW, trail, 2, &found), 0, "look_along by rows");
     must_ask_for_none(gb_try_path_of(&pass, ROOT, path, sizeof path, &found), 0, "path_of");
     must_ask_for_none(gb_learn(&pass, 0, &number), 0, "learn");
     must_ask_for_none(gb_counts(&pass, &number), 0, "counts");
+    must_ask_for_none(gb_rows_in_use(&pass, &number), 0, "rows_in_use");
     must_ask_for_none(gb_try_shrink(&pass, UINT64_MAX, &number), 0, "shrink");
     must_ask_for_none(gb_pass_join(&pass, &other), 0, "join");
     must_ask_for_none(gb_close(&pass), 0, "close");

@@ -172,7 +172,7 @@ static int judge_resolved(int answer)
 /* What a call may write to. */
 static struct gb_found told;
 static struct gb_gone gone;
-static uint64_t emptied;
+static uint64_t emptied, trail[3];
 static char bytes[ROOM];
 
 static void mark(void)
@@ -182,10 +182,12 @@ static void mark(void)
     told = marked;
     gone = marked_gone;
     emptied = MARK;
+    trail[0] = MARK;
     memset(bytes, '#', sizeof bytes);
 }
 
-/* With GB_BUSY nothing of `found` holds, and nothing is gone, and so they are 0; the rest is left as it was. */
+/* With GB_BUSY nothing of `found` holds, and nothing is gone, and so they are 0; the rest is left as it was, but for the
+ * places of a trail. */
 static int is_busy(int answer, uint32_t went)
 {
     const struct gb_found none = {0, 0, 0, 0, 0};
@@ -200,6 +202,7 @@ static int are_busy(void)
 {
     return is_busy(gb_try_look(&other, GB_ROOT, "/a", 2, GB_FOLLOW, &told), MARK) &&
            is_busy(gb_try_resolve(&other, GB_ROOT, "/m", 2, GB_FOLLOW, &told), MARK) &&
+           is_busy(gb_try_look_along(&other, GB_ROOT, "/m", 2, GB_FOLLOW, trail, 1, &told), MARK) &&
            is_busy(gb_try_stat(&other, GB_ROOT, "/a", 2, &told), MARK) &&
            is_busy(gb_try_readlink(&other, GB_ROOT, "/a", 2, bytes, ROOM, &told), MARK) &&
            is_busy(gb_try_list(&other, GB_ROOT, "/a", 2, bytes, ROOM, &told), MARK) &&
@@ -216,6 +219,9 @@ static int are_busy(void)
 static int are_answered(void)
 {
     return gb_try_look(&other, GB_ROOT, "", 0, GB_FOLLOW, &told) == ENOENT &&
+           gb_try_look_along(&other, GB_ROOT, "", 0, GB_FOLLOW, trail, 1, &told) == ENOENT && trail[0] == MARK &&
+           gb_try_look_along(&other, GB_ROOT, path, sizeof path - 1, GB_FOLLOW, trail, 3, &told) == 0 &&
+           gb_look_fast_along(&other, GB_ROOT, path, sizeof path - 1, GB_FOLLOW, trail, 3, &told) == 0 &&
            gb_try_rename(&other, GB_ROOT, "/a", 2, "/m", 2, 4, &told, &gone) == GB_BAD_ARGUMENT && gone.number == MARK &&
            gb_look_fast(&other, GB_ROOT, path, sizeof path - 1, GB_FOLLOW, &told) == 0 &&
            gb_try_resolve(&other, GB_ROOT, path, sizeof path - 1, GB_FOLLOW, &told) == 0 &&

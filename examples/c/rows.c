@@ -1,4 +1,5 @@
-/* What the rows alone tell of a readlink, and how many rows were evicted: with good and bad arguments, by one thread.
+/* What the rows alone tell of a readlink, how many rows were evicted, and how many are in use: with good and bad
+ * arguments, by one thread.
  * Prints each answer that is not as it should be, and last how many were.
  */
 #include <errno.h>
@@ -33,7 +34,6 @@ static void fill(const char *path)
 /* There are a directory d (2) with a file f (3), and a link l (4) to it. */
 static void make_all(void)
 {
-    is("cache_new", "", gb_cache_new(256, 8, &pass), 0);
     is("mkdir", "", gb_try_mkdir(&pass, GB_ROOT, "/d", 2, &found), 0);
     is("create", "", gb_try_create(&pass, GB_ROOT, "/d/f", 4, &found), 0);
     is("symlink", "", gb_try_symlink(&pass, GB_ROOT, "d/f", 3, "/l", 2, &found), 0);
@@ -63,7 +63,7 @@ static void try_bad(void)
 {
     static char name[LONGEST_NAME + 1];
     struct gb_found marked = {7, 7, 7, 7, 7};
-    uint64_t evictions = 7;
+    uint64_t evictions = 7, rows = 7;
     memset(name, 'n', sizeof name);
     is("readlink_fast", "no bytes", readlink_fast("", 0), ENOENT);
     is("readlink_fast", "a zero byte", readlink_fast("l\0", 2), EINVAL);
@@ -74,6 +74,36 @@ static void try_bad(void)
     is("readlink_fast", "a blank pass writes nothing", memcmp(&found, &marked, sizeof found), 0);
     is("counts", "a blank pass", gb_counts(&blank, &evictions), GB_BAD_PASS);
     is("counts", "a blank pass writes nothing", (int64_t)evictions, 7);
+    is("rows_in_use", "a blank pass", gb_rows_in_use(&blank, &rows), GB_BAD_PASS);
+    is("rows_in_use", "a blank pass writes nothing", (int64_t)rows, 7);
+}
+
+static void are_in_use(const char *detail, uint64_t want)
+{
+    uint64_t rows = UINT64_MAX;
+    is("rows_in_use", detail, gb_rows_in_use(&pass, &rows), 0);
+    is("rows_in_use", detail, (int64_t)rows, (int64_t)want);
+}
+
+/* A name is counted once, also one that is missing; a link's text has a row of its own. */
+static void count_rows(void)
+{
+    uint64_t emptied = 7;
+    are_in_use("at first", 0);
+    make_all();
+    are_in_use("after changes alone", 0);
+    fill("/d");
+    are_in_use("after a look-up", 1);
+    fill("/d");
+    fill("/no");
+    are_in_use("after one of another name", 2);
+    is("look", "through a link", gb_try_look(&pass, GB_ROOT, "/l", 2, GB_FOLLOW, &found), 0);
+    are_in_use("after one through a link", 5);
+    is("shrink", "one", gb_try_shrink(&pass, 1, &emptied), 0);
+    are_in_use("after a row is emptied", 4);
+    is("shrink", "all", gb_try_shrink(&pass, UINT64_MAX, &emptied), 0);
+    is("shrink", "emptied", (int64_t)emptied, 4);
+    are_in_use("after all are emptied", 0);
 }
 
 /* Names without end in the four rows of one bucket. */
@@ -91,12 +121,14 @@ static void evict(void)
     }
     is("counts", "at last", gb_counts(&pass, &evictions), 0);
     is("counts", "evictions", (int64_t)evictions, FILES - 4);
+    are_in_use("of four rows", 4);
     is("close", "", gb_close(&pass), 0);
 }
 
 int main(void)
 {
-    make_all();
+    is("cache_new", "", gb_cache_new(256, 8, &pass), 0);
+    count_rows();
     read_by_rows();
     try_bad();
     is("close", "", gb_close(&pass), 0);

@@ -68,13 +68,14 @@ static struct gb_pass *pass(void)
 
 void tree_tell(void)
 {
-    uint64_t evictions = 0;
+    uint64_t evictions = 0, rows = 0;
     gb_counts(pass(), &evictions);
+    gb_rows_in_use(pass(), &rows);
     fprintf(stderr, "look-ups: %ld without the lock; with it %ld to fill rows, %ld of long paths, %ld beside a change\n",
             by_rows, by_lock[GB_WHY_MISS] + by_lock[GB_WHY_LINK], by_lock[GB_WHY_LONG],
             by_lock[GB_WHY_BUSY] + by_lock[GB_WHY_CHANGED]);
-    fprintf(stderr, "rows that another name got: %llu; pages of directories: %ld, with %ld entries; ",
-            (unsigned long long)evictions, pages, listed);
+    fprintf(stderr, "rows in use: %llu; rows that another name got: %llu; pages of directories: %ld, with %ld entries; ",
+            (unsigned long long)rows, (unsigned long long)evictions, pages, listed);
     fprintf(stderr, "texts of links: %ld, and %ld from copies\n", texts, copies);
     fprintf(stderr, "changes: %ld makes, %ld links, %ld removals, %ld renames, and %ld refused; ", changes[MAKE],
             changes[LINK], changes[REMOVE], changes[RENAME], refused);

@@ -40,9 +40,9 @@
 //! once, up to 16. Passes that were dropped are handed out again, which takes some 0.1 microseconds; no more than 64 are
 //! there at once.
 //!
-//! Beside the call of the library, this crate copies the answer alone; [`Pass::readlink`], [`Pass::list`],
-//! [`Pass::read_dir`] and [`Pass::entries`] take memory for it. A call that may wait also loads two numbers before it and one after it, which
-//! tell whether threads sleep.
+//! Beside the call of the library, this crate copies the answer alone; [`Pass::readlink`], [`Pass::path_of`],
+//! [`Pass::list`], [`Pass::read_dir`], [`Pass::entries`], [`Pass::look_along`] and [`Pass::look_fast_along`] take memory
+//! for it. A call that may wait also loads two numbers before it and one after it, which tell whether threads sleep.
 //!
 //! # What can't be written
 //!

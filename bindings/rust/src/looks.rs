@@ -7,12 +7,13 @@ use crate::pass::{text, Pass};
 use crate::path::AsPathBytes;
 use crate::raw;
 use std::ffi::OsString;
-use std::os::raw::c_char;
+use std::os::raw::{c_char, c_int};
 use std::os::unix::ffi::OsStringExt;
 use std::path::PathBuf;
 
 const LONGEST_TEXT: usize = 4_095;
 const FIRST_ROOM: usize = 4_096;
+const FIRST_PLACES: usize = 16;
 
 /// What becomes of a symbolic link at a path's end. Links before the end are always followed.
 ///
@@ -36,6 +37,29 @@ pub enum Follow {
     No = 1,
     /// It is followed, and has to lead to a directory.
     Directory = 2,
+}
+
+/// How long the trail is of a call that gave this answer, or none if it has too few places. A refusal has a trail, too.
+fn length_of(answer: c_int, found: &raw::Found) -> Option<usize> {
+    (answer != raw::NO_ROOM).then_some(found.count as usize)
+}
+
+/// Makes a call that writes a trail, each time with twice as many places, until they are enough. `call` is handed the places
+/// and how many these are, and says by `length_of` how many it took.
+fn with_places(
+    trail: &mut Vec<u64>,
+    mut call: impl FnMut(*mut u64, usize, &mut Option<usize>) -> Result<raw::Found, Error>,
+) -> Result<Found, Error> {
+    trail.resize(trail.capacity().max(FIRST_PLACES), 0);
+    loop {
+        let (places, mut length) = (trail.len(), None);
+        let answered = call(trail.as_mut_ptr(), places, &mut length);
+        if let Some(length) = length {
+            trail.truncate(length);
+            return answered.map(Found::of);
+        }
+        trail.resize(2 * places, 0);
+    }
 }
 
 // SAFETY of each call below: the pass is open and borrowed alone, as `ask` and `ask_once` say, and each other pointer leads
@@ -131,6 +155,85 @@ impl Pass {
             raw::gb_try_resolve(pass, base, text(path), path.len(), follow as u32, found)
         })
         .map(Found::of)
+    }
+
+    /// Looks a path up, by the rows, or if these don't answer under the lock, which fills them; and tells its trail: each
+    /// directory in which the path asks for a name or for dot-dot, up to where it ends, once, by when it asks there first.
+    /// `trail` has that and nothing else then, also if the path is refused; after another error it is empty. A relative
+    /// path asks in `base` first, whether that lives. It isn't counted among the [`looks`](Pass::looks).
+    ///
+    /// It is for a caller that keeps modes by inode number, and tests search permission in each of these directories
+    /// before it tells the answer. If one may not be searched, POSIX wants EACCES, even if the tree refuses the path for a
+    /// name further on. If the rows don't answer, all others wait until the trail is told: by 40 links whose texts have
+    /// 4,090 bytes each a path may ask in 80,000 directories, which takes seconds.
+    ///
+    /// ```
+    /// # use gigbewu::{Cache, Follow, ROOT};
+    /// # let mut pass = Cache::new(64, 100)?.pass()?;
+    /// let directory = pass.mkdir(ROOT, "/a")?.number;
+    /// let mut trail = Vec::new();
+    /// let missing = pass.look_along(ROOT, "/a/b/c", Follow::Yes, &mut trail);
+    /// assert_eq!(trail, [ROOT, directory]);
+    /// let may_search = |number: &u64| *number == ROOT;
+    /// assert!(!trail.iter().all(may_search)); // so the answer is EACCES,
+    /// const ENOENT: i32 = 2;
+    /// assert_eq!(missing.unwrap_err().errno(), Some(ENOENT)); // and not this
+    /// # Ok::<(), gigbewu::Error>(())
+    /// ```
+    pub fn look_along<P: AsPathBytes>(
+        &mut self,
+        base: u64,
+        path: P,
+        follow: Follow,
+        trail: &mut Vec<u64>,
+    ) -> Result<Found, Error> {
+        let path = path.as_path_bytes();
+        match self.look_fast_along(base, path, follow, trail) {
+            Err(Error::Again(_)) => {}
+            answered => return answered,
+        }
+        with_places(trail, |to, places, length| {
+            self.ask(|pass, found| unsafe {
+                let (from, len, how) = (text(path), path.len(), follow as u32);
+                let answer = raw::gb_try_look_along(pass, base, from, len, how, to, places, found);
+                *length = length_of(answer, &*found);
+                answer
+            })
+        })
+    }
+
+    /// Looks a path up by the rows alone, and tells its trail, as [`Pass::look_along`] does. It takes no lock and never
+    /// waits, and takes memory only if `trail` has too little room. If it answers [`Error::Again`], [`Pass::look_along`]
+    /// answers.
+    ///
+    /// ```
+    /// # use gigbewu::{Cache, Error, Follow, Why, ROOT};
+    /// # let mut pass = Cache::new(64, 100)?.pass()?;
+    /// let directory = pass.mkdir(ROOT, "/a")?.number;
+    /// let mut trail = Vec::new();
+    /// let miss = Err(Error::Again(Why::Miss));
+    /// assert_eq!(pass.look_fast_along(ROOT, "/a/b", Follow::Yes, &mut trail), miss);
+    /// let refused = pass.look_along(ROOT, "/a/b", Follow::Yes, &mut trail); // which fills rows
+    /// assert_eq!(pass.look_fast_along(ROOT, "/a/b", Follow::Yes, &mut trail), refused);
+    /// assert_eq!(trail, [ROOT, directory]);
+    /// # Ok::<(), gigbewu::Error>(())
+    /// ```
+    pub fn look_fast_along<P: AsPathBytes>(
+        &mut self,
+        base: u64,
+        path: P,
+        follow: Follow,
+        trail: &mut Vec<u64>,
+    ) -> Result<Found, Error> {
+        let path = path.as_path_bytes();
+        with_places(trail, |to, places, length| {
+            self.ask_once(|pass, found| unsafe {
+                let (from, len, how) = (text(path), path.len(), follow as u32);
+                let answer = raw::gb_look_fast_along(pass, base, from, len, how, to, places, found);
+                *length = length_of(answer, &*found);
+                answer
+            })
+        })
     }
 
     /// What a path leads to, a last link followed, and how many names it has, or a directory entries.

@@ -263,6 +263,25 @@ impl Pass {
         done(answer, raw::Found::default()).map(|_| evictions)
     }
 
+    /// How many rows tell of a name, or of a link's text, at the moment. A cache has four rows for each of its buckets.
+    /// Takes no lock, and never waits.
+    ///
+    /// ```
+    /// # use gigbewu::{Cache, Follow, ROOT};
+    /// let mut pass = Cache::new(64, 100)?.pass()?;
+    /// assert!(pass.look(ROOT, "/a", Follow::Yes).is_err()); // fills a row: there is no such name
+    /// assert_eq!(pass.rows_in_use()?, 1);
+    /// pass.shrink(u64::MAX)?;
+    /// assert_eq!(pass.rows_in_use()?, 0);
+    /// # Ok::<(), gigbewu::Error>(())
+    /// ```
+    pub fn rows_in_use(&mut self) -> Result<u64, Error> {
+        let mut rows = 0;
+        // SAFETY: the pass is open and borrowed alone, and the number is this function's.
+        let answer = unsafe { raw::gb_rows_in_use(&mut self.raw, &mut rows) };
+        done(answer, raw::Found::default()).map(|_| rows)
+    }
+
     /// How many calls of [`look`](Pass::look) and [`look_fast`](Pass::look_fast) of this pass the rows answered, and how
     /// many the tree, under the lock. A pass counts for itself, from 0: so threads share no number for it, and their sum is
     /// yours to make. If many are answered under the lock, look at the [evictions](Pass::evictions).

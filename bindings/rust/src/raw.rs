@@ -10,6 +10,7 @@ pub const NO_MEMORY: c_int = -3;
 pub const SPENT: c_int = -4;
 pub const BAD_SIZE: c_int = -5;
 pub const NOT_YET: c_int = -8;
+pub const NO_ROOM: c_int = -9;
 
 #[repr(C)]
 pub struct Pass {
@@ -94,6 +95,26 @@ extern "C" {
         path: Path,
         len: usize,
         follow: u32,
+        found: *mut Found,
+    ) -> c_int;
+    pub fn gb_try_look_along(
+        pass: *mut Pass,
+        base: u64,
+        path: Path,
+        len: usize,
+        follow: u32,
+        trail: *mut u64,
+        places: usize,
+        found: *mut Found,
+    ) -> c_int;
+    pub fn gb_look_fast_along(
+        pass: *mut Pass,
+        base: u64,
+        path: Path,
+        len: usize,
+        follow: u32,
+        trail: *mut u64,
+        places: usize,
         found: *mut Found,
     ) -> c_int;
     pub fn gb_try_stat(
@@ -208,4 +229,5 @@ extern "C" {
     pub fn gb_learn(pass: *mut Pass, at: u64, clock: *mut u64) -> c_int;
     pub fn gb_try_shrink(pass: *mut Pass, most: u64, emptied: *mut u64) -> c_int;
     pub fn gb_counts(pass: *mut Pass, evictions: *mut u64) -> c_int;
+    pub fn gb_rows_in_use(pass: *mut Pass, rows: *mut u64) -> c_int;
 }

@@ -159,6 +159,65 @@ fn looks() -> Result<(), Error> {
     Ok(())
 }
 
+/// A trail is told whole, whatever room there was for it and however the path ends, and nothing else is left of one before.
+#[test]
+fn trails() -> Result<(), Error> {
+    let mut pass = Cache::new(64, 100)?.pass()?;
+    let mut numbers = vec![ROOT];
+    for _ in 0..40 {
+        let made = pass.mkdir(numbers[numbers.len() - 1], "a")?.number;
+        numbers.push(made);
+    }
+    let mut trail = Vec::new();
+    let mut look = |base, path: &str, trail: &mut Vec<u64>| {
+        let found = pass.look_along(base, path, Follow::Yes, trail);
+        found.map_err(|refused| refused.errno()).map(|it| it.number)
+    };
+    let deep = "/a".repeat(40);
+    assert_eq!(look(ROOT, &deep, &mut trail), Ok(numbers[40]));
+    assert_eq!(trail, numbers[..40]);
+    assert_eq!(look(ROOT, &deep, &mut Vec::new()), Ok(numbers[40])); // by rows, with more places each time
+    assert_eq!(look(ROOT, "/a/../a/b/c", &mut trail), Err(Some(2)));
+    assert_eq!(trail, numbers[..2]);
+    assert_eq!(look(numbers[2], "..", &mut trail), Ok(numbers[1]));
+    assert_eq!(trail, [numbers[2]]);
+    assert_eq!(look(ROOT, "/", &mut trail), Ok(ROOT));
+    assert_eq!(trail, []);
+    assert_eq!(look(99, "a", &mut trail), Err(Some(2)));
+    assert_eq!(trail, [99]);
+    assert_eq!(look(ROOT, "/a\0", &mut trail), Err(Some(22)));
+    assert_eq!(trail, []);
+    assert_eq!(pass.looks(), Looks::default());
+    Ok(())
+}
+
+/// The rows alone tell a trail once they are filled, and until then nothing.
+#[test]
+fn trails_by_rows() -> Result<(), Error> {
+    let mut pass = Cache::new(64, 100)?.pass()?;
+    let made = pass.mkdir(ROOT, "/a")?.number;
+    let mut trail = vec![7; 3];
+    let miss = Err(Error::Again(Why::Miss));
+    assert_eq!(
+        pass.look_fast_along(ROOT, "/a/b", Follow::Yes, &mut trail),
+        miss
+    );
+    assert_eq!(trail, []);
+    assert_eq!(pass.rows_in_use()?, 0);
+    let told = pass.look_along(ROOT, "/a/b", Follow::Yes, &mut trail);
+    assert_eq!(trail, [ROOT, made]);
+    assert_eq!(pass.rows_in_use()?, 2);
+    let mut by_rows = Vec::new();
+    assert_eq!(
+        pass.look_fast_along(ROOT, "/a/b", Follow::Yes, &mut by_rows),
+        told
+    );
+    assert_eq!(by_rows, trail);
+    assert_eq!(pass.shrink(u64::MAX)?, 2);
+    assert_eq!(pass.rows_in_use()?, 0);
+    Ok(())
+}
+
 #[test]
 fn errors_of_the_standard_library() {
     let kinds = [

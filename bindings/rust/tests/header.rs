@@ -26,7 +26,7 @@ fn its_numbers_are_the_headers() {
     let told: Vec<_> = numbers
         .map(|(name, number)| format!(" GB_{name} = {}", number.trim_end_matches(';')))
         .collect();
-    assert_eq!(told.len(), 6);
+    assert_eq!(told.len(), 7);
     for number in told {
         let stands = |end| header.contains(&format!("{number}{end}"));
         assert!(stands(',') || stands(' '), "{number}");

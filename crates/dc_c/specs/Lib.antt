@@ -5,3 +5,4 @@ pub mod Answering
 pub mod Shapes
 pub mod Whereabouts
 pub mod Pages
+pub mod Trails

@@ -5,6 +5,7 @@
 //! and a second call with it is answered `BadPass`. Each returns what `Status::number` says.
 #![tactic(auto)]
 
+mod along;
 mod changes;
 mod entries;
 mod handle;
@@ -14,6 +15,7 @@ mod parts;
 mod passes;
 mod whereabouts;
 
+pub use along::{gb_look_fast_along, gb_try_look_along};
 pub use changes::{
     gb_try_create, gb_try_link, gb_try_mkdir, gb_try_rename, gb_try_rmdir, gb_try_symlink,
     gb_try_unlink,
@@ -26,6 +28,6 @@ pub use looks::{
 };
 pub use passes::{
     gb_cache_new, gb_cache_with_names, gb_close, gb_counts, gb_learn, gb_pass_join, gb_pass_split,
-    gb_try_shrink,
+    gb_rows_in_use, gb_try_shrink,
 };
 pub use whereabouts::gb_try_path_of;

@@ -184,11 +184,11 @@ pub extern "C" fn gb_try_shrink(pass: &mut Handle, most: u64, emptied: &mut u64)
     tell_many(emptied, tried)
 }
 
-/// Writes how many rows were evicted, and answers how the call ended.
-fn tell_count(evictions: &mut u64, count: u64) -> i32
-    ensures { ShowsCount count result evictions.new }
+/// Writes what was counted, and answers how the call ended.
+fn tell_count(written: &mut u64, count: u64) -> i32
+    ensures { ShowsCount count result written.new }
 {
-    *evictions = count;
+    *written = count;
     Status::Done.number()
 }
 
@@ -203,4 +203,17 @@ pub extern "C" fn gb_counts(pass: &mut Handle, evictions: &mut u64) -> i32
     let count = hold.evictions();
     pass.put(hold);
     tell_count(evictions, count)
+}
+
+/// How many rows tell of a name or of a link's text at the moment.
+#[unsafe(no_mangle)]
+pub extern "C" fn gb_rows_in_use(pass: &mut Handle, rows: &mut u64) -> i32
+    ensures counts { Counts pass.old pass.new result rows.old rows.new }
+{
+    let Some(hold) = pass.take() else {
+        return Status::BadPass.number();
+    };
+    let count = hold.rows_in_use();
+    pass.put(hold);
+    tell_count(rows, count)
 }

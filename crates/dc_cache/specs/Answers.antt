@@ -1,5 +1,5 @@
 -- What an answered call leaves in the pass, and what a call without an answer leaves in it.
-use Rattle.std.specs.Prelude.{◌≡◌, ℕ, ◌≤◌, List, Result, Ok, Err, length}
+use Rattle.std.specs.Prelude.{◌≡◌, ℕ, ◌≤◌, List, Result, Ok, Err, length, ⊤}
 use Rattle.dc_ops.specs.Reads.{IsAtLength}
 use Rattle.dc_plain.specs.Requests.{Request, answer_of}
 use Rattle.dc_plain.specs.Runs.{reply_of}
@@ -23,6 +23,11 @@ Answered p q call stamped = Recorded (view p) (view q) call (answer_of stamped.r
 abbrev pub IfFast : Pass → Pass → Request → Fast → Type 0
 IfFast p q call (fasts.Done stamped) = Answered p q call stamped
 IfFast p q call (fasts.Again _) = NothingNew (view p) (view q)
+
+-- it was answered
+abbrev pub IsDone : Fast → Type 0
+IsDone (fasts.Done _) = ⊤
+IsDone (fasts.Again _) = ⊥
 
 -- the clock was loaded, and is what the pass has seen now; nothing else was done
 pub record Loaded (v w : View) : Type 0 where

@@ -46,7 +46,9 @@
 //! |---|---|---|---|
 //! | `look_fast`, `look_text` | never | none | `Again`, with the cause |
 //! | `readlink_fast` | never | none | `Again`, with the cause; `Link` for a link |
+//! | `look_fast_along` | never | none | `Again`, with the cause; `TooFewPlaces` |
 //! | `try_resolve` | tries once, if the rows don't answer | for rows, as far as there is any | `None` |
+//! | `try_resolve_along` | tries once, if the rows don't answer | for rows, as far as there is any | `None`, `TooFewPlaces` |
 //! | `try_look`, after `look_fast` | tries once | for rows, as far as there is any | `None` |
 //! | `try_look_along` | tries once | none | `None`, `TooFewPlaces` |
 //! | `try_stat`, `try_path_of`, `try_shrink` | tries once | none | `None` |
@@ -56,6 +58,7 @@
 //! | `learn` | never | none | `NotYet` |
 //! | `counts`, `split`, `join`, `close` | never | none | as said above |
 //! | `resolve` | waits, once, if the rows don't answer | for rows, as far as there is any | never |
+//! | `resolve_along` | waits, once, if the rows don't answer | for rows, as far as there is any | `TooFewPlaces` |
 //! | `look_missed`, after `look_fast` | waits, once | for rows, as far as there is any | never |
 //! | `look_counted` | waits, for each row that it pins and once more | for rows | `Again`, with the cause |
 //! | `look` | waits as `look_counted`, and once more, if the rows don't answer | for rows, as far as there is any | never |
@@ -132,7 +135,7 @@ pub use dc_plain::{Call, Flags, Follow, Reply, Sort, Stamped};
 pub use dc_rows::ChangeFault;
 pub use dc_store::{Entry, SlabStore, Store};
 pub use dc_table::{Counts, MakeFault, Nobody, Sleepers, Wakes};
-pub use dc_walk::{Fast, MOST_LOADS, Why};
+pub use dc_walk::{Fast, FastAlong, MOST_LOADS, Why};
 pub use entries::Entries;
 pub use gone::Gone;
 pub use links::FastLink;

@@ -2,7 +2,7 @@
 //! tries for the lock once.
 
 ghost use Rattle.std.specs.Prelude.{◌≡◌, ◌≢◌, ◌⊎◌, ◌≤◌, ◌+◌, [], None, Some, IfSome, IfNone, IsSome};
-ghost use Rattle.dc_cache.specs.Answers.{Answered, IfFast, Made, Told};
+ghost use Rattle.dc_cache.specs.Answers.{Answered, IfFast, IsDone, Made, Told};
 ghost use Rattle.dc_cache.specs.Holds.{FillsOnce, ReadsOnce};
 ghost use Rattle.dc_cache.specs.Losses.{if_made, parted, LeavesWarm, TakesAway};
 ghost use Rattle.dc_cache.specs.Passes.{buckets_of, known, view, share, Fits, FoundHeld, Shrinks, WalkedAndFoundHeld};
@@ -56,7 +56,7 @@ impl<W: Wakes> Cache<W> {
         ensures keeps { Keeps base path.now follow (buckets_of pass.old)
             (view pass.old) (view pass.new) result }
         ensures refused { fault_of path.now ≢ None →
-            (view pass.new).loads ≡ (view pass.old).loads + 1 }
+            IsDone result × ((view pass.new).loads ≡ (view pass.old).loads + 1) }
         ensures untried { HasNotTried (known pass.old) (known pass.new) }
         ensures loads { (view pass.new).loads ≤ (view pass.old).loads + MOST_LOADS }
     {

@@ -6,3 +6,4 @@ pub mod Buffers
 pub mod Allowed
 pub mod Whereabouts
 pub mod Pages
+pub mod Trails

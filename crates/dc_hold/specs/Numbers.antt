@@ -29,6 +29,7 @@ status_number statuses.BadSize = negsuc 4
 status_number statuses.BadPass = negsuc 5
 status_number statuses.BadArgument = negsuc 6
 status_number statuses.NotYet = negsuc 7
+status_number statuses.NoRoom = negsuc 8
 
 abbrev pub status_of_make : MakeFault → Status
 status_of_make makes.BadSize = statuses.BadSize

@@ -12,12 +12,13 @@ ghost use Rattle.dc_names.specs.declared.limits.TheConstants.{PATH_MAX};
 ghost use Rattle.dc_hold.specs.Allowed.{IsFirst, IsSplit, MayFind, MayReadFast};
 ghost use Rattle.dc_hold.specs.Fitting.{fits_prop};
 ghost use Rattle.dc_hold.specs.Numbers.{status_of_sizes};
+ghost use Rattle.dc_hold.specs.Trails.{MayFindAlong, MayLookAlong};
 ghost use Rattle.dc_table.specs.Changes.{NothingNew};
 
 use crate::status::Status;
 use dc_cache::{
-    Call, ChangeFault, Entries, Entry, Fast, FastLink, Follow, Gone, NoMemory, NotYet, Pass,
-    Sleepless, Stamped, Whereabouts,
+    Call, ChangeFault, Entries, Entry, Fast, FastAlong, FastLink, Follow, Gone, NoMemory, NotYet,
+    Pass, Sleepless, Stamped, TooFewPlaces, Whereabouts, parse,
 };
 use dc_names::PATH_MAX;
 use std::alloc::Global;
@@ -115,6 +116,12 @@ impl Hold {
         self.common.cache.counts().evictions
     }
 
+    /// How many rows tell of a name or of a link's text at the moment.
+    #[must_use]
+    pub fn rows_in_use(&self) -> u64 {
+        self.common.cache.counts().rows
+    }
+
     /// Where a path leads, as `Sleepless::try_resolve`.
     #[must_use]
     pub fn try_resolve(
@@ -149,6 +156,56 @@ impl Hold {
         self.common
             .cache
             .try_look(alloc, &mut self.pass, base, path, follow)
+    }
+
+    /// Where a path leads by the rows alone, and its trail, as `Sleepless::look_fast_along`. A text that is no
+    /// path asks in no directory: it is refused by one load, and has an empty trail.
+    pub fn look_fast_along(
+        &mut self,
+        base: u64,
+        path: &[u8],
+        follow: Follow,
+        trail: &mut [u64],
+    ) -> FastAlong
+        ensures told { MayFindAlong base path.now follow trail.old self.old.pass self.new.pass
+            (result, trail.new) }
+    {
+        let cache = &self.common.cache;
+        match parse(path) {
+            Ok(text) => cache.look_fast_along(&mut self.pass, base, text, follow, trail),
+            Err(_) => match cache.look_text(&mut self.pass, base, path, follow) {
+                Fast::Done(refused) => FastAlong::Done(refused, 0),
+                // The rows are asked for paths alone.
+                Fast::Again(_) => unreachable!(),
+            },
+        }
+    }
+
+    /// Where a path leads, and its trail, as `Sleepless::try_resolve_along`. A text that is no path asks in no
+    /// directory: it is refused by one load, without the lock, and has an empty trail.
+    #[must_use]
+    pub fn try_look_along(
+        &mut self,
+        alloc: Global,
+        base: u64,
+        path: &[u8],
+        follow: Follow,
+        trail: &mut [u64],
+    ) -> Option<Result<(Stamped, usize), TooFewPlaces>>
+        ensures told { MayLookAlong base path.now follow trail.old self.old.pass self.new.pass
+            (result, trail.new) }
+    {
+        let cache = &self.common.cache;
+        match parse(path) {
+            Ok(text) => {
+                cache.try_resolve_along(alloc, &mut self.pass, base, text, follow, trail)
+            }
+            Err(_) => match cache.look_text(&mut self.pass, base, path, follow) {
+                Fast::Done(refused) => Some(Ok((refused, 0))),
+                // The rows are asked for paths alone.
+                Fast::Again(_) => unreachable!(),
+            },
+        }
     }
 
     /// Where a path leads, and how many names or entries that inode has, as `Sleepless::try_stat`.

@@ -5,6 +5,7 @@
 //! place where the end of a call becomes a number.
 #![tactic(auto)]
 
+mod along;
 mod asked;
 mod buffer;
 mod hold;
@@ -13,6 +14,7 @@ mod status;
 mod told;
 mod whereabouts;
 
+pub use along::{told_along, told_fast_along};
 pub use asked::{flags_of, follow_of};
 pub use buffer::{put_names, put_text};
 pub use hold::Hold;

@@ -29,6 +29,8 @@ pub enum Status {
     BadArgument,
     /// The tree has not been altered this often yet.
     NotYet,
+    /// A trail has more directories than there are places for it.
+    NoRoom,
 }
 
 impl Status {
@@ -48,6 +50,7 @@ impl Status {
             Status::BadPass => -6,
             Status::BadArgument => -7,
             Status::NotYet => -8,
+            Status::NoRoom => -9,
         }
     }
 

@@ -134,7 +134,7 @@ pub(crate) fn told_stamped(stamped: &Stamped) -> Told
 }
 
 /// The rows alone don't answer.
-fn told_again(why: &Why) -> Told
+pub(crate) fn told_again(why: &Why) -> Told
     ensures { result ≡ again why.now }
 {
     let mut told = nothing(Status::Again);

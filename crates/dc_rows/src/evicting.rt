@@ -61,6 +61,7 @@ pub(crate) fn empty(holder: &mut Holder<'_>, kept: &mut Guarded, row: u64, end: 
         kept.old.index kept.new.index row }
 {
     empty_row_spells_nothing();
+    holder.count_row_emptied();
     if rewrite(holder, row, &EMPTY_ROW, end) {
         kept.index.clear(row);
     } else {

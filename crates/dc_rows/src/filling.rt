@@ -64,6 +64,7 @@ fn fill_given(
     }
     kept.index.retire(row);
     kept.shrinker.remove(row);
+    holder.count_row_emptied();
     Ok(None)
 }
 
@@ -140,6 +141,8 @@ impl Guard<'_> {
         kept.index.set(alloc, row, &key.key)?;
         if evicts {
             holder.count_eviction();
+        } else {
+            holder.count_row_in_use();
         }
         fill_given(holder, kept, row, &key.key, words, end)
     }

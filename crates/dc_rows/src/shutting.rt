@@ -55,6 +55,7 @@ fn shut_row<'a>(
         open_with(holder, row, &EMPTY_ROW, ROW_WORDS);
         kept.index.retire(row);
         kept.shrinker.remove(row);
+        holder.count_row_emptied();
         return None;
     }
     Some(OddRow { key, row })
@@ -127,6 +128,7 @@ fn refill_row(holder: &mut Holder<'_>, kept: &mut Guarded, odd: &OddRow<'_>)
             open_with(holder, row, &EMPTY_ROW, end);
             kept.index.clear(row);
             kept.shrinker.remove(row);
+            holder.count_row_emptied();
         }
     }
 }

@@ -33,7 +33,7 @@ use Rattle.dc_table.specs.declared.sheet.Sheet.{Sheet}
 use Rattle.dc_table.proofs.Totals.{total_map, total_only}
 use Rattle.dc_table.proofs.Sharing.{everyone_set, everyone_snoc, splits_shares, joins_shares, no_other}
 use Rattle.dc_table.proofs.Cells.{spells_too}
-use Rattle.dc_table.proofs.Kept.{known_there, view_there, mapped_at, knowns_set, views_set, never_held, over_joined}
+use Rattle.dc_table.proofs.Kept.{known_there, view_there, mapped_at, knowns_set, views_set, never_held, over_joined, counted_joined}
 
 module _ (k : Limits) (law : PassesKeepTheRule) where
   pub splits_seat : (id : ℕ) (v : Sheet) → Splits (Kept k) id v (sheet_of (kept_half (known_of v))) (sheet_of (new_half (known_of v)))
@@ -66,7 +66,7 @@ module _ (k : Limits) (law : PassesKeepTheRule) where
           shares = subst (Shares k.max_inodes k.rows) (sym is) (joins_shares K.shares id mine (known_there s.views id v at) other hers apart (known_there s.views other w there') part);
           holds = let f = K.holds id mine (known_there s.views id v at) in let g = K.holds other hers (known_there s.views other w there') in
               subst (λ l. Everyone l (HoldsFit kept.0)) (sym is) (everyone_set (set passes id (both mine hers)) other spent (HoldsFit kept.0) (never_held kept.0 spent.got refl)
-              (everyone_set passes id (both mine hers) (HoldsFit kept.0) record { last = f.last; over = over_joined kept.0 mine.past hers.past f.over g.over } K.holds));
+              (everyone_set passes id (both mine hers) (HoldsFit kept.0) record { last = f.last; over = over_joined kept.0 mine.past hers.past f.over g.over; counted = counted_joined kept.0 mine.pivots hers.pivots f.counted g.counted } K.holds));
           home = K.home;
         },
       )
@@ -104,6 +104,7 @@ ends legal k id v ws xs f lock x at_lock at_x = let s = f.0 in let h = f.1.0.0 i
               clock_is = home.2.clock;
               book = B;
               holds = (K.holds id mine at).over;
+              pivots = (K.holds id mine at).counted;
               once = λ w p. whole_once R K.shares id mine at w p;
               legal = λ w. legal k.max_inodes h (mine.view.book.own ∷ mine.view.book.joined)
                   (in_cons (λ z. (j : ℕ) (r : Record) → get_elem? z j ≡ some r → Stands k.max_inodes h r) mine.view.book.own mine.view.book.joined B.own.stand (λ i z t. (B.joined i z t).stand))

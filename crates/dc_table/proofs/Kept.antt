@@ -12,7 +12,7 @@ use Rattle.dc_index.specs.Slots.{Slot, slot_of}
 use Rattle.dc_events.specs.Views.{View}
 use Rattle.dc_events.specs.Rows.{row_words}
 use Rattle.dc_events.specs.Rule.{Rule, AllEven}
-use Rattle.dc_table.specs.Shares.{Known, LockHold, Shares, Everyone, Begins, AreHoldsOf}
+use Rattle.dc_table.specs.Shares.{Known, LockHold, Shares, Everyone, Begins, AreBeginnings, AreHoldsOf, with_pivot}
 use Rattle.dc_table.specs.Rows.{At, OfNone, Rest}
 use Rattle.dc_table.specs.RowStates.{RowState}
 use Rattle.dc_table.specs.Plays.{handed}
@@ -72,21 +72,34 @@ more_over : (h : List Request) (call : Request) (past : List LockHold) → AreHo
 more_over h call [] all = tt
 more_over h call (x ∷ xs) all = (record { got = all.0.got; left = more x.left.history h call all.0.left }, more_over h call xs all.1)
 
+more_counted : (h : List Request) (call : Request) (pivots : List (List Request)) → AreBeginnings h pivots → AreBeginnings (h ++ call ∷ []) pivots
+more_counted h call [] all = tt
+more_counted h call (x ∷ xs) all = (more x h call all.0, more_counted h call xs all.1)
+
 pub holds_later : (h : List Request) (call : Request) (k : Known) → HoldsFit h k → HoldsFit (h ++ call ∷ []) k
-holds_later h call k f = record { last = more k.got.history h call f.last; over = more_over h call k.past f.over }
+holds_later h call k f = record { last = more k.got.history h call f.last; over = more_over h call k.past f.over; counted = more_counted h call k.pivots f.counted }
+
+-- a pass that has loaded the clock knows the history that it counts
+pub pivot_fits : (h : List Request) (k : Known) (v : View) → HoldsFit h k → HoldsFit h (with_pivot k v h)
+pivot_fits h k v f = record { last = f.last; over = f.over; counted = (begins_itself h, f.counted) }
 
 -- and so are those of a pass that was joined, of one that never had the lock, and of one that has just given it back
 pub over_joined : (h : List Request) (a b : List LockHold) → AreHoldsOf h a → AreHoldsOf h b → AreHoldsOf h (a ++ b)
 over_joined h [] b f g = g
 over_joined h (x ∷ xs) b f g = (f.0, over_joined h xs b f.1 g)
 
-pub never_held : (h : List Request) (got : RowState) → got.history ≡ [] → HasHeld h got []
-never_held h got none = record { last = (h, sym (ap (λ l. l ++ h) none)); over = tt }
+pub counted_joined : (h : List Request) (a b : List (List Request)) → AreBeginnings h a → AreBeginnings h b → AreBeginnings h (a ++ b)
+counted_joined h [] b f g = g
+counted_joined h (x ∷ xs) b f g = (f.0, counted_joined h xs b f.1 g)
+
+pub never_held : (h : List Request) (got : RowState) → got.history ≡ [] → HasHeld h got [] []
+never_held h got none = record { last = (h, sym (ap (λ l. l ++ h) none)); over = tt; counted = tt }
 
 pub handed_fits : (h : List Request) (k : Known) (v : View) (x : Guarded) → k.view.hold.history ≡ h → HoldsFit h k → HoldsFit h (handed k v x)
 handed_fits h k v x is f = record {
   last = f.last;
   over = (record { got = subst (Begins k.got.history) (sym is) f.last; left = subst (λ l. Begins l h) (sym is) (begins_itself h) }, f.over);
+  counted = f.counted;
 }
 
 module _ (k : Limits) where

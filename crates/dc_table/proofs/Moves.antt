@@ -85,7 +85,7 @@ module _ (k : Limits) (law : HoldersKeepTheRule) where
         takes 0 (Some v),
         ap (λ hs. get_elem? hs 0) home.1,
         after_step k s h 1 1 id me.1 l (takes 0 (Some v)) (law.take k.max_inodes k.rows s.words (views_of (knowns s.views)) h id now.view R T.seat free) (shares_with s h id me T l refl)
-            record { last = begins_itself h; over = (holds_fit s h id me T).over } K.holds ((λ z. absurd (omega arith)), λ _. ap (λ hs. set hs 0 none) home.1),
+            record { last = begins_itself h; over = (holds_fit s h id me T).over; counted = (holds_fit s h id me T).counted } K.holds ((λ z. absurd (omega arith)), λ _. ap (λ hs. set hs 0 none) home.1),
         (
           (λ _. (
             v,

@@ -1,5 +1,5 @@
 -- Each step of a pass that walks keeps the table's rule.
-use Rattle.std.proofs.Common.{◌≡◌, ℕ, zero, suc, ◌+◌, ◌%◌, ◌<◌, ◌≤◌, Bool, true, false, List, [], ◌∷◌, length, get_or, set, sym, refl, ap, ◌∙◌, subst, subst₂, arith, le_refl}
+use Rattle.std.proofs.Common.{◌≡◌, ℕ, zero, suc, ◌+◌, ◌%◌, ◌<◌, ◌≤◌, Bool, true, false, List, [], ◌∷◌, ◌++◌, length, take, inr, get_or, set, sym, refl, ap, ◌∙◌, subst, subst₂, arith, le_refl}
 use Rattle.std.proofs.lemmas.List.{set-set}
 use mathlib.Core.Logic.{dite}
 use mathlib.Core.Option.{none, some, some-ne-none}
@@ -17,13 +17,21 @@ use Rattle.dc_events.specs.Rule.{Rule}
 use Rattle.dc_events.specs.Walks.{last_of}
 use Rattle.dc_events.specs.Effects.{begins, quit, noted, note_at, read, pivoted, checked, faulted}
 use Rattle.dc_events.specs.Laws.{WalkersKeepTheRule}
-use Rattle.dc_table.specs.Shares.{with_view}
+use Rattle.dc_table.specs.Shares.{Begins, AreBeginnings, with_pivot, with_view}
 use Rattle.dc_table.specs.Kept.{KeptAt, Kept, knowns, views_of, sheet_of}
 use Rattle.dc_table.specs.Plays.{Place, known_at}
 use Rattle.dc_table.specs.Walking.{IsFresh, CanRead, CanCheck, HasNoted, noted_as, read_as, pivoted_as, learnt_as, checked_as, compared_as}
 use Rattle.dc_table.specs.declared.table.Limits.{Limits}
 use Rattle.dc_table.proofs.Sharing.{same_shares}
-use Rattle.dc_table.proofs.Kept.{Seen, known_there, view_there, after_load}
+use Rattle.dc_table.proofs.Kept.{Seen, known_there, view_there, after_load, pivot_fits}
+
+-- what a history begins with
+take_begun : (early rest : List Request) → take (length early) (early ++ rest) ≡ early
+take_begun [] rest = refl
+take_begun (x ∷ xs) rest = ap (λ l. x ∷ l) (take_begun xs rest)
+
+taken_of : (early h : List Request) → Begins early h → take (length early) h ≡ early
+taken_of early h b = ap (take (length early)) b.1 ∙ take_begun early b.0
 
 within_list : {A : Type 0} (l : List A) (i : ℕ) (a : A) → get_elem? l i ≡ some a → i < length l
 within_list [] i a e = absurd (some-ne-none a (sym e))
@@ -35,6 +43,12 @@ module _ (k : Limits) (law : WalkersKeepTheRule) where
   still : (s : Seen) (h : List Request) (K : KeptAt k s h) (i id : ℕ) (me : Place) → get_elem? s.views id ≡ some me.0 → 0 < (known_at me).share.parts → (v : View)
       → Rule k.max_inodes k.rows s.words (set (views_of (knowns s.views)) id v) h → Kept k (stepped s i (get_or s.words i 0) id me.1 (sheet_of (with_view (known_at me) v)) keeps)
   still s h K i id me at part v rule = after_load k s h K i id me.1 (with_view (known_at me) v) rule (same_shares K.shares id (known_at me) (known_there s.views id me.0 at) part (with_view (known_at me) v) refl) (K.holds id (known_at me) (known_there s.views id me.0 at))
+
+  -- so is the load of the clock, after which the pass knows the history that it counts
+  pivots : (s : Seen) (h : List Request) (K : KeptAt k s h) (id : ℕ) (me : Place) → get_elem? s.views id ≡ some me.0 → 0 < (known_at me).share.parts → (v : View)
+      → Rule k.max_inodes k.rows s.words (set (views_of (knowns s.views)) id v) h → Kept k (stepped s 0 (get_or s.words 0 0) id me.1 (sheet_of (with_pivot (known_at me) v h)) keeps)
+  pivots s h K id me at part v rule = after_load k s h K 0 id me.1 (with_pivot (known_at me) v h) rule (same_shares K.shares id (known_at me) (known_there s.views id me.0 at) part (with_pivot (known_at me) v h) refl)
+      (pivot_fits h (known_at me) v (K.holds id (known_at me) (known_there s.views id me.0 at)))
 
   -- the first step of a walk begins it
   begins_rule : (words : List ℕ) (views : List View) (h : List Request) (id : ℕ) (v : View) (first : Bool) (call : Request) → Rule k.max_inodes k.rows words views h → get_elem? views id ≡ some v → Rule k.max_inodes k.rows words (set views id (begins first v call)) h
@@ -80,11 +94,11 @@ module _ (k : Limits) (law : WalkersKeepTheRule) where
   pub pivots_clock : (slots id : ℕ) (me : Place) (call : Request) (first : Bool) → 0 < (known_at me).share.parts → IsFresh first (known_at me).view call → Allows (Kept k) slots id me 0 (λ x. x) (pivoted_as call first (step slots 0 0 0 none) me)
   pivots_clock slots id me call first part fresh s kept len at small = let h = kept.0 in let K = kept.1 in let now = known_at me in let views = views_of (knowns s.views) in let seat = view_there s.views id me.0 at in
       let v : View = begins first now.view call in let x : ℕ = get_or s.words 0 0 in let clock = K.rule.clock in let seen = (K.rule.fits id now.view seat).book.seen in (
-        sheet_of (with_view now (pivoted v x)),
+        sheet_of (with_pivot now (pivoted v x) h),
         keeps,
         tt,
-        still s h K 0 id me at part (pivoted v x) (then_rule s.words views h id now.view v (pivoted v x) seat (begins_rule s.words views h id now.view first call K.rule seat) (λ R a. law.pivot k.max_inodes k.rows s.words (set views id v) h id v R a fresh)),
-        (refl, omega arith),
+        pivots s h K id me at part (pivoted v x) (then_rule s.words views h id now.view v (pivoted v x) seat (begins_rule s.words views h id now.view first call K.rule seat) (λ R a. law.pivot k.max_inodes k.rows s.words (set views id v) h id v R a fresh)),
+        ((h, sym clock, refl), omega arith),
       )
 
   pub learns_clock : (slots id : ℕ) (me : Place) → 0 < (known_at me).share.parts → Allows (Kept k) slots id me 0 (λ x. x) (learnt_as (step slots 0 0 0 none) me)
@@ -108,7 +122,16 @@ module _ (k : Limits) (law : WalkersKeepTheRule) where
         keeps,
         tt,
         still s h K (base_of row) id me at part (checked now.view i) (law.check k.max_inodes k.rows s.words views h id now.view K.rule seat i can.turned can.there can.whole (same ∙ ap (count s.words) (sym can.of_row))),
-        ((λ _. refl), λ other. absurd (other same)),
+        (
+          (λ _. (
+            refl,
+            λ history earlier is many.
+                let named = K.shares.named id now (known_there s.views id me.0 at) part in let counted = K.holds id now (known_there s.views id me.0 at) in
+                let begins : Begins history h = (subst (AreBeginnings h) is counted.counted).0 in let told = (K.rule.fits id now.view seat).walk.told can.busy can.turned i x can.there (can.whole, inr (same ∙ ap (count s.words) (sym can.of_row))) in
+                subst₂ (λ limit hist. Tells (tree_of limit hist) (note_words x)) (sym named.0) (ap (λ n. take n h) (sym many) ∙ taken_of history h begins) told,
+          )),
+          λ other. absurd (other same),
+        ),
       ))
       (λ other. (
         sheet_of (with_view now (faulted now.view (Changed x.row x.count r))),

@@ -5,9 +5,9 @@ use Rattle.dc_plain.specs.Trees.{Tree}
 use Rattle.dc_events.specs.Legal.{Legal}
 use Rattle.dc_events.specs.Standing.{tree_of}
 use Rattle.dc_events.specs.Rule.{BookFits, view_hits, once_below}
-use Rattle.dc_table.specs.Shares.{Known, IsWhole, AreHoldsOf}
+use Rattle.dc_table.specs.Shares.{Known, IsWhole, AreBeginnings, AreHoldsOf}
 
--- it is the tree after a history of this many calls, in which all records of the pass stand, and of which each of its holds is; a pass with the whole share has
+-- it is the tree after a history of this many calls, in which all records of the pass stand, of which each of its holds is, and of which each of its pivots counted a beginning; a pass with the whole share has
 -- one record for each call of the history, and its records are those of a run of one plain tree
 pub record Ends (limit : ℕ) (k : Known) (tree : Tree) (clock : ℕ) : Type 0 where
   pub history : List Request
@@ -15,5 +15,6 @@ pub record Ends (limit : ℕ) (k : Known) (tree : Tree) (clock : ℕ) : Type 0 w
   pub clock_is : clock ≡ length history
   pub book : BookFits limit history k.view.book
   pub holds : AreHoldsOf history k.past
+  pub pivots : AreBeginnings history k.pivots
   pub once : IsWhole k.share → (p : ℕ) → view_hits p k.view ≡ once_below p (length history)
   pub legal : IsWhole k.share → Legal limit (k.view.book.own ∷ k.view.book.joined)

@@ -10,7 +10,7 @@ use Rattle.dc_shrink.specs.Listings.{is_used}
 use Rattle.dc_events.specs.Views.{View}
 use Rattle.dc_events.specs.Standing.{tree_of}
 use Rattle.dc_events.specs.Rule.{Rule}
-use Rattle.dc_table.specs.Shares.{Known, LockHold, Shares, Everyone, Begins, AreHoldsOf, first_known}
+use Rattle.dc_table.specs.Shares.{Known, LockHold, Shares, Everyone, Begins, AreBeginnings, AreHoldsOf, first_known}
 use Rattle.dc_table.specs.RowStates.{RowState}
 use Rattle.dc_table.specs.Rows.{Rest}
 use Rattle.dc_table.specs.Boxes.{Boxed}
@@ -38,13 +38,14 @@ knowns sheets = map known_of sheets
 abbrev pub views_of : List Known → List View
 views_of passes = map (λ k. k.view) passes
 
--- the rows that a pass last got are after a beginning of the history, and its holds that are over are of it
-pub record HasHeld (hist : List Request) (got : RowState) (past : List LockHold) : Type 0 where
+-- the rows that a pass last got are after a beginning of the history, its holds that are over are of it, and its pivots counted beginnings of it
+pub record HasHeld (hist : List Request) (got : RowState) (past : List LockHold) (pivots : List (List Request)) : Type 0 where
   pub last : Begins got.history hist
   pub over : AreHoldsOf hist past
+  pub counted : AreBeginnings hist pivots
 
 abbrev pub HoldsFit : List Request → Known → Type 0
-HoldsFit hist k = HasHeld hist k.got k.past
+HoldsFit hist k = HasHeld hist k.got k.past k.pivots
 
 pub record KeptAt (k : Limits) (s : State (Maybe Boxed) Sheet) (hist : List Request) : Type 0 where
   pub rule : Rule k.max_inodes k.rows s.words (views_of (knowns s.views)) hist

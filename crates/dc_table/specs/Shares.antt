@@ -14,6 +14,7 @@ use Rattle.dc_shrink.specs.Listings.{listing}
 use Rattle.dc_table.specs.ViewCodes.{coded_view}
 use Rattle.dc_table.specs.RowStates.{RowState}
 use Rattle.dc_table.specs.RowCodes.{coded_rows}
+use Rattle.dc_table.specs.Codes.{coded_request}
 
 -- this many parts of a whole that was halved this often, of a table with this limit of inodes and this many rows
 pub record Share : Type 0 where
@@ -40,7 +41,11 @@ pub record IsHoldOf (history : List Request) (x : LockHold) : Type 0 where
 abbrev pub AreHoldsOf : List Request → List LockHold → Type 0
 AreHoldsOf history past = AllByRecursion (IsHoldOf history) past
 
--- with how often the pass has tried for the lock, the rows as it last got them with the lock and as it last handed them back, and its holds that are over, the last first
+-- all these are beginnings of a history
+abbrev pub AreBeginnings : List Request → List (List Request) → Type 0
+AreBeginnings history early = AllByRecursion (λ h. Begins h history) early
+
+-- with how often the pass has tried for the lock, the rows as it last got them with the lock and as it last handed them back, its holds that are over, and the histories up to the pivots of its walks, both the last first
 pub record Known : Type 0 where
   pub view : View
   pub share : Share
@@ -48,6 +53,7 @@ pub record Known : Type 0 where
   pub got : RowState
   pub left : RowState
   pub past : List LockHold
+  pub pivots : List (List Request)
 
 abbrev pub hold_coded : Coded LockHold
 hold_coded = code_by (RowState × RowState) (coded× coded_rows coded_rows) (λ x. (x.got, x.left)) (λ p. record { got = p.0; left = p.1 }) (λ _. refl)
@@ -57,11 +63,15 @@ share_coded = code_by (ℕ × (ℕ × (ℕ × ℕ))) (coded× coded_ℕ (coded×
     (λ x. (x.limit, (x.rows, (x.parts, x.halvings)))) (λ p. record { limit = p.0; rows = p.1.0; parts = p.1.1.0; halvings = p.1.1.1 }) (λ _. refl)
 
 abbrev pub known_coded : Coded Known
-known_coded = code_by (View × (Share × (ℕ × (RowState × (RowState × List LockHold))))) (coded× coded_view (coded× share_coded (coded× coded_ℕ (coded× coded_rows (coded× coded_rows (coded_list hold_coded))))))
-    (λ x. (x.view, (x.share, (x.tries, (x.got, (x.left, x.past)))))) (λ p. record { view = p.0; share = p.1.0; tries = p.1.1.0; got = p.1.1.1.0; left = p.1.1.1.1.0; past = p.1.1.1.1.1 }) (λ _. refl)
+known_coded = code_by (View × (Share × (ℕ × (RowState × (RowState × (List LockHold × List (List Request))))))) (coded× coded_view (coded× share_coded (coded× coded_ℕ (coded× coded_rows (coded× coded_rows (coded× (coded_list hold_coded) (coded_list (coded_list coded_request))))))))
+    (λ x. (x.view, (x.share, (x.tries, (x.got, (x.left, (x.past, x.pivots))))))) (λ p. record { view = p.0; share = p.1.0; tries = p.1.1.0; got = p.1.1.1.0; left = p.1.1.1.1.0; past = p.1.1.1.1.1.0; pivots = p.1.1.1.1.1.1 }) (λ _. refl)
 
 abbrev pub with_view : Known → View → Known
 with_view k v = record k { view = v }
+
+-- the pass has loaded the clock for a walk, which counts this history
+abbrev pub with_pivot : Known → View → List Request → Known
+with_pivot k v history = record k { view = v; pivots = history ∷ k.pivots }
 
 -- a pass that knows l, and knew k, has not tried for the lock since, nor given it back
 pub record HasNotTried (k l : Known) : Type 0 where
@@ -103,7 +113,7 @@ no_rows = record { history = []; words = []; slots = []; used = listing 0 [] map
 
 -- a pass that did, saw and tried nothing, with this share
 abbrev pub unused : Share → Known
-unused s = record { view = nobody; share = s; tries = 0; got = no_rows; left = no_rows; past = [] }
+unused s = record { view = nobody; share = s; tries = 0; got = no_rows; left = no_rows; past = []; pivots = [] }
 
 -- the first pass of a table has the whole
 abbrev pub first_known : ℕ → ℕ → Known
@@ -116,9 +126,9 @@ kept_half k = record k { share = halved k.share }
 abbrev pub new_half : Known → Known
 new_half k = record (unused (halved k.share)) { view = newcomer k.view }
 
--- a pass takes in another, of which nothing is left: it has tried for the lock as often as both, has the holds of both, its own first, and knows the rows that it knew
+-- a pass takes in another, of which nothing is left: it has tried for the lock as often as both, has the holds and the pivots of both, its own first, and knows the rows that it knew
 abbrev pub both : Known → Known → Known
-both k l = record k { view = joined_with k.view l.view; share = added k.share l.share; tries = k.tries + l.tries; past = k.past ++ l.past }
+both k l = record k { view = joined_with k.view l.view; share = added k.share l.share; tries = k.tries + l.tries; past = k.past ++ l.past; pivots = k.pivots ++ l.pivots }
 
 abbrev pub spent : Known
 spent = unused no_share

@@ -1,5 +1,5 @@
 -- When a pass may take a step of a walk, and what the step tells it.
-use Rattle.std.specs.Prelude.{◌≡◌, ◌≢◌, ℕ, ◌+◌, ◌%◌, ◌<◌, ◌≤◌, Bool, true, false, length, Option as Maybe}
+use Rattle.std.specs.Prelude.{◌≡◌, ◌≢◌, ℕ, ◌+◌, ◌%◌, ◌<◌, ◌≤◌, Bool, true, false, List, ◌∷◌, length, Option as Maybe}
 use mathlib.Core.Option.{some}
 use lib.ListN.{get_elem?}
 use Rattle.atomic_table.specs.Table.{Step}
@@ -13,7 +13,7 @@ use Rattle.dc_events.specs.Standing.{tree_of}
 use Rattle.dc_events.specs.Walks.{last_of}
 use Rattle.dc_events.specs.Effects.{begins, quit, noted, note_at, read, pivoted, checked, faulted}
 use Rattle.dc_table.specs.Passes.{Pass, view}
-use Rattle.dc_table.specs.Shares.{with_view}
+use Rattle.dc_table.specs.Shares.{Known, with_pivot, with_view}
 use Rattle.dc_table.specs.Kept.{sheet_of}
 use Rattle.dc_table.specs.Plays.{Place, known_at}
 use Rattle.dc_table.specs.Boxes.{Boxed}
@@ -62,17 +62,30 @@ noted_as call row first st m r m' = let k = known_at m in let v = begins first k
 abbrev pub read_as : Step (Maybe Boxed) → Place → ℕ → Place → Type 0
 read_as st m r m' = let k = known_at m in m' ≡ (sheet_of (with_view k (read k.view r)), m.1)
 
+-- the clock is loaded, and the pass knows the history that it counts
 abbrev pub pivoted_as : Request → Bool → Step (Maybe Boxed) → Place → ℕ → Place → Type 0
-pivoted_as call first st m r m' = let k = known_at m in (m' ≡ (sheet_of (with_view k (pivoted (begins first k.view call) r)), m.1)) × (k.view.book.seen ≤ r)
+pivoted_as call first st m r m' = let k = known_at m in
+    ((history : List Request) × (length history ≡ r) × (m' ≡ (sheet_of (with_pivot k (pivoted (begins first k.view call) r) history), m.1))) × (k.view.book.seen ≤ r)
+
+-- the last pivot of a pass counted this many calls
+pub record CountsAt (k : Known) (clock : ℕ) : Type 0 where
+  pub history : List Request
+  pub earlier : List (List Request)
+  pub clock_is : length history ≡ clock
+  pub now : k.pivots ≡ history ∷ earlier
+
+-- what note i spells, if anything, is true of the tree at the walk's pivot, after the history that it counted
+abbrev pub IsTrueThen : Known → ℕ → Type 0
+IsTrueThen k i = (history : List Request) (earlier : List (List Request)) → k.pivots ≡ history ∷ earlier → length history ≡ k.view.walk.pivot → Tells (tree_of k.share.limit history) (note_words (note_at k.view i))
 
 -- the clock is loaded, and no walk goes on
 abbrev pub learnt_as : Step (Maybe Boxed) → Place → ℕ → Place → Type 0
 learnt_as st m r m' = let k = known_at m in (m' ≡ (sheet_of (with_view k (pivoted (quit k.view) r)), m.1)) × (k.view.book.seen ≤ r)
 
--- the count that was noted checks the note; another one is higher, and a fault
+-- the count that was noted checks the note, which is true of the tree at the pivot then; another one is higher, and a fault
 abbrev pub checked_as : ℕ → Step (Maybe Boxed) → Place → ℕ → Place → Type 0
 checked_as i st m r m' = let k = known_at m in let x = note_at k.view i in
-    (x.count ≡ r → m' ≡ (sheet_of (with_view k (checked k.view i)), m.1)) × (x.count ≢ r → (x.count < r) × (m' ≡ (sheet_of (with_view k (faulted k.view (Changed x.row x.count r))), m.1)))
+    (x.count ≡ r → (m' ≡ (sheet_of (with_view k (checked k.view i)), m.1)) × IsTrueThen k i) × (x.count ≢ r → (x.count < r) × (m' ≡ (sheet_of (with_view k (faulted k.view (Changed x.row x.count r))), m.1)))
 
 -- a pass noted this row with this count, and read all of its words, as note i
 pub record HasNoted (v : View) (i row count : ℕ) : Type 0 where

@@ -113,6 +113,7 @@ impl Shared {
                     late: Late::new(),
                     sleeps: AtomicU64::new(0),
                     evictions: AtomicU64::new(0),
+                    rows_in_use: AtomicU64::new(0),
                 },
                 pass,
             )),
@@ -138,6 +139,7 @@ impl Shared {
     pub fn counts(&self) -> Counts {
         Counts {
             evictions: self.evictions.load(Relaxed),
+            rows: self.rows_in_use.load(Relaxed),
             sleeps: self.sleeps.load(Relaxed),
         }
     }
@@ -182,6 +184,7 @@ impl Shared {
             late: _,
             sleeps: _,
             evictions: _,
+            rows_in_use: _,
         } = self;
         let mut closed = table.close_with(pass);
         let lock = closed.word(LOCK);

@@ -16,6 +16,8 @@ use std::sync::atomic::AtomicU64;
 pub struct Counts {
     /// How many rows have lost their key to another. Rows that `shrink` emptied aren't among them.
     pub evictions: u64,
+    /// How many rows tell of a key at the moment.
+    pub rows: u64,
     /// How often a pass has gone to sleep until the lock is free.
     pub sleeps: u64,
 }
@@ -33,6 +35,8 @@ pub struct Shared {
     pub(crate) sleeps: AtomicU64,
     /// How many rows have lost their key to another.
     pub(crate) evictions: AtomicU64,
+    /// How many rows tell of a key. Whoever has the lock alone writes it.
+    pub(crate) rows_in_use: AtomicU64,
     ghost limits_are: { limits ≡ table.shared.key },
     ghost words: { table.shared.table_id.words ≡ base_of limits.rows },
     ghost slots: { table.shared.table_id.slots ≡ 1 },

@@ -175,6 +175,19 @@ impl<'t> Holder<'t> {
         self.shared.evictions.fetch_add(1, Relaxed);
     }
 
+    /// Counts a row that has got a key, and had none.
+    pub fn count_row_in_use(&self) {
+        let rows = &self.shared.rows_in_use;
+        // Two steps: nobody else writes it, as this pass has the lock.
+        rows.store(rows.load(Relaxed).wrapping_add(1), Relaxed);
+    }
+
+    /// Counts a row that has lost its key, and got none.
+    pub fn count_row_emptied(&self) {
+        let rows = &self.shared.rows_in_use;
+        rows.store(rows.load(Relaxed).wrapping_sub(1), Relaxed);
+    }
+
     /// Shuts an even row, and returns its count, which is odd.
     pub fn shut_row(&mut self, row: u64) -> u64
         requires row { let p = pass_of self.old in (row < (share p).rows) × CanShut (view p) row }

@@ -5,8 +5,8 @@ ghost use Rattle.dc_events.specs.Effects.{quit, noted, read, pivoted, checked, f
 ghost use Rattle.dc_events.specs.Views.Fault.{Busy};
 ghost use Rattle.dc_plain.specs.Requests.{request_of};
 ghost use Rattle.dc_table.specs.Holders.{table_of};
-ghost use Rattle.dc_table.specs.Passes.{view, Fits, IsIdle, IsWalker, IsWalkerAt, StaysOut};
-ghost use Rattle.dc_table.specs.Walking.{started, FindsOther, IsFresh, CanNote, CanRead, CanCheck};
+ghost use Rattle.dc_table.specs.Passes.{known, view, Fits, IsIdle, IsWalker, IsWalkerAt, StaysOut};
+ghost use Rattle.dc_table.specs.Walking.{started, FindsOther, IsFresh, IsTrueThen, CanNote, CanRead, CanCheck, CountsAt};
 
 use crate::CLOCK;
 use crate::holder::Reader;
@@ -67,13 +67,15 @@ impl Reader<'_> {
         self.shared.table.shared.load::<Read>(pass, place)
     }
 
-    /// Loads the clock: the point at which the call takes effect, if all that was noted stands.
+    /// Loads the clock: the point at which the call takes effect, if all that was noted stands. The pass
+    /// then knows, for the proof, the history of the tree up to there.
     pub fn pivot(&self, pass: &mut Pass, call: &Call<'_>, first: bool) -> u64
         requires can { IsWalker (table_of self.now) pass.old
             × IsFresh first (view pass.old) (request_of call.now) }
         ensures same { StaysOut pass.old pass.new }
         ensures view { view pass.new ≡ pivoted (started first pass.old call.now) result }
         ensures later { (view pass.old).book.seen ≤ result }
+        ensures counts { CountsAt (known pass.new) result }
     {
         self.pivot_as::<Brand>(pass, call, first)
     }
@@ -85,6 +87,7 @@ impl Reader<'_> {
         ensures same { StaysOut pass.old pass.new }
         ensures view { view pass.new ≡ pivoted (started first pass.old call.now) result }
         ensures later { (view pass.old).book.seen ≤ result }
+        ensures counts { CountsAt (known pass.new) result }
     {
         events_keep_the_rule();
         // For the proof: that the table has a clock.
@@ -92,14 +95,17 @@ impl Reader<'_> {
         self.shared.table.shared.load::<Pivot<C>>(pass, CLOCK)
     }
 
-    /// Whether the row of note `i`, the first being 0, still has the count that was noted. An `Err` has
-    /// the counts noted and found. If the notes that were checked answer the call, it is recorded.
+    /// Whether the row of note `i`, the first being 0, still has the count that was noted: then what it
+    /// told was true at the pivot. An `Err` has the counts noted and found. If the notes that were checked
+    /// answer the call, it is recorded.
     pub fn check(&self, pass: &mut Pass, i: u64, row: u64, noted: u64) -> Result<(), (u64, u64)>
         requires can { IsWalkerAt (table_of self.now) pass.old row
             × CanCheck (view pass.old) i row noted }
         ensures same { StaysOut pass.old pass.new }
         ensures checked { OnOk result (view pass.new ≡ checked (view pass.old) i) }
         ensures changed { IfErr result (FindsOther (view pass.old) (view pass.new) row noted) }
+        ensures stood { OnOk result (IsTrueThen (known pass.old) i) }
+        ensures pivots { (known pass.new).pivots ≡ (known pass.old).pivots }
     {
         let found = self.check_as::<Brand>(pass, i, row, noted);
         if found == noted {
@@ -117,6 +123,8 @@ impl Reader<'_> {
         ensures same_count { result ≡ noted → view pass.new ≡ checked (view pass.old) i }
         ensures other_count { result ≢ noted
             → FindsOther (view pass.old) (view pass.new) row noted (noted, result) }
+        ensures stood { result ≡ noted → IsTrueThen (known pass.old) i }
+        ensures pivots { (known pass.new).pivots ≡ (known pass.old).pivots }
     {
         events_keep_the_rule();
         let count = self.shared.word_of(row, 0);

@@ -2,3 +2,4 @@
 pub mod Questions
 pub mod Parts
 pub mod Keeping
+pub mod Places

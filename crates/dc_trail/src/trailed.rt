@@ -5,7 +5,7 @@ ghost use Rattle.dc_trail.specs.Keeping.{entered, goes_so, halts_so, keeps_so, s
 ghost use Rattle.dc_trail.specs.Questions.{is_among};
 
 use crate::halt::Halt;
-use dc_names::{Kind, Part, PathText};
+use dc_names::{Kind, Part, PathText, hash};
 use dc_plain::Follow;
 use dc_resolve::Finder;
 
@@ -71,14 +71,28 @@ impl<'a, F: Finder> Finder for Trailed<'a, F> {
 
     ghost link_bytes = { F.link_bytes };
 
-    #[tactic(auto, using(crate::proofs::Asking::goes_asked, crate::proofs::Asking::is_full, crate::proofs::Telling::told_there))]
     fn find(&mut self, dir: u64, part: Part<'_>) -> Result<Option<(u64, Kind)>, Halt<F::Stop>> {
+        let bytes = match part {
+            Part::Normal(name) => name.bytes(),
+            // A dot asks nothing.
+            Part::Dot | Part::DotDot => b"..",
+        };
+        self.find_hashed(dir, part, hash(dir, bytes))
+    }
+
+    #[tactic(auto, using(crate::proofs::Asking::goes_asked, crate::proofs::Asking::is_full, crate::proofs::Telling::told_there))]
+    fn find_hashed(
+        &mut self,
+        dir: u64,
+        part: Part<'_>,
+        hash: u64,
+    ) -> Result<Option<(u64, Kind)>, Halt<F::Stop>> {
         // Before the finder is asked: it may give up, and it was asked here then.
         let Some(len) = enter(self.numbers, self.len, dir) else {
             return Err(Halt::Full);
         };
         self.len = len;
-        match self.finder.find(dir, part) {
+        match self.finder.find_hashed(dir, part, hash) {
             Ok(found) => Ok(found),
             Err(stop) => Err(Halt::Finder(stop)),
         }

@@ -353,7 +353,31 @@ fn a_path_is_filled_under_one_hold(rt: HostRuntime) -> Result<(), Fail> {
     let (cache, mut p) = Dcache::new(rt.alloc(), 1, 16).expect(&rt, "memory");
     assert!(rt; evictions(&rt, rt.alloc(), &cache, &mut p)? == (0, 1));
     assert!(rt; cache.counts().sleeps == 0);
+    assert!(rt; cache.counts().rows == 4);
     play(&rt, rt.alloc(), &cache, &mut p, &NO_LONGER)
+}
+
+static THROUGH_A_LINK: [Step<'static>; 3] = [
+    Step::Change(Act::Mkdir(b"/a"), Want::Done(2), 0),
+    Step::Change(Act::Symlink(b"a", b"/l"), Want::Done(3), 1),
+    Step::Filled(b"/l", Want::Found(2, Kind::Dir), 2),
+];
+
+static WITHOUT_ITS_LINK: [Step<'static>; 1] = [Step::Change(Act::Unlink(b"/l"), Want::Unit, 2)];
+
+/// The rows of a link, of its text and of what it leads to are in use. The text's is emptied as the link goes,
+/// the link's tells that it is gone. Then one of the two is emptied.
+#[test]
+fn rows_in_use_are_counted(rt: HostRuntime) -> Result<(), Fail> {
+    let (cache, mut p) = Dcache::new(rt.alloc(), 64, 16).expect(&rt, "memory");
+    assert!(rt; cache.counts().rows == 0);
+    play(&rt, rt.alloc(), &cache, &mut p, &THROUGH_A_LINK)?;
+    assert!(rt; cache.counts().rows == 3);
+    play(&rt, rt.alloc(), &cache, &mut p, &WITHOUT_ITS_LINK)?;
+    assert!(rt; cache.counts().rows == 2);
+    assert!(rt; cache.shrink(&rt, &mut p, 1) == 1);
+    assert!(rt; cache.counts().rows == 1);
+    Ok(())
 }
 
 static FILLED_FURTHER: [Step<'static>; 11] = [

@@ -1,10 +1,13 @@
-//! What look-ups pass through, on the tree of a cache.
+//! What look-ups pass through, on the tree of a cache, and as a hold tells it in numbers.
 
 ghost use Rattle.dc_cache.specs.Passes.{Fits};
 
 use crate::answers::{Want, is};
-use crate::steps::{Act, Step, play};
-use dc_cache::{Dcache, Follow, Kind, Pass, ROOT, TooFewPlaces, parse};
+use crate::steps::{Act, Step, call_of, play};
+use dc_cache::{Dcache, FastAlong, Follow, Kind, Pass, ROOT, TooFewPlaces, Why, parse};
+use dc_hold::{Found, Hold, Status, told_along, told_change};
+use std::alloc::Global;
+use std::sync::Wait;
 use std::test::Fail;
 
 /// Two directories, a file in the second, and links to each other's place.
@@ -68,10 +71,134 @@ fn are_along(cache: &Dcache, pass: &mut Pass) -> bool
     all
 }
 
+/// Whether rows give a look-up this answer and this trail, once they are filled; and that it is had waiting
+/// all the same. With a place less it has none.
+fn is_along_by_rows<R: Wait>(
+    rt: &R,
+    alloc: Global,
+    cache: &Dcache,
+    pass: &mut Pass,
+    row: &(u64, &[u8], Want<'_>, &[u64]),
+) -> bool
+    requires { Fits cache.now pass.old }
+    ensures { Fits cache.now pass.new }
+{
+    let (base, text, want, trail) = *row;
+    let Ok(path) = parse(text) else {
+        return false;
+    };
+    // It fills the rows, by which the look-up without the lock answers then.
+    let mut first = [99; 8];
+    let is_first = match cache.resolve_along(rt, alloc, pass, base, path, Follow::Yes, &mut first) {
+        Ok((found, many)) => is(&found, want, 5) && many == trail.len(),
+        Err(TooFewPlaces) => false,
+    };
+    let mut numbers = [77; 8];
+    let is_told = match cache.look_fast_along(pass, base, path, Follow::Yes, &mut numbers) {
+        FastAlong::Done(found, many) => is(&found, want, 5) && many == trail.len(),
+        FastAlong::Again(_) | FastAlong::TooFewPlaces => false,
+    };
+    let mut again = [88; 8];
+    let is_had = match cache.resolve_along(rt, alloc, pass, base, path, Follow::Yes, &mut again) {
+        Ok((found, many)) => is(&found, want, 5) && many == trail.len(),
+        Err(TooFewPlaces) => false,
+    };
+    let many = trail.len().min(8);
+    let fewer = &mut [0; 8][..many.saturating_sub(1)];
+    let lacking = cache.look_fast_along(pass, base, path, Follow::Yes, fewer);
+    let is_refused = many == 0 || matches!(lacking, FastAlong::TooFewPlaces);
+    is_first
+        && is_told
+        && is_had
+        && is_refused
+        && &numbers[..many] == trail
+        && &again[..many] == trail
+}
+
+#[test]
+fn rows_tell_trails(rt: HostRuntime) -> Result<(), Fail> {
+    let (cache, mut p) = Dcache::new(rt.alloc(), 64, 8).expect(&rt, "memory");
+    play(&rt, rt.alloc(), &cache, &mut p, &FIVE)?;
+    let mut places = [0; 8];
+    let path = parse(b"/a/b/c").expect(&rt, "a path");
+    let cold = cache.look_fast_along(&mut p, ROOT, path, Follow::Yes, &mut places);
+    assert!(rt; matches!(cold, FastAlong::Again(Why::Miss(0))));
+    let mut all = true;
+    for row in TRAILS.iter() {
+        all &= is_along_by_rows(&rt, rt.alloc(), &cache, &mut p, row);
+    }
+    assert!(rt; all);
+    Ok(())
+}
+
 #[test]
 fn look_ups_tell_their_trails(rt: HostRuntime) -> Result<(), Fail> {
     let (cache, mut p) = Dcache::new(rt.alloc(), 1, 8).expect(&rt, "memory");
     play(&rt, rt.alloc(), &cache, &mut p, &FIVE)?;
     assert!(rt; are_along(&cache, &mut p));
     Ok(())
+}
+
+/// A path on a hold, how it ends after two changes, the number and kind that it finds, and its trail.
+static HELD: [(&[u8], Status, u64, u32, &[u64]); 5] = [
+    (b"/ab/f", Status::Done, 3, 2, &[1, 2]),
+    (b"/ab/../ab", Status::Done, 2, 1, &[1, 2]),
+    (b"/ab/g", Status::Refused(2), 0, 0, &[1, 2]),
+    (b"", Status::Refused(2), 0, 0, &[]),
+    (b"/\0", Status::Refused(22), 0, 0, &[]),
+];
+
+/// Whether a hold tells this of a path in numbers, and its trail. What lies behind the trail stays.
+fn is_held_along(
+    alloc: Global,
+    hold: &mut Hold,
+    path: &[u8],
+    status: Status,
+    number: u64,
+    kind: u32,
+    trail: &[u64],
+) -> bool {
+    let mut numbers = [77; 3];
+    let told = told_along(&hold.try_look_along(alloc, ROOT, path, Follow::Yes, &mut numbers));
+    let want = Found {
+        number,
+        count: trail.len() as u64,
+        at: 2,
+        kind,
+        why: 0,
+    };
+    let many = trail.len().min(3);
+    told.status == status && told.found == want && &numbers[..many] == trail && numbers[2] == 77
+}
+
+/// Whether a hold has no place for a second directory, and says nothing else.
+fn has_no_room(alloc: Global, hold: &mut Hold) -> bool {
+    let told = told_along(&hold.try_look_along(alloc, ROOT, b"/ab/f", Follow::Yes, &mut [0]));
+    let nothing = Found {
+        number: 0,
+        count: 0,
+        at: 0,
+        kind: 0,
+        why: 0,
+    };
+    told.status == Status::NoRoom && told.status.number() == -9 && told.found == nothing
+}
+
+/// Whether a hold makes a directory, and a file there.
+fn are_made(alloc: Global, hold: &mut Hold) -> bool {
+    let mut all = true;
+    for act in [Act::Mkdir(b"/ab"), Act::Create(b"/ab/f")] {
+        all &= told_change(&hold.try_change(alloc, &call_of(act))).status == Status::Done;
+    }
+    all
+}
+
+#[test]
+fn a_hold_tells_trails_in_numbers(rt: HostRuntime) {
+    let mut hold = Hold::new(rt.alloc(), 16, 16, 32).expect(&rt, "memory");
+    assert!(rt; are_made(rt.alloc(), &mut hold));
+    for (path, status, number, kind, trail) in HELD.iter() {
+        assert!(rt; is_held_along(rt.alloc(), &mut hold, path, *status, *number, *kind, trail));
+    }
+    assert!(rt; has_no_room(rt.alloc(), &mut hold));
 }

@@ -20,8 +20,13 @@ use Rattle.dc_walk.specs.Asking.{IsWalk}
 use Rattle.dc_walk.specs.Causes.{HasCause}
 use Rattle.dc_walk.specs.Becomings.{Becomes, Between, IsGood, MayAskRows, Stops}
 use Rattle.dc_walk.specs.Fasts.{GaveUp}
+use Rattle.dc_resolve.specs.declared.finder.Finder.{Ghosts}
+use Rattle.dc_trail.specs.Keeping.{FinderHalts, HasLongerTrail, IfNoPlace}
+use Rattle.dc_trail.specs.declared.halt.Halt.{Halt}
+use Rattle.dc_trail.specs.declared.halt.Halt.TheVariants as halts
+use Rattle.dc_walk.specs.Trails.{LacksPlaces}
 use Rattle.dc_walk.specs.Walks.{Went, Stopped}
-use Rattle.dc_walk.specs.Finds.{use_shown, AllSpelled, AllInside, AllHeld}
+use Rattle.dc_walk.specs.Finds.{told_in, use_shown, AllSpelled, AllInside, AllHeld}
 use Rattle.dc_walk.specs.Findings.{CanWalk, SameRows, IsFinding, view_in, now_in, uses_in, outcome_in, request_in, said_in, buckets_of, spent}
 use Rattle.dc_walk.specs.declared.rows.Rows.{Rows}
 use Rattle.dc_walk.specs.declared.rows.Stop.{Stop}
@@ -33,7 +38,7 @@ use Rattle.dc_walk.proofs.Checks.{begins_book}
 use Rattle.dc_walk.proofs.Sighted.{outcome_same}
 use Rattle.dc_walk.proofs.Told.{told_itself}
 use Rattle.dc_walk.proofs.Walked.{rested}
-use Rattle.dc_walk.proofs.Questions.{IsWithin}
+use Rattle.dc_walk.proofs.Questions.{IsWithin, within_full}
 
 none_there : {X : Type 0} (x : X) → Contains [] x → ⊥
 none_there x c = let never = c.1 in absurd (omega arith)
@@ -141,6 +146,37 @@ stopped_so locks f g v begins_so stop b p same us same_used =
           (subst (λ (z : View × List Used). Marked 0 0 z.0.walk.notes (map use_shown z.1)) (λ i. (now i, sym same_used i)) b.finding.walk.used.marked);
       gave_up = λ free tells. gave_so locks f g v begins_so b.same b.walk b.looks b.finding p same us same_used b.few stop.why (b.cause free (b.same.brief ∙ tells)) asks nothing;
     }
+
+begins_loads : (b : Bool) (v : View) (call : Request) → (begins b v call).loads ≡ v.loads
+begins_loads true v call = refl
+begins_loads false v call = refl
+
+-- it had too few places for its trail
+pub lacked_so : (f g : Rows) (v : View) → now_in f ≡ begun v (request_in f) → (b : Becomes false f g) → IsGood g → (p : Pass) → p ≡ g.pass.now → (us : List Used) → us ≡ g.used.now.items
+    → (places : ℕ) → HasLongerTrail (said_in g) f.look.base f.look.path.bytes.now f.look.follow places → LacksPlaces f.look.base f.look.path.bytes.now f.look.follow v (view p) (map use_shown us) places
+lacked_so f g v begins_so b good p same us same_used places longer =
+    let now = now_is false f g v begins_so b.same b.walk 0 good.finding p same us same_used in
+    let between = between_so false f g v begins_so b.same b.walk 0 good.finding p same us same_used in
+    let book : (view_in g.begun p f.look).book ≡ (view p).book = begins_book (not g.begun) (view p) (request_in f) in
+    let seen = ap (λ (b : Book). b.seen) book in let new = between.nothing in let later = new.later in
+    let walk = subst (λ (z : View). IsWalk (outcome_in g) z (uses_in g) (spent g + 0)) now good.finding.walk in
+    let spent_so = walk.loads in let first = between.first_load in let few = within_full g good.finding.few in let of_pass = begins_loads (not g.begun) (view p) (request_in f) in record {
+      nothing = record { own = sym (ap (λ (b : Book). b.own) book) ∙ new.own; joined = sym (ap (λ (b : Book). b.joined) book) ∙ new.joined; later = omega arith };
+      noted = λ some. noted_by g.begun (view p) (request_in f) (map use_shown us) some
+          (subst (λ (z : View × List Used). Marked 0 0 z.0.walk.notes (map use_shown z.1)) (λ i. (now i, sym same_used i)) good.finding.walk.used.marked);
+      longer = subst (λ (items : List Used). HasLongerTrail (told_in items) f.look.base f.look.path.bytes.now f.look.follow places) (sym same_used) longer;
+      loads = omega (arith, length-map g.used.now.items use_shown);
+    }
+
+-- why a walk along its trail has no answer
+pub by_finder : {F T : Type 0} (g : Ghosts F T Stop) (old new : F) (halt : Halt Stop) (stop : Stop) → halt ≡ halts.Finder stop → FinderHalts g old new halt → g.stops old new stop
+by_finder g old new halt stop is kept = subst (FinderHalts g old new) is kept
+
+pub by_places : {F T : Type 0} (g : Ghosts F T Stop) (old new : F) (halt : Halt Stop) → halt ≡ halts.Full → FinderHalts g old new halt → g.becomes old new
+by_places g old new halt is kept = subst (FinderHalts g old new) is kept
+
+pub no_place : (halt : Halt Stop) (Lacks : Type 0) → halt ≡ halts.Full → IfNoPlace halt Lacks → Lacks
+no_place halt Lacks is full = subst (λ (h : Halt Stop). IfNoPlace h Lacks) is full
 
 -- what a walk needs may be asked
 pub may_so : (locks : Bool) (f g : Rows) → IsGood f → Becomes locks f g → (n : ℕ) (label : Label) → IsNeeded (outcome_in f) (said_in g) n label → MayAskRows g n label

@@ -16,3 +16,4 @@ pub mod Answered
 pub mod Checks
 pub mod Turns
 pub mod Fronts
+pub mod Trues

@@ -17,3 +17,4 @@ pub mod Fasts
 pub mod Walks
 pub mod Unpins
 pub mod Placing
+pub mod Trails

@@ -6,6 +6,7 @@
 //! function grows too long by it: then `nm` shows a `find_hashed` that is a `Walker`'s.
 #![tactic(auto)]
 
+mod along;
 mod answer;
 mod bucket;
 mod counted;
@@ -28,6 +29,7 @@ mod used;
 mod walk;
 mod why;
 
+pub use along::{FastAlong, walk_fast_along};
 pub use answer::Fast;
 pub use counted::walk_counted;
 pub use dc_names::{MOST_LOADS, MOST_USED};

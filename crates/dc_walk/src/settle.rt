@@ -2,9 +2,10 @@
 
 ghost use Rattle.std.specs.Prelude.{length};
 ghost use Rattle.dc_table.specs.Holders.{table_of};
-ghost use Rattle.dc_table.specs.Passes.{view, share, Fits, IsIdle, StaysOut};
+ghost use Rattle.dc_table.specs.Passes.{known, view, share, Fits, IsIdle, StaysOut};
 ghost use Rattle.dc_walk.specs.Findings.{view_in};
 ghost use Rattle.dc_walk.specs.Finds.{AllInside};
+ghost use Rattle.dc_walk.specs.Trails.{IfDone, WereTrue};
 ghost use Rattle.dc_walk.specs.Walks.{CameTo, Settles};
 
 use crate::answer::Fast;
@@ -33,6 +34,7 @@ pub(crate) fn settle(
     ensures same { StaysOut pass.old pass.new }
     ensures settles { Settles look.entry (length used.now.items) (view_in begun pass.old look.entry)
         (view pass.new) result }
+    ensures were { IfDone result (WereTrue (known pass.new) (share pass.old).limit used.now) }
 {
     words_have_the_fact_they_spell();
     // After all reads and before all checks: a row whose count still stands was as read at this point.

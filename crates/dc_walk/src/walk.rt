@@ -26,7 +26,7 @@ use dc_table::{Pass, Reader};
 
 /// The reply of a walk that came to an end.
 #[inline(always)]
-fn reply_of(end: Walked) -> Reply
+pub(crate) fn reply_of(end: Walked) -> Reply
     ensures { answer_of result ≡ outcome_answer (outcome_shown end) }
 {
     match end {

@@ -20,6 +20,10 @@ pub enum Way {
     FillsPath,
     /// The same, which tries for the lock.
     TriesPath,
+    /// A look-up that tells its trail and fills the rows of its whole path under one hold of the lock.
+    Along,
+    /// The same, which tries for the lock.
+    TriesAlong,
     /// A look-up for who has just asked the rows, which fills them too.
     Missed,
     /// A page of a directory is told.
@@ -37,6 +41,8 @@ impl Way {
             "counted" => Some(Way::Fills),
             "filled" => Some(Way::FillsPath),
             "tried" => Some(Way::TriesPath),
+            "along" => Some(Way::Along),
+            "tried_along" => Some(Way::TriesAlong),
             "missed" => Some(Way::Missed),
             "pages" => Some(Way::Pages),
             "free" => Some(Way::Free),
@@ -210,6 +216,49 @@ fn try_fill(
     }
 }
 
+/// Answers a look-up that tells its trail, and fills the rows of its whole path.
+fn look_along<R: Wait>(
+    rt: &R,
+    alloc: Global,
+    cache: &Dcache,
+    pass: &mut Pass,
+    call: &Call<'_>,
+) -> Result<Stamped, Unanswered>
+    requires { Fits cache.now pass.old }
+    ensures { Fits cache.now pass.new }
+{
+    let Call::Look { base, path, follow } = *call else {
+        return Err(Unanswered::Strange);
+    };
+    let Ok(text) = parse(path) else {
+        return Err(Unanswered::Strange);
+    };
+    match cache.resolve_along(rt, alloc, pass, base, text, follow, &mut [0; 8]) {
+        Ok((stamped, _)) => Ok(stamped),
+        Err(_) => Err(Unanswered::Strange),
+    }
+}
+
+/// Answers a look-up that tells its trail, and fills the rows of its whole path, if the lock is free.
+fn try_along(
+    alloc: Global,
+    cache: &Dcache,
+    pass: &mut Pass,
+    call: &Call<'_>,
+) -> Option<Result<Stamped, Unanswered>>
+    requires { Fits cache.now pass.old }
+    ensures { Fits cache.now pass.new }
+{
+    let Call::Look { base, path, follow } = *call else {
+        return None;
+    };
+    let text = parse(path).ok()?;
+    match cache.try_resolve_along(alloc, pass, base, text, follow, &mut [0; 8])? {
+        Ok((stamped, _)) => Some(Ok(stamped)),
+        Err(_) => None,
+    }
+}
+
 /// Answers a look-up that asks the tree alone, and fills the rows of its whole path.
 fn look_missed<R: Wait>(
     rt: &R,
@@ -305,6 +354,8 @@ pub fn answer_by<R: Wait>(
         Way::Waits => answer(rt, alloc, cache, pass, call),
         Way::Fills => count(rt, alloc, cache, pass, call),
         Way::FillsPath => fill(rt, alloc, cache, pass, call),
+        Way::Along => look_along(rt, alloc, cache, pass, call),
+        Way::TriesAlong => at_once(try_along(alloc, cache, pass, call)),
         Way::Missed => look_missed(rt, alloc, cache, pass, call),
         Way::Tries => at_once(try_answer(alloc, cache, pass, call)),
         Way::TriesPath => at_once(try_fill(alloc, cache, pass, call)),

@@ -8,7 +8,7 @@ returns c =
     let fits : SFits w32 c.tell_count.result = search rules in
     let hold = c.in-Some.hold.value in let count = c.evictions-count.result in
     record {
-      counts = called (λ p q count. q ≡ p) ShowsCount c.args.pass.now c.put.new.self _ c.args.evictions.now c.tell_count.new.evictions
+      counts = called (λ p q count. q ≡ p) ShowsCount c.args.pass.now c.put.new.self _ c.args.evictions.now c.tell_count.new.written
           hold hold hold count c.in-Some.ensures.taken refl c.put.ensures refl
-          (as_told (λ n. ShowsCount count n c.tell_count.new.evictions) (to_z-of_z fits) c.tell_count.ensures);
+          (as_told (λ n. ShowsCount count n c.tell_count.new.written) (to_z-of_z fits) c.tell_count.ensures);
     }

@@ -1,7 +1,7 @@
 use Rattle.std.proofs.Common.{refl}
 use Rattle.dc_names.specs.Names.{part_shown}
 use Rattle.dc_trail.proofs.Asking.{goes_asked}
-use Rattle.dc_trail.proofs.trailed.TrailedFinder.find.Goals as goal
+use Rattle.dc_trail.proofs.trailed.TrailedFinder.find_hashed.Goals as goal
 
 pub returns-in-Ok-clause-becomes : goal.returns-in-Ok-clause-becomes
 returns-in-Ok-clause-becomes g c = let in_time = c.in-Some.ensures.entered in

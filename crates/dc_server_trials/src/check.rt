@@ -3,11 +3,10 @@
 mod large;
 mod slow;
 
-use crate::answers::Want;
 use crate::runs::{INODES, phased_verdict};
 use dc_check::{PhasedVerdict, Stamp, Verdict, check, record_of};
 use dc_names::Kind;
-use dc_plain::{Call, Follow};
+use dc_plain::{Call, Follow, Reply};
 use dc_trace::TraceFault;
 use std::test::Fail;
 
@@ -16,15 +15,14 @@ const INPUT: &str = "0 mkdir /a\n0 cd /a\nsync\n1 rmdir /a\nsync\n0 look .\n";
 
 const OUTPUT: &str = "0 ok 2 @0\n0 is 2 dir @1\n1 ok @1\n0 no 2 @2\n";
 
-/// The sessions, calls, replies and points of its stamps.
-static STAMPS: [(u64, Call<'static>, Want<'static>, u64); 4] = [
+/// The sessions, calls and points of its stamps.
+static STAMPS: [(u64, Call<'static>, u64); 4] = [
     (
         0,
         Call::Mkdir {
             base: 1,
             path: b"/a",
         },
-        Want::Done(2),
         0,
     ),
     (
@@ -34,7 +32,6 @@ static STAMPS: [(u64, Call<'static>, Want<'static>, u64); 4] = [
             path: b"/a",
             follow: Follow::Dir,
         },
-        Want::Found(2, Kind::Dir),
         1,
     ),
     (
@@ -43,7 +40,6 @@ static STAMPS: [(u64, Call<'static>, Want<'static>, u64); 4] = [
             base: 1,
             path: b"/a",
         },
-        Want::Unit,
         1,
     ),
     (
@@ -53,18 +49,28 @@ static STAMPS: [(u64, Call<'static>, Want<'static>, u64); 4] = [
             path: b".",
             follow: Follow::Yes,
         },
-        Want::Refused(2),
         2,
     ),
 ];
 
+/// Whether a reply is the one of this place.
+fn is_reply_at(reply: &Reply, place: usize) -> bool {
+    matches!(
+        (place, reply),
+        (0, Reply::Done(2))
+            | (1, Reply::Found(2, Kind::Dir))
+            | (2, Reply::Unit)
+            | (3, Reply::Refused(2))
+    )
+}
+
 /// Whether a stamp is the one of this place.
 fn is_at(stamp: &Stamp, place: usize) -> bool {
     match STAMPS.get(place) {
-        Some((session, call, want, at)) => {
+        Some((session, call, at)) => {
             stamp.session == *session
                 && stamp.call.as_call() == *call
-                && want.is(&stamp.reply)
+                && is_reply_at(&stamp.reply, place)
                 && stamp.at == *at
         }
         None => false,
