@@ -137,6 +137,13 @@ fn a_pass_learns_how_far_another_came(rt: HostRuntime) -> Result<(), Fail> {
     Ok(())
 }
 
+#[test]
+fn a_point_that_has_not_come_has_a_text(rt: HostRuntime) -> Result<(), Fail> {
+    let told = format!(in rt.alloc(); "{}", NotYet(7))?;
+    assert_eq!(rt; told.as_str(), "the tree was altered 7 times so far");
+    Ok(())
+}
+
 /// A look-up that always asks under the lock would leave no row behind.
 #[test]
 fn a_look_fills_the_rows_that_it_needs(rt: HostRuntime) -> Result<(), Fail> {
