@@ -115,6 +115,18 @@ fn is_along_by_rows<R: Wait>(
         && &again[..many] == trail
 }
 
+/// Whether all of them are so, by rows.
+fn are_along_by_rows<R: Wait>(rt: &R, alloc: Global, cache: &Dcache, pass: &mut Pass) -> bool
+    requires { Fits cache.now pass.old }
+    ensures { Fits cache.now pass.new }
+{
+    let mut all = true;
+    for row in TRAILS.iter() {
+        all &= is_along_by_rows(rt, alloc, cache, pass, row);
+    }
+    all
+}
+
 #[test]
 fn rows_tell_trails(rt: HostRuntime) -> Result<(), Fail> {
     let (cache, mut p) = Dcache::new(rt.alloc(), 64, 8).expect(&rt, "memory");
@@ -123,11 +135,7 @@ fn rows_tell_trails(rt: HostRuntime) -> Result<(), Fail> {
     let path = parse(b"/a/b/c").expect(&rt, "a path");
     let cold = cache.look_fast_along(&mut p, ROOT, path, Follow::Yes, &mut places);
     assert!(rt; matches!(cold, FastAlong::Again(Why::Miss(0))));
-    let mut all = true;
-    for row in TRAILS.iter() {
-        all &= is_along_by_rows(&rt, rt.alloc(), &cache, &mut p, row);
-    }
-    assert!(rt; all);
+    assert!(rt; are_along_by_rows(&rt, rt.alloc(), &cache, &mut p));
     Ok(())
 }
 
