@@ -9,13 +9,12 @@ use Rattle.std.specs.Ordering.{nat_cmp, eq_by_cmp, is_eq, is_lt, ordering_then}
 use Rattle.std.specs.declared.cmp.Ordering.{Ordering}
 use Rattle.std.specs.declared.cmp.Ordering.TheVariants.{Less, Equal, Greater}
 use Rattle.dc_plain.specs.Spots.{spot_at}
-use Rattle.dc_plain.specs.Trees.{Spot, spot_cmp}
-use Rattle.dc_store.specs.Names.{hashed, name_cmp}
+use Rattle.dc_plain.specs.Trees.{Tree, Spot, spot_cmp}
+use Rattle.dc_store.specs.Names.{name_cmp}
 use Rattle.dc_store.specs.PageLaws.{IsLater, PagesGoOn, PagesLeaveNoGap, PagesRise}
-use Rattle.dc_store.specs.Pages.{behind, by_hash, entries_in, is_behind}
+use Rattle.dc_store.specs.Pages.{behind, entries_in, is_behind}
 use Rattle.dc_store.proofs.Decides.{from_test}
-use Rattle.dc_store.proofs.Named.{same_bytes}
-use Rattle.dc_store.proofs.Paged.{found_hash, sorted_hashes}
+use Rattle.dc_store.proofs.Named.{found_in, same_bytes, sorted_in}
 
 first : (a b : Bool) → T (a && b) → T a
 first true b h = tt
@@ -25,7 +24,7 @@ second : (a b : Bool) → T (a && b) → T b
 second true b h = h
 second false b h = absurd h
 
--- a key that is found is above one that is below all
+-- a name that is found is above one that is below all
 found_above : (low key : List ℕ) (n : ℕ) (es : List (List ℕ × ℕ)) → T (below_all name_cmp low es) → lookup name_cmp key es ≡ Some n → is_lt (name_cmp low key) ≡ true
 found_above low key n [] below found = absurd cc
 found_above low key n (e ∷ es) below found =
@@ -34,20 +33,19 @@ found_above low key n (e ∷ es) below found =
       | false ↦ λ other is. found_above low key n es (second (is_lt (name_cmp low e.0)) (below_all name_cmp low es) below) is
     ] refl found
 
--- among the first of some entries in order a key is found, or they are as many as may be and it is above all of them
-found_or_later : (d most : ℕ) (name : List ℕ) (n : ℕ) (es : List (List ℕ × ℕ)) → T (is_sorted name_cmp es) → lookup name_cmp (hashed d name) es ≡ Some n
-    → (lookup name_cmp (hashed d name) (take most es) ≡ Some n) ⊎ IsLater d most name (take most es)
-found_or_later d zero name n es sorted found = inr (record { full = refl; behind = tt })
-found_or_later d (suc most) name n [] sorted found = absurd cc
-found_or_later d (suc most) name n (e ∷ es) sorted found =
-    let key = hashed d name in
-    elim (eq_by_cmp name_cmp key e.0) as (λ b. cond b (Some e.1) (lookup name_cmp key es) ≡ Some n → (cond b (Some e.1) (lookup name_cmp key (take most es)) ≡ Some n) ⊎ IsLater d (suc most) name (e ∷ take most es)) [
+-- among the first of some entries in order a name is found, or they are as many as may be and it is above all of them
+found_or_later : (most : ℕ) (name : List ℕ) (n : ℕ) (es : List (List ℕ × ℕ)) → T (is_sorted name_cmp es) → lookup name_cmp name es ≡ Some n
+    → (lookup name_cmp name (take most es) ≡ Some n) ⊎ IsLater most name (take most es)
+found_or_later zero name n es sorted found = inr (record { full = refl; behind = tt })
+found_or_later (suc most) name n [] sorted found = absurd cc
+found_or_later (suc most) name n (e ∷ es) sorted found =
+    elim (eq_by_cmp name_cmp name e.0) as (λ b. cond b (Some e.1) (lookup name_cmp name es) ≡ Some n → (cond b (Some e.1) (lookup name_cmp name (take most es)) ≡ Some n) ⊎ IsLater (suc most) name (e ∷ take most es)) [
       | true ↦ λ is. inl is
-      | false ↦ λ is. elim (found_or_later d most name n es (second (below_all name_cmp e.0 es) (is_sorted name_cmp es) sorted) is) [
+      | false ↦ λ is. elim (found_or_later most name n es (second (below_all name_cmp e.0 es) (is_sorted name_cmp es) sorted) is) [
         | inl there ↦ inl there
         | inr later ↦ inr (record {
           full = ap suc later.full;
-          behind = (found_above e.0 key n es (first (below_all name_cmp e.0 es) (is_sorted name_cmp es) sorted) is, later.behind);
+          behind = (found_above e.0 name n es (first (below_all name_cmp e.0 es) (is_sorted name_cmp es) sorted) is, later.behind);
         })
       ]
     ] found
@@ -78,15 +76,17 @@ found_there d name (e ∷ es) =
     ap (λ b. cond b (Some e.1) (lookup spot_cmp (spot_at d name) es)) (tied_spots d name e.0)
     ∙ found_step (e.0.dir == d) name e (lookup spot_cmp (spot_at d name) es) (filter (λ (x : Spot × ℕ). x.0.dir == d) es) (found_there d name es)
 
+sorted_behind : (t : Tree) (d : ℕ) (after : Option (List ℕ)) → T (is_sorted name_cmp (behind after (entries_in t d)))
+sorted_behind t d after = is_sorted-where_key name_cmp (is_behind after) (entries_in t d) (sorted_in (map shown (filter (λ (e : Spot × ℕ). e.0.dir == d) t.entries)))
+
 pub no_gap : PagesLeaveNoGap
 no_gap t d after most name n due =
-    let keys = by_hash d (entries_in t d) in
-    let key = hashed d name in
-    let there : lookup name_cmp key keys ≡ Some n = found_hash d (entries_in t d) name ∙ sym (found_there d name t.entries) ∙ due.leads in
-    let alike : (x : List ℕ) → name_cmp key x ≡ Equal → is_behind d after x ≡ is_behind d after key = λ x tied. ap (is_behind d after) (sym (same_bytes key x (ap is_eq tied))) in
-    let found : lookup name_cmp key (behind d after (entries_in t d)) ≡ Some n =
-    find-where_key name_cmp (is_behind d after) key alike keys ∙ ap (λ b. cond b (lookup name_cmp key keys) None) due.behind ∙ there in
-    found_or_later d most name n (behind d after (entries_in t d)) (is_sorted-where_key name_cmp (is_behind d after) keys (sorted_hashes d (entries_in t d))) found
+    let names = entries_in t d in
+    let there : lookup name_cmp name names ≡ Some n = found_in (map shown (filter (λ (e : Spot × ℕ). e.0.dir == d) t.entries)) name ∙ sym (found_there d name t.entries) ∙ due.leads in
+    let alike : (x : List ℕ) → name_cmp name x ≡ Equal → is_behind after x ≡ is_behind after name = λ x tied. ap (is_behind after) (sym (same_bytes name x (ap is_eq tied))) in
+    let found : lookup name_cmp name (behind after names) ≡ Some n =
+    find-where_key name_cmp (is_behind after) name alike names ∙ ap (λ b. cond b (lookup name_cmp name names) None) due.behind ∙ there in
+    found_or_later most name n (behind after names) (sorted_behind t d after) found
 
 all_pass : (p : List ℕ → Bool) (es : List (List ℕ × ℕ)) → AllByRecursion (λ (e : List ℕ × ℕ). p e.0 ≡ true) (filter (λ (e : List ℕ × ℕ). p e.0) es)
 all_pass p [] = tt
@@ -102,7 +102,7 @@ all_first P (suc most) [] all = tt
 all_first P (suc most) (e ∷ es) all = (all.0, all_first P most es all.1)
 
 pub goes_on : PagesGoOn
-goes_on t d after most = all_first (λ (e : List ℕ × ℕ). is_behind d after e.0 ≡ true) most (behind d after (entries_in t d)) (all_pass (is_behind d after) (by_hash d (entries_in t d)))
+goes_on t d after most = all_first (λ (e : List ℕ × ℕ). is_behind after e.0 ≡ true) most (behind after (entries_in t d)) (all_pass (is_behind after) (entries_in t d))
 
 both : (a b : Bool) → T a → T b → T (a && b)
 both true b h k = k
@@ -121,6 +121,4 @@ sorted_first (suc most) (e ∷ es) sorted = both (below_all name_cmp e.0 (take m
     (sorted_first most es (second (below_all name_cmp e.0 es) (is_sorted name_cmp es) sorted))
 
 pub rise : PagesRise
-rise t d after most =
-    let keys = by_hash d (entries_in t d) in
-    from_test _ (sorted_first most (behind d after (entries_in t d)) (is_sorted-where_key name_cmp (is_behind d after) keys (sorted_hashes d (entries_in t d))))
+rise t d after most = from_test _ (sorted_first most (behind after (entries_in t d)) (sorted_behind t d after))

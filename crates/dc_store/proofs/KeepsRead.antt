@@ -6,7 +6,8 @@ use Rattle.dc_plain.specs.Trees.{Tree, Spot, how_many, inode_of, names_in}
 use Rattle.dc_store.specs.Inodes.{entries_of, nodes_of, inode_at}
 use Rattle.dc_plain.specs.BytesShown.{names_by}
 use Rattle.dc_store.specs.Maps.{node_shown, IsNodeAt}
-use Rattle.dc_store.specs.Names.{by_names, name_cmp}
+use Rattle.dc_store.specs.Names.{name_cmp}
+use Rattle.dc_store.specs.Names as names
 use Rattle.dc_store.specs.Slabs.{IsInodeAt}
 use Rattle.dc_store.specs.declared.inode.Inode.{Inode}
 use Rattle.dc_store.proofs.Keeps.{Keeps, in_order, entries_are, inode_is}
@@ -15,7 +16,8 @@ use Rattle.dc_store.proofs.Listed.{names_at, names_listed, pairs_listed}
 use Rattle.dc_store.proofs.Nodes.{copied_mapped, told}
 use Rattle.dc_store.proofs.NodesKept.{node_found}
 use Rattle.dc_store.proofs.Stores.{sound_as}
-use Rattle.dc_store.proofs.Decides.{from_test}
+use Rattle.dc_store.proofs.Named.{still_in_order}
+use Rattle.dc_store.proofs.Decides.{from_test, to_test}
 
 module _ {inodes : List (ℕ × Inode)} {next : ℕ} {t : Tree} (now : Keeps inodes next t) (n : ℕ) where
   names_of_tree : IsTrue (is_sorted name_cmp (names_at (inode_at inodes n))) → map (λ e. e.0) (names_at (inode_at inodes n)) ≡ names_in t n
@@ -49,8 +51,13 @@ module _ {inodes : List (ℕ × Inode)} {next : ℕ} {t : Tree} (now : Keeps ino
   none_told None is = none_in (sym is)
   none_told (Some b) is = tt
 
+  abbrev pairs : List (Spot × ℕ) → List (List ℕ × ℕ)
+  pairs es = map (λ (e : Spot × ℕ). (e.0.name, e.1)) (filter (λ (e : Spot × ℕ). e.0.dir == n) es)
+
   pairs_of_tree : IsTrue (is_sorted name_cmp (names_at (inode_at inodes n))) → names_at (inode_at inodes n) ≡ entries_in t n
-  pairs_of_tree ordered = sym (pairs_listed inodes (from_test _ (in_order now)) n ordered) ∙ ap (λ (es : List (Spot × ℕ)). map (λ (e : Spot × ℕ). (e.0.name, e.1)) (filter (λ (e : Spot × ℕ). e.0.dir == n) es)) (entries_are now)
+  pairs_of_tree ordered =
+      let same : names_at (inode_at inodes n) ≡ pairs t.entries = sym (pairs_listed inodes (from_test _ (in_order now)) n ordered) ∙ ap pairs (entries_are now) in
+      sym (still_in_order (names_at (inode_at inodes n)) (to_test _ ordered)) ∙ ap names.in_order same
 
   -- the entries of a directory are those of its inode
   pub entries_told : (inode : Inode) → Some inode ≡ inode_at inodes n → IsTrue (is_sorted name_cmp inode.names) → inode.names ≡ entries_in t n
@@ -66,4 +73,4 @@ take_none (suc most) = refl
 
 -- a page of no entries is empty
 pub no_page : (t : Tree) (d : ℕ) (after : Option (List ℕ)) (most : ℕ) → [] ≡ entries_in t d → [] ≡ page_of t d after most
-no_page t d after most none = ap (λ (es : List (List ℕ × ℕ)). map (told_in t) (by_names es)) (take_none most) ∙ ap (λ (es : List (List ℕ × ℕ)). map (told_in t) (by_names (take most (behind d after es)))) none
+no_page t d after most none = ap (map (told_in t)) (take_none most) ∙ ap (λ (es : List (List ℕ × ℕ)). map (told_in t) (take most (behind after es))) none

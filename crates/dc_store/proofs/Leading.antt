@@ -13,26 +13,24 @@ use Rattle.dc_plain.specs.Spots.{spot_at}
 use Rattle.dc_plain.specs.Trees.{Tree, Spot, entry_number, entry_of, inode_of, is_directory_inode, is_live_directory}
 use Rattle.dc_names.specs.Bytes.{is_name}
 use Rattle.dc_store.specs.Inodes.{inode_at}
-use Rattle.dc_store.specs.Names.{by_names, found_by, hashed, in_order, name_cmp, unhashed, AreHashed}
+use Rattle.dc_store.specs.Names.{name_cmp}
 use Rattle.dc_store.specs.declared.inode.Inode.{Inode}
-use Rattle.dc_store.proofs.Hashed.{found_names}
+use Rattle.dc_store.proofs.Named.{found, found_by}
 use Rattle.dc_store.proofs.Keeps.{Keeps}
 use Rattle.dc_store.proofs.KeepsMoved.{led_entry}
 use Rattle.dc_store.proofs.Standing.{found_has, held_above, one_spot, same_test}
 
 -- ---- in a directory's map
-pub leads : (d : ℕ) (es : List (List ℕ × ℕ)) → AreHashed d es → {names : List (List ℕ × ℕ)} → in_order (by_names es) ≡ names → (key : List ℕ) (m n : ℕ) → found_by key es ≡ Some m → m ≡ n → {name : List ℕ} → name ≡ unhashed key
-    → lookup_entry name_cmp name names ≡ Some n
-leads d es kept is key m n found same named =
-    (λ i. lookup_entry name_cmp (named i) (sym is i)) ∙ sym (found_names d es kept (unhashed key) (kept key (ap is_some found))) ∙ found ∙ ap Some same
+pub leads : (es : List (List ℕ × ℕ)) (key : List ℕ) (m n : ℕ) → found_by key es ≡ Some m → m ≡ n → {name : List ℕ} → name ≡ key → lookup_entry name_cmp name es ≡ Some n
+leads es key m n there same named = sym (found _ es (sym named)) ∙ there ∙ ap Some same
 
 no_clash : (n : ℕ) → (n == n) ≡ false → ⊥
 no_clash n e = let clash : true ≡ false = sym (same_test n n refl) ∙ e in cc
 
-pub none_lead : (d : ℕ) (es : List (List ℕ × ℕ)) → AreHashed d es → {names : List (List ℕ × ℕ)} → in_order (by_names es) ≡ names → (n : ℕ) → All (λ e. (e.1 == n) ≡ false) es → (name : List ℕ) → lookup_entry name_cmp name names ≢ Some n
-none_lead d es kept is n all name found =
-    let there : found_by (hashed d name) es ≡ Some n = found_names d es kept name refl ∙ ap (lookup_entry name_cmp name) is ∙ found in
-    no_clash n (subst (λ (o : Option ℕ). IfSome o (λ (v : ℕ). (v == n) ≡ false)) there (All-lookup (λ (v : ℕ). (v == n) ≡ false) (is_at (name_cmp (hashed d name))) es all))
+pub none_lead : (n : ℕ) (es : List (List ℕ × ℕ)) → All (λ e. (e.1 == n) ≡ false) es → (name : List ℕ) → lookup_entry name_cmp name es ≢ Some n
+none_lead n es all name e =
+    let there : found_by name es ≡ Some n = found name es refl ∙ e in
+    no_clash n (subst (λ (o : Option ℕ). IfSome o (λ (v : ℕ). (v == n) ≡ false)) there (All-lookup (λ (v : ℕ). (v == n) ≡ false) (is_at (name_cmp name)) es all))
 
 -- ---- in the tree that the inodes stand for
 module _ {inodes : List (ℕ × Inode)} {next : ℕ} {t : Tree} (now : Keeps inodes next t) (d n : ℕ) where

@@ -17,8 +17,7 @@ pub mod Moves
 pub mod Slots
 pub mod SlotSteps
 pub mod Named
-pub mod Hashed
-pub mod Ordered
+pub mod Fronts
 pub mod Paged
 pub mod Gapless
 pub mod Changes

@@ -5,6 +5,7 @@ pub mod Counts
 pub mod Dropped
 pub mod Maps
 pub mod Moved
+pub mod Fronts
 pub mod Names
 pub mod Inodes
 pub mod Slots

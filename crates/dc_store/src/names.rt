@@ -4,8 +4,7 @@ ghost use Rattle.std.specs.Prelude.{◌≡◌, ℕ, List, [], length, map, IsSom
 ghost use Rattle.std.specs.FinMap.Entries.{put, is_sorted};
 ghost use Rattle.std.specs.FinMap.Entries.{find as lookup};
 ghost use Rattle.dc_plain.specs.BytesShown.{names_shown};
-ghost use Rattle.dc_names.specs.Hash.{hash_of};
-ghost use Rattle.dc_store.specs.Names.{by_names, in_order, name_cmp, without_name, AreHashed};
+ghost use Rattle.dc_store.specs.Names.{name_cmp, without_name};
 ghost use Rattle.dc_store.specs.Pages.{behind, leads_shown, name_shown};
 
 use crate::name_bytes::{NameBytes, SoughtBytes};
@@ -16,41 +15,34 @@ use std::collections::BTreeMap;
 use std::marker::Model;
 use std::ops::Bound;
 
-/// The names in a directory, each with the number that it leads to, in the order of the hash of the
-/// directory's number and the name, and of their bytes if that is one. Whoever chooses the names, a search
-/// compares as many as the logarithm of their number. They are seen as a list in the order of their bytes.
+/// The names in a directory, each with the number that it leads to, in the order of their bytes. Whoever
+/// chooses the names, a search compares as many as the logarithm of their number.
 #[derive(Drop)]
 pub struct Names {
-    dir: u64,
     by_name: BTreeMap<NameBytes, u64>,
 }
 
 impl Model for Names {
     ghost Value = { List (List ℕ × ℕ) };
 
-    ghost view = { λ names. in_order (by_names names.by_name.entries) };
-
-    ghost invariant = { λ names. AreHashed names.dir names.by_name.entries };
+    ghost view = { λ names. names.by_name.entries };
 }
 
 impl Names {
-    /// No names yet, of the directory of this number.
-    pub fn new(alloc: Global, dir: u64) -> Names
+    /// No names yet.
+    pub fn new(alloc: Global) -> Names
         ensures { result ≡ [] }
     {
         Names {
-            dir,
             by_name: BTreeMap::new(alloc),
         }
     }
 
-    /// Where a name leads, for a caller that has the hash of the directory's number and the name.
-    pub fn get(&self, dir: u64, name: Name<'_>, hash: u64) -> Option<u64>
-        requires { hash ≡ hash_of dir name.bytes.now }
+    /// Where a name leads.
+    pub fn get(&self, name: Name<'_>) -> Option<u64>
         ensures { result ≡ lookup name_cmp name.entry.bytes.now self.now }
     {
-        let sought = SoughtBytes::with_hash(self.dir, dir, name, hash);
-        self.by_name.get(sought).copied()
+        self.by_name.get(SoughtBytes::new(name)).copied()
     }
 
     /// Puts a name in, and answers where it led before.
@@ -64,7 +56,7 @@ impl Names {
         ensures before { IfOk result (λ before. before ≡ lookup name_cmp name.entry.bytes.now self.old) }
         ensures err { OnErr result (self.new ≡ self.old) }
     {
-        let key = NameBytes::new(alloc, self.dir, name)?;
+        let key = NameBytes::new(alloc, name)?;
         Ok(self.by_name.insert(key, number)?)
     }
 
@@ -73,7 +65,7 @@ impl Names {
         requires { IsSome (lookup name_cmp name.bytes.now self.old) }
         ensures { self.new ≡ put name_cmp name.entry.bytes.now number self.old }
     {
-        let sought = SoughtBytes::new(self.dir, name);
+        let sought = SoughtBytes::new(name);
         // The caller knows that the name is there.
         let Some(target) = self.by_name.get_mut(sought) else {
             unreachable!();
@@ -86,8 +78,7 @@ impl Names {
         ensures rest { self.new ≡ without_name name.entry.bytes.now self.old }
         ensures before { result ≡ lookup name_cmp name.entry.bytes.now self.old }
     {
-        let sought = SoughtBytes::new(self.dir, name);
-        self.by_name.remove(sought)
+        self.by_name.remove(SoughtBytes::new(name))
     }
 
     /// How many names there are.
@@ -113,7 +104,6 @@ impl Names {
     }
 
     /// The names in the order of their bytes.
-    #[tactic(auto, using(crate::proofs::Named::view_sorted))]
     pub fn list(&self, alloc: Global) -> Result<Vec<Vec<u8>>, NoMemory>
         ensures names { IfOk result (λ names. names_shown names ≡ map (λ e. e.0) self.now) }
         ensures sorted { IsTrue (is_sorted name_cmp self.now) }
@@ -122,33 +112,24 @@ impl Names {
         for name in self.by_name.keys() {
             names.push(name.as_slice().to_vec(alloc)?)?;
         }
-        names.sort_unstable();
         Ok(names)
     }
 
-    /// The names behind one, or all, in the order of the map, at most this many, each with the number that it
-    /// leads to. It costs one search and a step for each name that it tells. The directory's number is the
-    /// caller's, since these names are seen without it.
-    #[tactic(auto, using(crate::proofs::Named::view_sorted))]
+    /// The names behind one, or all, in the order of their bytes, at most this many, each with the number
+    /// that it leads to. It costs one search and a step for each name that it tells.
     pub fn page(
         &self,
         alloc: Global,
-        dir: u64,
         after: Option<Name<'_>>,
         most: usize,
     ) -> Result<Vec<Led>, NoMemory>
         ensures told { IfOk result (λ page.
-            leads_shown page ≡ by_names (take most (behind dir (name_shown after.entry) self.now))) }
+            leads_shown page ≡ take most (behind (name_shown after.entry) self.now)) }
         ensures sorted { IsTrue (is_sorted name_cmp self.now) }
     {
-        // In the order of another directory's hashes the names would be told amiss. Nobody asks with its
-        // number, as each directory's inode has that directory's names.
-        if self.dir != dir {
-            return Err(NoMemory);
-        }
         match after {
             Some(name) => {
-                let start = Bound::Excluded(NameBytes::new(alloc, dir, name)?);
+                let start = Bound::Excluded(NameBytes::new(alloc, name)?);
                 first_of(alloc, self.by_name.range((start, Bound::Unbounded)), most)
             }
             None => first_of(alloc, self.by_name.range(..), most),

@@ -1,7 +1,6 @@
 //! The entries of a directory, some at a time.
 
 ghost use Rattle.std.specs.Prelude.{◌≡◌, IfOk, take};
-ghost use Rattle.dc_store.specs.Names.{by_names};
 ghost use Rattle.dc_store.specs.Pages.{leads_shown};
 
 use crate::name_bytes::NameBytes;
@@ -33,7 +32,7 @@ pub fn first_of(
     names: Range<'_, NameBytes, u64>,
     most: usize,
 ) -> Result<Vec<Led>, NoMemory>
-    ensures { IfOk result (λ page. leads_shown page ≡ by_names (take most names.entry)) }
+    ensures { IfOk result (λ page. leads_shown page ≡ take most names.entry) }
 {
     let mut page = Vec::new(alloc);
     for (name, number) in names {

@@ -62,7 +62,7 @@ impl SlabStore {
         inodes.make_room(alloc)?;
         let root = Inode {
             node: Node::Dir(1),
-            names: Names::new(alloc, 1),
+            names: Names::new(alloc),
             count: 0,
         };
         inodes.insert(1, root)?;
@@ -76,7 +76,7 @@ impl SlabStore {
 
     /// Where a directory stands: in which directory, and under which name. `None` for the root, and if no
     /// directory lives under the number. Its inode has no name, so the names in the directory above are
-    /// looked at one after another, in the order of their hashes.
+    /// looked at one after another, in the order of their bytes.
     pub fn own_entry(&self, number: u64) -> Option<(u64, &[u8])>
         ensures found { IfSome result (λ r.
             entry_number self.now (spot_at r.0 r.1.now) ≡ Some number) }
@@ -117,8 +117,8 @@ impl SlabStore {
         self.inodes.get(number)
     }
 
-    /// The entries of a directory behind a name, or all, at most this many, in the order of the hashes of the
-    /// directory's number and their names. None if no directory lives under the number. It costs as much for
+    /// The entries of a directory behind a name, or all, at most this many, in the order of the bytes of
+    /// their names. None if no directory lives under the number. It costs as much for
     /// each entry that it tells as a search, whatever the directory holds.
     pub fn page(
         &self,
@@ -131,7 +131,7 @@ impl SlabStore {
             page_told page ≡ page_of self.now dir (name_shown after.entry) most) }
     {
         match self.inodes.get(dir) {
-            Some(inode) => self.with_kinds(alloc, inode.names.page(alloc, dir, after, most)?),
+            Some(inode) => self.with_kinds(alloc, inode.names.page(alloc, after, most)?),
             None => Ok(Vec::new(alloc)),
         }
     }
@@ -169,7 +169,7 @@ impl SlabStore {
         let number = self.next;
         let inode = Inode {
             node,
-            names: Names::new(alloc, number),
+            names: Names::new(alloc),
             count: 1,
         };
         self.inodes.insert(number, inode)?;
@@ -229,8 +229,9 @@ impl SlabStore {
 impl Store for SlabStore {
     ghost tree = { λ store. store };
 
-    fn find_hashed(&self, dir: u64, name: Name<'_>, hash: u64) -> Option<u64> {
-        self.inodes.get(dir)?.names.get(dir, name, hash)
+    /// The names of a directory are in the order of their bytes, so the hash is of no use here.
+    fn find_hashed(&self, dir: u64, name: Name<'_>, _hash: u64) -> Option<u64> {
+        self.inodes.get(dir)?.names.get(name)
     }
 
     fn kind(&self, number: u64) -> Option<Kind> {

@@ -1,0 +1,72 @@
+-- The numbers of the first bytes of names are in the order of the names.
+use Rattle.std.proofs.Common.{◌≡◌, ◌≢◌, ℕ, zero, suc, ◌-◌, ◌≤◌, ◌<◌, ◌^◌, min, List, [], ◌∷◌, ◌++◌, length, take, drop, replicate, refl, ap, sym, ◌∙◌, arith}
+use Rattle.std.proofs.lemmas.List.{drop-replicate, take-replicate}
+use Rattle.std.specs.Cmp.{tied_itself}
+use Rattle.std.specs.Cmp.Lexicographic.{slice_cmp, nat_list_cmp_total}
+use Rattle.std.specs.Ordering.{nat_cmp, ordering_reverse, ordering_then}
+use Rattle.std.specs.declared.cmp.Ordering.{Ordering}
+use Rattle.std.specs.declared.cmp.Ordering.TheVariants.{Less, Equal, Greater}
+use Rattle.dc_store.specs.Fronts.{first_bytes, IsFront}
+use Rattle.dc_store.proofs.Keys.{cmp-number_bytes}
+
+then_equal : (o : Ordering) → o ≡ Equal → ordering_then o Equal ≡ Equal
+then_equal o e = ap (λ p. ordering_then p Equal) e
+
+zeros_tie : (k m n : ℕ) → k ≤ m → k ≤ n → slice_cmp nat_cmp (take k (replicate m 0)) (take k (replicate n 0)) ≡ Equal
+zeros_tie k m n p q = (λ i. slice_cmp nat_cmp (take-replicate k m 0 p i) (take-replicate k n 0 q i)) ∙ tied_itself nat_list_cmp_total (replicate k 0)
+
+-- nothing is less than zeros alone
+zeros_first : (k m n : ℕ) (b : List ℕ) → k ≤ m → k ≤ n → ordering_then (slice_cmp nat_cmp (take k (replicate m 0)) (take k (b ++ replicate n 0))) Less ≡ Less
+zeros_first k m n [] p q = ap (λ o. ordering_then o Less) (zeros_tie k m n p q)
+zeros_first zero m n (y ∷ b) p q = refl
+zeros_first (suc k) zero n (y ∷ b) p q = absurd (omega arith)
+zeros_first (suc k) (suc m) n (zero ∷ b) p q = zeros_first k m n b (omega arith) (omega arith)
+zeros_first (suc k) (suc m) n (suc y ∷ b) p q = refl
+
+turned : (o : Ordering) → ordering_then o Less ≡ Less → ordering_then (ordering_reverse o) Greater ≡ Greater
+turned Less e = refl
+turned Equal e = refl
+turned Greater e = cc
+
+one_deeper : (o p q : Ordering) → ordering_then p q ≡ q → ordering_then (ordering_then o p) (ordering_then o q) ≡ ordering_then o q
+one_deeper Less p q e = refl
+one_deeper Equal p q e = e
+one_deeper Greater p q e = refl
+
+-- where the first bytes of two names decide, so do the names
+first_decide : (k m n : ℕ) (a b : List ℕ) → k ≤ m → k ≤ n
+    → ordering_then (slice_cmp nat_cmp (take k (a ++ replicate m 0)) (take k (b ++ replicate n 0))) (slice_cmp nat_cmp a b) ≡ slice_cmp nat_cmp a b
+first_decide k m n [] [] p q = then_equal _ (zeros_tie k m n p q)
+first_decide k m n [] (y ∷ b) p q = zeros_first k m n (y ∷ b) p q
+first_decide k m n (x ∷ a) [] p q =
+    ap (λ o. ordering_then o Greater) (nat_list_cmp_total.antisymm (take k (x ∷ a ++ replicate m 0)) (take k (replicate n 0)))
+    ∙ turned _ (zeros_first k n m (x ∷ a) q p)
+first_decide zero m n (x ∷ a) (y ∷ b) p q = refl
+first_decide (suc k) m n (x ∷ a) (y ∷ b) p q = one_deeper (nat_cmp x y) _ _ (first_decide k m n a b (omega arith) (omega arith))
+
+module _ (f g : ℕ) (a b : List ℕ) (small : f < 2 ^ 64) (little : g < 2 ^ 64) (of_a : IsFront f a) (of_b : IsFront g b) where
+  pub fronts_decide : ordering_then (nat_cmp f g) (slice_cmp nat_cmp a b) ≡ slice_cmp nat_cmp a b
+  fronts_decide =
+      ap (λ o. ordering_then o (slice_cmp nat_cmp a b)) (sym (cmp-number_bytes f g small little) ∙ (λ i. slice_cmp nat_cmp (of_a i) (of_b i)))
+      ∙ first_decide 8 8 8 a b (omega arith) (omega arith)
+
+  decided : (o p : Ordering) → ordering_then o p ≡ p → o ≢ Equal → o ≡ p
+  decided Less p e other = e
+  decided Equal p e other = absurd (other refl)
+  decided Greater p e other = e
+
+  -- fronts that differ say how the names compare
+  pub fronts_differ : nat_cmp f g ≢ Equal → nat_cmp f g ≡ slice_cmp nat_cmp a b
+  fronts_differ other = decided (nat_cmp f g) (slice_cmp nat_cmp a b) fronts_decide other
+
+padded : (k m : ℕ) (name : List ℕ) (within : ℕ) → within ≡ min (length name) k → k ≤ m → take within name ++ replicate (k - within) 0 ≡ take k (name ++ replicate m 0)
+padded k m [] zero is fits = sym (take-replicate k m 0 fits)
+padded k m [] (suc w) is fits = absurd (omega arith)
+padded zero m (x ∷ xs) zero is fits = refl
+padded zero m (x ∷ xs) (suc w) is fits = absurd (omega arith)
+padded (suc k) m (x ∷ xs) zero is fits = absurd (omega arith)
+padded (suc k) m (x ∷ xs) (suc w) is fits = ap (λ l. x ∷ l) (padded k m xs w (omega arith) (omega arith))
+
+-- bytes over the zeros of an array
+pub written_first : (name : List ℕ) (within : ℕ) → within ≡ min (length name) 8 → take within name ++ drop within (replicate 8 0) ≡ first_bytes name
+written_first name within is = ap (λ l. take within name ++ l) (drop-replicate within 8 0) ∙ padded 8 8 name within is (omega arith)
