@@ -1,11 +1,14 @@
 -- The numbers of the first bytes of names are in the order of the names.
-use Rattle.std.proofs.Common.{◌≡◌, ◌≢◌, ℕ, zero, suc, ◌-◌, ◌≤◌, ◌<◌, ◌^◌, min, List, [], ◌∷◌, ◌++◌, length, take, drop, replicate, refl, ap, sym, ◌∙◌, arith}
-use Rattle.std.proofs.lemmas.List.{drop-replicate, take-replicate}
+use Rattle.std.proofs.Common.{◌≡◌, ◌≢◌, ℕ, zero, suc, ◌-◌, ◌≤◌, ◌<◌, ◌^◌, min, List, [], ◌∷◌, ◌++◌, length, get_or, take, drop, replicate, refl, ap, sym, ◌∙◌, arith}
+use Rattle.std.proofs.lemmas.List.{drop-replicate, length-append, length-replicate, length-take, take-replicate}
+use Rattle.std.proofs.lemmas.Nat.{be_bytes_8}
 use Rattle.std.specs.Cmp.{tied_itself}
 use Rattle.std.specs.Cmp.Lexicographic.{slice_cmp, nat_list_cmp_total}
 use Rattle.std.specs.Ordering.{nat_cmp, ordering_reverse, ordering_then}
 use Rattle.std.specs.declared.cmp.Ordering.{Ordering}
 use Rattle.std.specs.declared.cmp.Ordering.TheVariants.{Less, Equal, Greater}
+use Rattle.std.specs.Int.{w64, from_be_bytes}
+use Rattle.dc_store.specs.Keys.{number_bytes}
 use Rattle.dc_store.specs.Fronts.{first_bytes, IsFront}
 use Rattle.dc_store.proofs.Keys.{cmp-number_bytes}
 
@@ -70,3 +73,21 @@ padded (suc k) m (x ∷ xs) (suc w) is fits = ap (λ l. x ∷ l) (padded k m xs 
 -- bytes over the zeros of an array
 pub written_first : (name : List ℕ) (within : ℕ) → within ≡ min (length name) 8 → take within name ++ drop within (replicate 8 0) ≡ first_bytes name
 written_first name within is = ap (λ l. take within name ++ l) (drop-replicate within 8 0) ∙ padded 8 8 name within is (omega arith)
+
+small : (k m : ℕ) (name : List ℕ) → ((i : ℕ) → get_or name i 0 < 256) → (i : ℕ) → get_or (take k (name ++ replicate m 0)) i 0 < 256
+small zero m name bytes i = omega arith
+small (suc k) zero [] bytes i = omega arith
+small (suc k) (suc m) [] bytes zero = omega arith
+small (suc k) (suc m) [] bytes (suc i) = small k m [] bytes i
+small (suc k) m (x ∷ xs) bytes zero = bytes zero
+small (suc k) m (x ∷ xs) bytes (suc i) = small k m xs (λ j. bytes (suc j)) i
+
+as_long : (k m : ℕ) (name : List ℕ) → k ≤ m → length (take k (name ++ replicate m 0)) ≡ k
+as_long k m [] fits = ap length (take-replicate k m 0 fits) ∙ length-replicate k 0
+as_long zero m (x ∷ xs) fits = refl
+as_long (suc k) m (x ∷ xs) fits = ap suc (as_long k m xs (omega arith))
+
+-- the number that the first bytes of a name spell
+pub front_is : (name : List ℕ) → ((i : ℕ) → get_or name i 0 < 256) → (n : ℕ) (bytes : List ℕ) → bytes ≡ first_bytes name → n ≡ from_be_bytes w64 bytes → IsFront n name
+unfolding number_bytes
+front_is name fit n bytes is spelled = be_bytes_8 (first_bytes name) n (as_long 8 8 name (omega arith)) (small 8 8 name fit) (spelled ∙ ap (from_be_bytes w64) is)

@@ -21,16 +21,17 @@ use Rattle.dc_store.proofs.KeepsMoved.{led_entry}
 use Rattle.dc_store.proofs.Standing.{found_has, held_above, one_spot, same_test}
 
 -- ---- in a directory's map
-pub leads : (es : List (List ℕ × ℕ)) (key : List ℕ) (m n : ℕ) → found_by key es ≡ Some m → m ≡ n → {name : List ℕ} → name ≡ key → lookup_entry name_cmp name es ≡ Some n
-leads es key m n there same named = sym (found _ es (sym named)) ∙ there ∙ ap Some same
+module _ (es : List (List ℕ × ℕ)) {names : List (List ℕ × ℕ)} (view : es ≡ names) where
+  pub leads : (key : List ℕ) (m n : ℕ) → found_by key es ≡ Some m → m ≡ n → {name : List ℕ} → name ≡ key → lookup_entry name_cmp name names ≡ Some n
+  leads key m n there same named = sym (found es view _ (sym named)) ∙ there ∙ ap Some same
 
-no_clash : (n : ℕ) → (n == n) ≡ false → ⊥
-no_clash n e = let clash : true ≡ false = sym (same_test n n refl) ∙ e in cc
+  no_clash : (n : ℕ) → (n == n) ≡ false → ⊥
+  no_clash n e = let clash : true ≡ false = sym (same_test n n refl) ∙ e in cc
 
-pub none_lead : (n : ℕ) (es : List (List ℕ × ℕ)) → All (λ e. (e.1 == n) ≡ false) es → (name : List ℕ) → lookup_entry name_cmp name es ≢ Some n
-none_lead n es all name e =
-    let there : found_by name es ≡ Some n = found name es refl ∙ e in
-    no_clash n (subst (λ (o : Option ℕ). IfSome o (λ (v : ℕ). (v == n) ≡ false)) there (All-lookup (λ (v : ℕ). (v == n) ≡ false) (is_at (name_cmp name)) es all))
+  pub none_lead : (n : ℕ) → All (λ e. (e.1 == n) ≡ false) es → (name : List ℕ) → lookup_entry name_cmp name names ≢ Some n
+  none_lead n all name e =
+      let there : found_by name es ≡ Some n = found es view name refl ∙ e in
+      no_clash n (subst (λ (o : Option ℕ). IfSome o (λ (v : ℕ). (v == n) ≡ false)) there (All-lookup (λ (v : ℕ). (v == n) ≡ false) (is_at (name_cmp name)) es all))
 
 -- ---- in the tree that the inodes stand for
 module _ {inodes : List (ℕ × Inode)} {next : ℕ} {t : Tree} (now : Keeps inodes next t) (d n : ℕ) where

@@ -13,8 +13,10 @@ kept_true true = refl
 kept_true false = refl
 
 -- a range that begins behind a name has what is behind it
-pub range_behind : (name : List ℕ) {key : List ℕ} → key ≡ name → (es : List (List ℕ × ℕ)) → filter (λ (e : List ℕ × ℕ). range_contains name_cmp (Excluded key) Unbounded e.0) es ≡ behind (Some name) es
-range_behind name key_is es = ap (λ (k : List ℕ). filter (λ (e : List ℕ × ℕ). range_contains name_cmp (Excluded k) Unbounded e.0) es) key_is ∙ ap (λ (p : List ℕ × ℕ → Bool). filter p es) (λ i e. kept_true (is_lt (name_cmp name e.0)) i)
+pub range_behind : (name : List ℕ) {key : List ℕ} → key ≡ name → (es : List (List ℕ × ℕ)) {names : List (List ℕ × ℕ)} → es ≡ names → filter (λ (e : List ℕ × ℕ). range_contains name_cmp (Excluded key) Unbounded e.0) es ≡ behind (Some name) names
+range_behind name key_is es view =
+    ap (λ (k : List ℕ). filter (λ (e : List ℕ × ℕ). range_contains name_cmp (Excluded k) Unbounded e.0) es) key_is
+    ∙ ap (λ (p : List ℕ × ℕ → Bool). filter p es) (λ i e. kept_true (is_lt (name_cmp name e.0)) i) ∙ ap (behind (Some name)) view
 
 take_none : (most : ℕ) → ◌≡◌ {A = List (List ℕ × ℕ)} [] (take most [])
 take_none zero = refl

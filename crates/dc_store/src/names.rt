@@ -3,6 +3,8 @@
 ghost use Rattle.std.specs.Prelude.{◌≡◌, ℕ, List, [], length, map, IsSome, IsTrue, IfOk, OnOk, OnErr, take, ◌≢◌, Some, IfSome, IfNone};
 ghost use Rattle.std.specs.FinMap.Entries.{put, is_sorted};
 ghost use Rattle.std.specs.FinMap.Entries.{find as lookup};
+ghost use Rattle.std.specs.List.Sorted.{IsStrictlySortedBy};
+ghost use Rattle.std.specs.Map.{keys_of};
 ghost use Rattle.dc_plain.specs.BytesShown.{names_shown};
 ghost use Rattle.dc_store.specs.Names.{name_cmp, without_name};
 ghost use Rattle.dc_store.specs.Pages.{behind, leads_shown, name_shown};
@@ -26,6 +28,8 @@ impl Model for Names {
     ghost Value = { List (List ℕ × ℕ) };
 
     ghost view = { λ names. names.by_name.entries };
+
+    ghost invariant = { λ names. IsStrictlySortedBy name_cmp (keys_of names.by_name.entries) };
 }
 
 impl Names {

@@ -1,5 +1,4 @@
-//! Pages of a directory, told by the cache. The order is that of FNV-1a, worked out apart from it: in
-//! directory 1 `d`, `e`, `a`, `b`, `c`.
+//! Pages of a directory, told by the cache in the order of the bytes of its names.
 
 ghost use Rattle.dc_cache.specs.Passes.{Fits};
 
@@ -37,26 +36,27 @@ type Row = (
 );
 
 /// After seven changes.
-static ROWS: [Row; 14] = [
+static ROWS: [Row; 15] = [
     // From the start, whole and cut, and through a link.
-    (1, b"/", b"", 9, ROOT_FOUND, &[D, A, B, C]),
-    (1, b".", b"", 2, ROOT_FOUND, &[D, A]),
+    (1, b"/", b"", 9, ROOT_FOUND, &[A, B, C, D]),
+    (1, b".", b"", 2, ROOT_FOUND, &[A, B]),
     (1, b"/c", b"", 2, Want::Found(2, Kind::Dir), &[X]),
-    // Behind a name that stands, and one that is gone.
+    // Behind a name that stands, one that never stood, and one that is gone.
     (1, b"/", b"a", 1, ROOT_FOUND, &[B]),
-    (1, b"/", b"e", 2, ROOT_FOUND, &[A, B]),
+    (1, b"/", b"aa", 2, ROOT_FOUND, &[B, C]),
+    (1, b"/", b"bb", 2, ROOT_FOUND, &[C, D]),
     // The last page, and what is behind it.
-    (1, b"/", b"b", 2, ROOT_FOUND, &[C]),
-    (1, b"/", b"c", 2, ROOT_FOUND, &[]),
+    (1, b"/", b"c", 2, ROOT_FOUND, &[D]),
+    (1, b"/", b"d", 2, ROOT_FOUND, &[]),
     // None is asked for.
     (1, b"/", b"", 0, ROOT_FOUND, &[]),
     // A file, a directory that is gone, as path and as base, and texts that are no paths.
     (1, b"/b", b"", 2, Want::Refused(20), &[]),
-    (1, b"/e", b"", 2, Want::Refused(2), &[]),
+    (1, b"/bb", b"", 2, Want::Refused(2), &[]),
     (5, b".", b"", 2, Want::Refused(2), &[]),
     (1, b"", b"", 2, Want::Refused(2), &[]),
     (1, b"/\0", b"", 2, Want::Refused(22), &[]),
-    (2, b"..", b"d", 1, ROOT_FOUND, &[A]),
+    (2, b"..", b"a", 1, ROOT_FOUND, &[B]),
 ];
 
 /// Whether these are the entries that were told.
@@ -97,14 +97,14 @@ fn is_right<R: Wait>(rt: &R, alloc: Global, cache: &Dcache, pass: &mut Pass, row
     }
 }
 
-/// What stands before pages are asked for: `e` came and went.
+/// What stands before pages are asked for: `bb` came and went.
 static STANDING: [Step<'static>; 7] = [
     Step::Change(Act::Mkdir(b"/a"), Want::Done(2), 0),
     Step::Change(Act::Create(b"/b"), Want::Done(3), 1),
     Step::Change(Act::Symlink(b"a", b"/c"), Want::Done(4), 2),
     Step::Change(Act::Link(b"/b", b"/d"), Want::Done(3), 3),
-    Step::Change(Act::Mkdir(b"/e"), Want::Done(5), 4),
-    Step::Change(Act::Rmdir(b"/e"), Want::Unit, 5),
+    Step::Change(Act::Mkdir(b"/bb"), Want::Done(5), 4),
+    Step::Change(Act::Rmdir(b"/bb"), Want::Unit, 5),
     Step::Change(Act::Create(b"/a/x"), Want::Done(6), 6),
 ];
 

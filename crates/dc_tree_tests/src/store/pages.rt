@@ -1,5 +1,4 @@
-//! Pages of a directory. The order is that of FNV-1a, worked out apart from the store: in directory 1 `d`,
-//! `e`, `a`, `b`, `c`, `gone`, in directory 2 `d`, `c`, `b`, `a`.
+//! Pages of a directory, in the order of the bytes of its names.
 use super::{Step, To, answers_again, new_slab};
 use dc_names::{Kind, Name, NoMemory};
 use dc_store::{Entry, SlabStore};
@@ -9,15 +8,18 @@ use std::test::Fail;
 const FILE: Option<Kind> = Some(Kind::File);
 
 /// What stands before pages are asked for: `gone` came and went.
-static STANDING: [Step; 9] = [
+static STANDING: [Step; 12] = [
     Step::Add(1, b"a", To::Dir, Some(2)),
     Step::Add(1, b"b", To::File, Some(3)),
     Step::Add(1, b"c", To::Link(b"a/b"), Some(4)),
     Step::Add(1, b"d", To::Same(3), Some(3)),
     Step::Add(1, b"gone", To::File, Some(5)),
     Step::Drop(1, b"gone", true),
-    Step::Add(2, b"a", To::File, Some(6)),
-    Step::Add(2, b"b", To::File, Some(7)),
+    Step::Add(2, b"directory_b", To::File, Some(6)),
+    Step::Add(2, b"directory_a", To::File, Some(7)),
+    Step::Add(2, b"director", To::File, Some(8)),
+    Step::Add(2, b"\xff", To::File, Some(9)),
+    Step::Add(2, b"directly", To::File, Some(10)),
     Step::Seen(3, FILE, None, 2),
 ];
 
@@ -32,26 +34,39 @@ const B: Wanted = (b"b", 3, Kind::File);
 
 const C: Wanted = (b"c", 4, Kind::Link);
 
+const LY: Wanted = (b"directly", 10, Kind::File);
+
+const OR: Wanted = (b"director", 8, Kind::File);
+
+const ORY_A: Wanted = (b"directory_a", 7, Kind::File);
+
+const ORY_B: Wanted = (b"directory_b", 6, Kind::File);
+
+const TOP: Wanted = (b"\xff", 9, Kind::File);
+
 /// A page: its directory, the name that it is behind, how many entries it has at most, and these.
 type Row = (u64, &'static [u8], usize, &'static [Wanted]);
 
-static ROWS: [Row; 12] = [
+static ROWS: [Row; 15] = [
     // From the start, whole and cut.
-    (1, b"", 9, &[D, A, B, C]),
-    (1, b"", 1, &[D]),
-    (1, b"", 4, &[D, A, B, C]),
+    (1, b"", 9, &[A, B, C, D]),
+    (1, b"", 1, &[A]),
+    (1, b"", 4, &[A, B, C, D]),
     // Behind a name that stands.
-    (1, b"d", 2, &[A, B]),
-    (1, b"b", 2, &[C]),
+    (1, b"a", 2, &[B, C]),
+    (1, b"c", 2, &[D]),
     // Behind names that don't.
-    (1, b"e", 1, &[A]),
+    (1, b"Z", 1, &[A]),
+    (1, b"aa", 1, &[B]),
     (1, b"gone", 2, &[]),
     // Behind the last.
-    (1, b"c", 2, &[]),
+    (1, b"d", 2, &[]),
     // None at all.
     (1, b"", 0, &[]),
-    // In another directory the same names are told in another order.
-    (2, b"d", 3, &[(b"b", 7, Kind::File), (b"a", 6, Kind::File)]),
+    // Names whose first eight bytes are the same, and a byte above all letters.
+    (2, b"", 9, &[LY, OR, ORY_A, ORY_B, TOP]),
+    (2, b"director", 2, &[ORY_A, ORY_B]),
+    (2, b"directory", 1, &[ORY_A]),
     // Of a file, and where nothing lives.
     (3, b"", 3, &[]),
     (5, b"", 3, &[]),
