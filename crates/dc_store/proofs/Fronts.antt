@@ -1,8 +1,8 @@
 -- The numbers of the first bytes of names are in the order of the names.
-use Rattle.std.proofs.Common.{◌≡◌, ◌≢◌, ℕ, zero, suc, ◌-◌, ◌≤◌, ◌<◌, ◌^◌, min, List, [], ◌∷◌, ◌++◌, length, get_or, take, drop, replicate, refl, ap, sym, ◌∙◌, arith}
+use Rattle.std.proofs.Common.{◌≡◌, ◌≢◌, ℕ, zero, suc, ◌+◌, ◌-◌, ◌≤◌, ◌<◌, ◌^◌, min, List, [], ◌∷◌, ◌++◌, length, get_or, take, drop, replicate, refl, ap, sym, ◌∙◌, arith}
 use Rattle.std.proofs.lemmas.List.{drop-replicate, length-append, length-replicate, length-take, take-replicate}
 use Rattle.std.proofs.lemmas.Nat.{be_bytes_8}
-use Rattle.std.specs.Cmp.{tied_itself}
+use Rattle.std.specs.Cmp.{nat_cmp_is, tied_itself}
 use Rattle.std.specs.Cmp.Lexicographic.{slice_cmp, nat_list_cmp_total}
 use Rattle.std.specs.Ordering.{nat_cmp, ordering_reverse, ordering_then}
 use Rattle.std.specs.declared.cmp.Ordering.{Ordering}
@@ -24,7 +24,8 @@ zeros_first k m n [] p q = ap (λ o. ordering_then o Less) (zeros_tie k m n p q)
 zeros_first zero m n (y ∷ b) p q = refl
 zeros_first (suc k) zero n (y ∷ b) p q = absurd (omega arith)
 zeros_first (suc k) (suc m) n (zero ∷ b) p q = zeros_first k m n b (omega arith) (omega arith)
-zeros_first (suc k) (suc m) n (suc y ∷ b) p q = refl
+zeros_first (suc k) (suc m) n (suc y ∷ b) p q =
+    ap (λ o. ordering_then (ordering_then o (slice_cmp nat_cmp (take k (replicate m 0)) (take k (b ++ replicate n 0)))) Less) (sym (nat_cmp_is 0 (suc y) Less (omega arith)))
 
 turned : (o : Ordering) → ordering_then o Less ≡ Less → ordering_then (ordering_reverse o) Greater ≡ Greater
 turned Less e = refl
@@ -62,17 +63,17 @@ module _ (f g : ℕ) (a b : List ℕ) (small : f < 2 ^ 64) (little : g < 2 ^ 64)
   pub fronts_differ : nat_cmp f g ≢ Equal → nat_cmp f g ≡ slice_cmp nat_cmp a b
   fronts_differ other = decided (nat_cmp f g) (slice_cmp nat_cmp a b) fronts_decide other
 
-padded : (k m : ℕ) (name : List ℕ) (within : ℕ) → within ≡ min (length name) k → k ≤ m → take within name ++ replicate (k - within) 0 ≡ take k (name ++ replicate m 0)
-padded k m [] zero is fits = sym (take-replicate k m 0 fits)
-padded k m [] (suc w) is fits = absurd (omega arith)
-padded zero m (x ∷ xs) zero is fits = refl
-padded zero m (x ∷ xs) (suc w) is fits = absurd (omega arith)
-padded (suc k) m (x ∷ xs) zero is fits = absurd (omega arith)
-padded (suc k) m (x ∷ xs) (suc w) is fits = ap (λ l. x ∷ l) (padded k m xs w (omega arith) (omega arith))
+padded : (k m : ℕ) (name : List ℕ) (within rest : ℕ) → within ≡ min (length name) k → within + rest ≡ k → k ≤ m → take within name ++ replicate rest 0 ≡ take k (name ++ replicate m 0)
+padded k m [] zero rest is whole fits = let same : rest ≡ k = omega arith in ap (λ j. replicate j 0) same ∙ sym (take-replicate k m 0 fits)
+padded k m [] (suc w) rest is whole fits = absurd (omega arith)
+padded zero m (x ∷ xs) zero rest is whole fits = let same : rest ≡ 0 = omega arith in ap (λ j. replicate j 0) same
+padded zero m (x ∷ xs) (suc w) rest is whole fits = absurd (omega arith)
+padded (suc k) m (x ∷ xs) zero rest is whole fits = absurd (omega arith)
+padded (suc k) m (x ∷ xs) (suc w) rest is whole fits = ap (λ l. x ∷ l) (padded k m xs w rest (omega arith) (omega arith) (omega arith))
 
 -- bytes over the zeros of an array
 pub written_first : (name : List ℕ) (within : ℕ) → within ≡ min (length name) 8 → take within name ++ drop within (replicate 8 0) ≡ first_bytes name
-written_first name within is = ap (λ l. take within name ++ l) (drop-replicate within 8 0) ∙ padded 8 8 name within is (omega arith)
+written_first name within is = ap (λ l. take within name ++ l) (drop-replicate within 8 0) ∙ padded 8 8 name within (8 - within) is (omega arith) (omega arith)
 
 small : (k m : ℕ) (name : List ℕ) → ((i : ℕ) → get_or name i 0 < 256) → (i : ℕ) → get_or (take k (name ++ replicate m 0)) i 0 < 256
 small zero m name bytes i = omega arith

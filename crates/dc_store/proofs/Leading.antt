@@ -39,8 +39,8 @@ module _ {inodes : List (ℕ × Inode)} {next : ℕ} {t : Tree} (now : Keeps ino
   leads_so inode is name = ap (option_and_then (λ (i : Inode). lookup_entry name_cmp name i.names)) is ∙ led_entry now d name
 
   pub some_leads : (inode : Inode) → Some inode ≡ inode_at inodes d → (r : Option (Bor (List ℕ))) → IfSome r (λ name. lookup_entry name_cmp name.now inode.names ≡ Some n) → IfSome r (λ name. entry_number t (spot_at d name.now) ≡ Some n)
-  some_leads inode is None found = tt
-  some_leads inode is (Some name) found = sym (leads_so inode is name.now) ∙ found
+  some_leads inode is None there = tt
+  some_leads inode is (Some name) there = sym (leads_so inode is name.now) ∙ there
 
   pub none_leads : (inode : Inode) → Some inode ≡ inode_at inodes d → (r : Option (Bor (List ℕ))) → IfNone r ((name : List ℕ) → lookup_entry name_cmp name inode.names ≢ Some n) → IfNone r ((name : List ℕ) → entry_number t (spot_at d name) ≢ Some n)
   none_leads inode is None none = λ name e. none name (leads_so inode is name ∙ e)

@@ -53,6 +53,13 @@ impl NameBytes {
     {
         self.bytes.as_slice()
     }
+
+    /// The first bytes as a number, as `front_of` makes it.
+    fn front(&self) -> u64
+        ensures { IsFront result self.now }
+    {
+        self.front
+    }
 }
 
 impl PartialEq for NameBytes {
@@ -89,7 +96,7 @@ impl Ord for NameBytes {
     ghost matches_eq = { texts_ties };
 
     fn cmp(&self, other: &NameBytes) -> Ordering {
-        compare(self.front, self.as_slice(), other)
+        compare(self.front(), self.as_slice(), other)
     }
 }
 
@@ -110,7 +117,7 @@ fn compare(front: u64, bytes: &[u8], key: &NameBytes) -> Ordering
     requires { IsFront front bytes.now }
     ensures { result ≡ slice_cmp nat_cmp bytes.now key.now }
 {
-    match front.cmp(&key.front) {
+    match front.cmp(&key.front()) {
         Ordering::Equal => bytes.cmp(key.as_slice()),
         other => other,
     }
