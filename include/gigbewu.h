@@ -296,8 +296,8 @@ int gb_try_path_of(struct gb_pass *pass, uint64_t number, char *path, size_t roo
  * stand there any more. Such a run tells each name that stands in the directory throughout once, whatever else comes
  * and goes meanwhile. Number and kind that are found are those of the directory. Takes the lock, and memory for the
  * entries, for no longer than the call.
- * Proved: the entries of one call are those of one moment, in the order of hashes, the first ones behind `after`, and
- * they are written one after the other from the first on. The rest of `entries` is as it was.
+ * Proved: the entries of one call are those of one moment, in the order of the bytes of their names, the first ones
+ * behind `after`, and they are written one after the other from the first on. The rest of `entries` is as it was.
  * Answers 0, a refusal (ENOTDIR), GB_BUSY, GB_NO_MEMORY, GB_BAD_PASS, GB_BAD_ARGUMENT if `room` is 0, or if `after` has
  * bytes that are no name: more than 255, a slash or a zero byte among them, a dot or two dots. */
 int gb_try_entries(struct gb_pass *pass, uint64_t base, const char *path, size_t len, const char *after,

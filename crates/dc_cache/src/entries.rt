@@ -61,12 +61,12 @@ fn page<'t, W: Wakes>(
 
 impl<W: Wakes> Cache<W> {
     /// Entries of the directory that a path leads to: those behind a name, or all, at most this many, each with
-    /// its number and kind, all of one moment. They come in the order of the hashes of the directory's number
-    /// and their names, of which only this is promised: a run of pages, each behind the last name of the one
-    /// before, tells each name that stands throughout once, whatever else comes and goes meanwhile. A page with
-    /// fewer than were asked for is the last. What is recorded is the look-up of the directory, with its
-    /// refusal if it leads to none. `NoMemory` if memory for the entries was refused; a refusal takes none.
-    /// `None` if another pass has the lock: then nothing at all has changed.
+    /// its number and kind, all of one moment. They come in the order of the bytes of their names. So a run of
+    /// pages, each behind the last name of the one before, tells each name that stands throughout once,
+    /// whatever else comes and goes meanwhile. A page with fewer than were asked for is the last. What is
+    /// recorded is the look-up of the directory, with its refusal if it leads to none. `NoMemory` if memory for
+    /// the entries was refused; a refusal takes none. `None` if another pass has the lock: then nothing at all
+    /// has changed.
     #[must_use]
     pub fn try_entries(
         &self,

@@ -11,8 +11,8 @@ use dc_store::{Entry, SlabStore};
 use std::alloc::Global;
 
 /// The entries of the directory that a look-up found: those behind a name, or all, at most this many, in the
-/// order of their hashes. None if the look-up was refused. `NoMemory` if memory for them was refused: never
-/// in the place of a refusal.
+/// order of the bytes of their names. None if the look-up was refused. `NoMemory` if memory for them was
+/// refused: never in the place of a refusal.
 pub fn page(
     alloc: Global,
     store: &SlabStore,
