@@ -1,6 +1,5 @@
 -- Which name leads to a number: in a directory's map, and in the tree that the inodes stand for.
-use Rattle.std.proofs.Common.{◌≡◌, ◌≢◌, ℕ, ◌==◌, List, Bor, Bool, true, false, Option, Some, None, is_some, option_map, option_and_then, IfSome, IfNone, IsTrue, refl, ap, sym, subst, ◌∙◌, arith}
-use Rattle.std.proofs.lemmas.Bool.Decides.{nat_tests}
+use Rattle.std.proofs.Common.{◌≡◌, ◌≢◌, ℕ, ◌==◌, List, Bor, Bool, true, false, Option, Some, None, option_map, option_and_then, IfSome, IfNone, IsTrue, refl, ap, sym, subst, ◌∙◌, arith}
 use Rattle.std.proofs.lemmas.Map.Entries.{All-lookup}
 use Rattle.std.specs.BTreeMap.{is_at}
 use Rattle.std.specs.FinMap.Entries.{find as lookup_entry}

@@ -1,4 +1,4 @@
-use Rattle.std.proofs.Common.{◌≡◌, ◌++◌, min, length, drop, replicate, ap, ◌∙◌, rules}
+use Rattle.std.proofs.Common.{◌++◌, drop, replicate, ap, ◌∙◌}
 use Rattle.dc_store.proofs.Fronts.{front_is, written_first}
 use Rattle.dc_store.proofs.name_bytes.front_of.Goals as goal
 
