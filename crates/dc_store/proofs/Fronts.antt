@@ -1,6 +1,6 @@
 -- The numbers of the first bytes of names are in the order of the names.
-use Rattle.std.proofs.Common.{◌≡◌, ◌≢◌, ℕ, zero, suc, ◌+◌, ◌-◌, ◌≤◌, ◌<◌, ◌^◌, min, List, [], ◌∷◌, ◌++◌, length, get_or, take, drop, replicate, refl, ap, sym, ◌∙◌, arith}
-use Rattle.std.proofs.lemmas.List.{drop-replicate, length-replicate, take-replicate}
+use Rattle.std.proofs.Common.{◌≡◌, ◌≢◌, ℕ, zero, suc, ◌+◌, ◌-◌, ◌≤◌, ◌<◌, ◌^◌, List, [], ◌∷◌, ◌++◌, length, get_or, take, drop, replicate, refl, ap, sym, ◌∙◌, arith}
+use Rattle.std.proofs.lemmas.List.{drop-replicate, length-replicate, take-append-le, take-replicate}
 use Rattle.std.proofs.lemmas.Nat.{be_bytes_8}
 use Rattle.std.specs.Cmp.{nat_cmp_is, tied_itself}
 use Rattle.std.specs.Cmp.Lexicographic.{slice_cmp, nat_list_cmp_total}
@@ -63,17 +63,17 @@ module _ (f g : ℕ) (a b : List ℕ) (small : f < 2 ^ 64) (little : g < 2 ^ 64)
   pub fronts_differ : nat_cmp f g ≢ Equal → nat_cmp f g ≡ slice_cmp nat_cmp a b
   fronts_differ other = decided (nat_cmp f g) (slice_cmp nat_cmp a b) fronts_decide other
 
-padded : (k m : ℕ) (name : List ℕ) (within rest : ℕ) → within ≡ min (length name) k → within + rest ≡ k → k ≤ m → take within name ++ replicate rest 0 ≡ take k (name ++ replicate m 0)
-padded k m [] zero rest is whole fits = let same : rest ≡ k = omega arith in ap (λ j. replicate j 0) same ∙ sym (take-replicate k m 0 fits)
-padded k m [] (suc w) rest is whole fits = absurd (omega arith)
-padded zero m (x ∷ xs) zero rest is whole fits = let same : rest ≡ 0 = omega arith in ap (λ j. replicate j 0) same
-padded zero m (x ∷ xs) (suc w) rest is whole fits = absurd (omega arith)
-padded (suc k) m (x ∷ xs) zero rest is whole fits = absurd (omega arith)
-padded (suc k) m (x ∷ xs) (suc w) rest is whole fits = ap (λ l. x ∷ l) (padded k m xs w rest (omega arith) (omega arith) (omega arith))
+padded : (k m : ℕ) (name : List ℕ) (rest : ℕ) → length name + rest ≡ k → k ≤ m → name ++ replicate rest 0 ≡ take k (name ++ replicate m 0)
+padded k m [] rest whole fits = let same : rest ≡ k = omega arith in ap (λ j. replicate j 0) same ∙ sym (take-replicate k m 0 fits)
+padded zero m (x ∷ xs) rest whole fits = absurd (omega arith)
+padded (suc k) m (x ∷ xs) rest whole fits = ap (λ l. x ∷ l) (padded k m xs rest (omega arith) (omega arith))
 
--- bytes over the zeros of an array
-pub written_first : (name : List ℕ) (within : ℕ) → within ≡ min (length name) 8 → take within name ++ drop within (replicate 8 0) ≡ first_bytes name
-written_first name within is = ap (λ l. take within name ++ l) (drop-replicate within 8 0) ∙ padded 8 8 name within (8 - within) is (omega arith) (omega arith)
+-- a short name over the zeros of an array
+pub part_first : (name : List ℕ) → length name < 8 → name ++ drop (length name) (replicate 8 0) ≡ first_bytes name
+part_first name short = ap (λ l. name ++ l) (drop-replicate (length name) 8 0) ∙ padded 8 8 name (8 - length name) (omega arith) (omega arith)
+
+pub whole_first : (name : List ℕ) → 8 ≤ length name → take 8 name ≡ first_bytes name
+whole_first name long = sym (take-append-le 8 name (replicate 8 0) long)
 
 small : (k m : ℕ) (name : List ℕ) → ((i : ℕ) → get_or name i 0 < 256) → (i : ℕ) → get_or (take k (name ++ replicate m 0)) i 0 < 256
 small zero m name bytes i = omega arith

@@ -106,8 +106,12 @@ fn front_of(name: &[u8]) -> u64
     ensures { IsFront result name.now }
 {
     let mut first = [0; FRONT];
-    let within = name.len().min(FRONT);
-    first[..within].copy_from_slice(&name[..within]);
+    if name.len() < FRONT {
+        first[..name.len()].copy_from_slice(name);
+    } else {
+        // As many bytes as a word has are copied at once.
+        first.copy_from_slice(&name[..FRONT]);
+    }
     u64::from_be_bytes(first)
 }
 
