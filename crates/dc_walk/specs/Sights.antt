@@ -1,5 +1,5 @@
 -- What a look at one row finds, and at the rows of a bucket.
-use Rattle.std.specs.Prelude.{◌≡◌, ℕ, ◌+◌, ◌<◌, ◌≤◌, [], ◌∷◌, ◌++◌, Option}
+use Rattle.std.specs.Prelude.{◌≡◌, Bool, false, ℕ, ◌+◌, ◌<◌, ◌≤◌, [], ◌∷◌, ◌++◌, Option}
 use Rattle.std.specs.List.{Contains}
 use Rattle.dc_plain.specs.Facts.{Key}
 use Rattle.dc_events.specs.Views.{View}
@@ -43,12 +43,13 @@ module _ (f : Rows) (key : Key) (g : Rows) where
   -- of a row that was read whole it is known that it tells of another key, or of none
   abbrev pub Saw : ℕ → rust_extent.Extent → ℕ → ℕ → rust_seen.Seen → Type 0
   Saw row extent earlier k sights.Odd = Fails (earlier + k) × Contains (now_in g).faults (Busy row)
-  Saw row extent earlier k sights.Other = Fails (earlier + k) × (extent ≡ extents.Whole → IsOther (now_in g) row key)
+  Saw row extent earlier k sights.Other = Fails (earlier + k) × IsOther (now_in g) row key
+  Saw row extent earlier k sights.Left = Fails (earlier + k) × (extent ≡ extents.Head)
   Saw row extent earlier k (sights.Tells at) = Answers row earlier at
 
--- if the rows were read whole, this is what was seen of them
-abbrev pub LookedWhole : View → ℕ → Key → rust_extent.Extent → ℕ → Option ℕ → Type 0
-LookedWhole v first key extent k odd = extent ≡ extents.Whole → Looked v first key odd k
+-- if no row was left after its head, this is what was seen of them
+abbrev pub LookedWhole : View → ℕ → Key → Bool → ℕ → Option ℕ → Type 0
+LookedWhole v first key left k odd = left ≡ false → Looked v first key odd k
 
 -- nothing new is used, and no more rows were looked at than two looks take
 pub record GivesUp (f g : Rows) : Type 0 where

@@ -9,6 +9,7 @@ ghost use Rattle.dc_walk.specs.Findings.{now_in, spent};
 ghost use Rattle.dc_walk.specs.Seeks.{key_in, LooksOn, MaySeek, Seeks};
 ghost use Rattle.dc_walk.specs.Sights.{AnswersIn, Fails, LookedWhole};
 ghost use Rattle.dc_walk.specs.Sources.{LiesIn};
+ghost use Rattle.dc_walk.specs.declared.probe.Extent.TheVariants.{Whole};
 ghost use Rattle.dc_names.specs.declared.limits.TheConstants.{BUCKET_ROWS};
 
 use crate::probe::Extent;
@@ -18,8 +19,17 @@ use crate::sought::Sought;
 use crate::source::Lane;
 use dc_plain::Key;
 
+/// What is known of rows that were looked at for a key, none of which tells of it.
+#[derive(Clone, Copy)]
+struct Untold {
+    /// The first of them that is odd.
+    odd: Option<u64>,
+    /// Whether one was left after its head: it tells nothing then of why there is no answer.
+    left: bool,
+}
+
 /// Looks at some rows up to the first that tells of a key, which is the last of the used ones then.
-/// Else it answers the first of them that is odd. `earlier` rows were looked at before for this key.
+/// `earlier` rows were looked at before for this key.
 #[inline(always)]
 fn ask_rows(
     rows: &mut Rows<'_>,
@@ -27,7 +37,7 @@ fn ask_rows(
     sought: &Sought<'_>,
     extent: Extent,
     earlier: u64,
-) -> Result<usize, Option<u64>>
+) -> Result<usize, Untold>
     requires may { MaySeek rows.old (key_in sought.now) earlier }
     requires lies { LiesIn (share rows.old.pass.now).rows lane }
     requires early { earlier < BUCKET_ROWS + 1 }
@@ -36,25 +46,28 @@ fn ask_rows(
     ensures tells { IfOk result (AnswersIn rows.old (key_in sought.now) rows.new lane earlier) }
     ensures fails { OnErr result (Fails rows.old (key_in sought.now) rows.new
         (earlier + lane.len)) }
-    ensures looked { IfErr result (LookedWhole (now_in rows.new) lane.first (key_in sought.now)
-        extent lane.len) }
+    ensures looked { IfErr result (λ untold. LookedWhole (now_in rows.new) lane.first
+        (key_in sought.now) untold.left lane.len untold.odd) }
+    ensures whole { IfErr result (λ untold. extent ≡ Whole → untold.left ≡ false) }
 {
     // For the proof: a table has fewer than 2^64 rows.
     let reader = rows.reader;
     let _rows = reader.rows();
     let mut odd = None;
+    let mut left = false;
     for k in 0..lane.len {
         match look_at(rows, lane.first + k, sought, extent, earlier, k) {
             Seen::Tells(at) => return Ok(at),
             Seen::Odd => odd = odd.or(Some(lane.first + k)),
             Seen::Other => {}
+            Seen::Left => left = true,
         }
     }
-    Err(odd)
+    Err(Untold { odd, left })
 }
 
-/// Looks at rows whole, since a row that was left after its head tells nothing of why there is no answer.
-/// If a row tells of the key after all, later keys are sought in whole rows at once.
+/// Looks at rows whole, for a look that left some after their heads. If a row tells of the key after all,
+/// later keys are sought in whole rows at once.
 // Kept out of line: few look-ups come to it. The key is copied for it, so that it stays in registers in
 // those that don't.
 #[inline(never)]
@@ -72,16 +85,19 @@ fn look_whole(
     ensures looked { IfErr result (λ odd.
         Looked (now_in rows.new) lane.first (key_in sought.entry) odd lane.len) }
 {
-    let found = ask_rows(rows, lane, &sought, Extent::Whole, earlier);
-    if found.is_ok() {
-        rows.slow = true;
+    match ask_rows(rows, lane, &sought, Extent::Whole, earlier) {
+        Ok(at) => {
+            rows.slow = true;
+            Ok(at)
+        }
+        Err(untold) => Err(untold.odd),
     }
-    found
 }
 
-/// Asks rows for a key: first those whose head and number are the key's, then each of them whole. A walk
-/// that found a key by the second look alone, as a change meanwhile wrote its row, makes no second look
-/// again: else it would load more than it may. One that needn't say why it gives up makes none at all.
+/// Asks rows for a key: first those whose head and number are the key's, then each of them whole, unless
+/// all were read so at once. A walk that found a key by the second look alone, as a change meanwhile wrote
+/// its row, makes no second look again: else it would load more than it may. One that needn't say why it
+/// gives up makes none at all.
 #[inline(always)]
 pub(crate) fn seek_row(
     rows: &mut Rows<'_>,
@@ -103,7 +119,7 @@ pub(crate) fn seek_row(
     }
     match ask_rows(rows, lane, &sought, Extent::Head, 0) {
         Ok(at) => Ok(at),
-        Err(odd) if rows.brief => Err(odd),
+        Err(untold) if rows.brief || !untold.left => Err(untold.odd),
         Err(_) => look_whole(rows, lane, sought, lane.len),
     }
 }

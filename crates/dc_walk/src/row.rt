@@ -25,8 +25,10 @@ use dc_table::{Pass, Reader};
 pub(crate) enum Seen {
     /// It is being changed.
     Odd,
-    /// It tells of another key, or of none; or its head says so.
+    /// It was read whole, and tells of another key, or of none.
     Other,
+    /// Its head or its number is not the key's, and no more of it was read.
+    Left,
     /// It tells of the key, and is the last of the used rows.
     Tells(usize),
 }
@@ -152,7 +154,7 @@ pub(crate) fn look_at(
     let place = rows.made;
     rows.made += 1;
     match extent {
-        Extent::Head if !may_tell(top, sought.key) => return Seen::Other,
+        Extent::Head if !may_tell(top, sought.key) => return Seen::Left,
         Extent::Head | Extent::Whole => {}
     }
     let noted = Noted { row, place, top };

@@ -1,13 +1,14 @@
-use Rattle.std.proofs.Common.{rules, arith, ◌≡◌, ◌+◌, ◌<◌, refl, sym, ◌∙◌, subst}
+use Rattle.std.proofs.Common.{rules, arith, ◌≡◌, true, false, ◌+◌, ◌<◌, refl, sym, ◌∙◌, subst}
 use Rattle.dc_table.specs.Passes.{share}
 use Rattle.dc_walk.specs.Causes.{Looked}
 use Rattle.dc_walk.specs.Findings.{IsFinding, now_in}
 use Rattle.dc_walk.specs.Seeks.{key_in}
 use Rattle.dc_walk.specs.Sights.{Fails, LookedWhole}
+use Rattle.dc_walk.specs.declared.probe.Extent.TheVariants.{Whole}
 use Rattle.dc_walk.proofs.Seats.{row_still}
 use Rattle.dc_walk.proofs.Sighted.{looks_again, looks_still, seek_still}
-use Rattle.dc_walk.proofs.Lookings.{looked_none, looked_other, looked_odd}
-use Rattle.dc_walk.proofs.bucket.ask_rows.Goals.{in-Odd, in-Other}
+use Rattle.dc_walk.proofs.Lookings.{looked_none, looked_other, looked_odd, not_whole}
+use Rattle.dc_walk.proofs.bucket.ask_rows.Goals.{in-Odd, in-Other, in-Left}
 use Rattle.dc_walk.proofs.bucket.ask_rows.Goals as goal
 
 pub loop-k-init : goal.loop-k-init
@@ -17,7 +18,8 @@ loop-k-init c = record {
   used = refl;
   spent = refl;
   finding = let none : c.args.earlier ≡ c.args.earlier + 0 = omega arith in subst (IsFinding c.args.rows.now) none c.requires.may.finding;
-  looked = λ whole. looked_none (now_in c.args.rows.now) c.args.lane.first (key_in c.args.sought.now);
+  looked = λ none. looked_none (now_in c.args.rows.now) c.args.lane.first (key_in c.args.sought.now);
+  whole = λ w. refl;
 }
 
 pub look_at-requires-clause-may : goal.look_at-requires-clause-may
@@ -35,11 +37,12 @@ pub loop-k-preserved : goal.loop-k-preserved
 loop-k-preserved c =
     let i = c.loop-k.invariant in let e = c.look_at.ensures in
     let key = key_in c.args.sought.now in
-    let now = now_in c.look_at.new.rows in
-    let more : Fails c.loop-k.rows key c.look_at.new.rows (c.args.earlier + (c.loop-k.k + 1)) × LookedWhole now c.args.lane.first key c.args.extent (c.loop-k.k + 1) c.match-look_at.odd
+    let now = now_in c.look_at.new.rows in let next = c.loop-k.k + 1 in let odd = c.match-look_at.odd in let left = c.match-look_at.left in
+    let more : Fails c.loop-k.rows key c.look_at.new.rows (c.args.earlier + next) × LookedWhole now c.args.lane.first key left next odd × (c.args.extent ≡ Whole → left ≡ false)
     = elim c.match-look_at.branch [
-      | in-Odd w ↦ let saw = w.in-Odd.ensures.saw in (saw.0, λ whole. subst (λ o. Looked now c.args.lane.first key o (c.loop-k.k + 1)) (sym (w.odd-is ∙ w.or-odd.ensures)) (looked_odd c.loop-k.odd (c.args.lane.first + c.loop-k.k) c.loop-k.k (i.looked whole) e.on.on saw.1))
-      | in-Other w ↦ let saw = w.in-Other.ensures.saw in (saw.0, λ whole. subst (λ o. Looked now c.args.lane.first key o (c.loop-k.k + 1)) (sym w.odd-is) (looked_other c.loop-k.odd c.loop-k.k (i.looked whole) e.on.on (saw.1 whole)))
+      | in-Odd w ↦ let saw = w.in-Odd.ensures.saw in (saw.0, λ none. subst (λ o. Looked now c.args.lane.first key o next) (sym (w.odd-is ∙ w.or-odd.ensures)) (looked_odd c.loop-k.odd (c.args.lane.first + c.loop-k.k) c.loop-k.k (i.looked (sym w.left-is ∙ none)) e.on.on saw.1), λ whole. w.left-is ∙ i.whole whole)
+      | in-Other w ↦ let saw = w.in-Other.ensures.saw in (saw.0, λ none. subst (λ o. Looked now c.args.lane.first key o next) (sym w.odd-is) (looked_other c.loop-k.odd c.loop-k.k (i.looked (sym w.left-is ∙ none)) e.on.on saw.1), λ whole. w.left-is ∙ i.whole whole)
+      | in-Left w ↦ let saw = w.in-Left.ensures.saw in (saw.0, λ none. absurd (let was : true ≡ false = sym w.left-is ∙ none in absurd cc), λ whole. absurd (not_whole saw.1 whole))
     ] in
     record {
       on = looks_again i.on e.on;
@@ -48,4 +51,5 @@ loop-k-preserved c =
       spent = more.0.spent ∙ i.spent;
       finding = more.0.finding;
       looked = more.1;
+      whole = more.2;
     }

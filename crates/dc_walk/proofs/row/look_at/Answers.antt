@@ -2,7 +2,7 @@ use Rattle.std.proofs.Common.{◌∷◌, [], get_or, drop, refl, subst, arith}
 use Rattle.dc_walk.specs.Filters.{MayHold}
 use Rattle.dc_walk.specs.Findings.{now_in}
 use Rattle.dc_walk.specs.Seeks.{key_in}
-use Rattle.dc_walk.proofs.Lookings.{looks_odd, looks_read, not_whole}
+use Rattle.dc_walk.proofs.Lookings.{looks_odd, looks_read}
 use Rattle.dc_walk.proofs.Probed.{rest_size}
 use Rattle.dc_walk.proofs.Seats.{stays_again, walker_still}
 use Rattle.dc_walk.proofs.Sighted.{failed_odd, failed_read, other_so, same_step, took}
@@ -30,7 +30,7 @@ returns-in-Head c = let top = c.in-Some.top in let out = c.in-Some.ensures.same 
   slow = refl;
   saw = (
     failed_read c.args.row (key_in c.args.sought.now) c.args.earlier c.args.before (same_step refl refl refl refl refl same) out refl c.requires.may.finding top.count (top.head ∷ top.number ∷ []) (omega arith) refl c.in-Some.ensures.read refl refl refl,
-    λ whole. absurd (not_whole c.in-Head.is whole),
+    c.in-Head.is,
   );
 }
 
@@ -41,7 +41,7 @@ returns-in-None c = let out = stays_again c.in-Some.ensures.same c.in-None.ensur
       slow = refl;
       saw = (
         failed_read c.args.row (key_in c.args.sought.now) c.args.earlier c.args.before (same_step refl refl refl refl refl same) out refl c.requires.may.finding (get_or words 0 0) (drop 1 words) (omega arith) refl whole.read taken.3 taken.4 refl,
-        λ all. other_so c.args.row words (key_in c.args.sought.now) whole taken.2,
+        other_so c.args.row words (key_in c.args.sought.now) whole taken.2,
       );
     }
 
