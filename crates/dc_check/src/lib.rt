@@ -9,8 +9,8 @@
 //! `check_phases` exactly of those that keep the phases too: the n-th of `phases` is the phase of the n-th
 //! stamp, and no call takes effect before one of an earlier phase. Any other verdict names a line:
 //! `BadReply` if the tree at its point gives another reply, which `reply_due` tells, `BadOrder` if its call
-//! can't stand at its point, `BadPhase` if it comes before one of an earlier phase. Which of several such
-//! lines is named isn't proved.
+//! can't stand at its point, `BadPhase` if it comes before one of an earlier phase. It is proved that there
+//! is such a verdict exactly if the stamps aren't legal, but neither its kind nor its line.
 //!
 //! Lines are counted from 1. In a verdict the n-th stamp is line n; in a `BadLine` the lines of the output
 //! go on behind those of the input.
