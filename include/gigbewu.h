@@ -271,10 +271,10 @@ int gb_readlink_fast(struct gb_pass *pass, uint64_t base, const char *path, size
 int gb_try_readlink(struct gb_pass *pass, uint64_t base, const char *path, size_t len, char *text, size_t room,
                     struct gb_found *found);
 
-/* The names in a directory, in no promised order, without dot and dot-dot. Writes whole names, each with a zero byte
- * behind it, up to the first that doesn't fit into `room`. `count` is how many bytes all of them take: if that is more
- * than `room`, ask again with more. Takes the lock, and all others wait until every name is read: of 300,000 names 0.2
- * seconds on a busy machine, of 11 million 18.
+/* The names in a directory, in the order of their bytes, without dot and dot-dot. Writes whole names, each with a zero
+ * byte behind it, up to the first that doesn't fit into `room`. `count` is how many bytes all of them take: if that is
+ * more than `room`, ask again with more. Takes the lock, and all others wait until every name is read: of 300,000 names
+ * 0.2 seconds on a busy machine, of 11 million 18.
  * Proved: the names are those of one moment, and so are the bytes that are written. The rest of `names` is as it was.
  * Answers 0, a refusal (ENOTDIR), GB_BUSY, GB_NO_MEMORY, GB_BAD_PASS. */
 int gb_try_list(struct gb_pass *pass, uint64_t base, const char *path, size_t len, char *names, size_t room,

@@ -52,12 +52,12 @@ static int ask(int waits, const char *path, size_t len, const char *after, size_
                  : gb_try_entries(&pass, GB_ROOT, path, len, after, after_len, page, room, &found);
 }
 
-/* The names are n00, n01, ..: directories, files and links in turn. */
+/* The names are n00, n01, ..: directories, files and links in turn. The last is made first. */
 static void make_names(void)
 {
     char path[] = "/d/n00";
     is("mkdir", "", gb_mkdir(&gate, &pass, GB_ROOT, "/d", 2, &found), 0);
-    for (int i = 0; i < NAMES; i++) {
+    for (int i = NAMES; i-- > 0;) {
         path[4] = (char)('0' + i / 10);
         path[5] = (char)('0' + i % 10);
         is("make", path, i % 3 == 0   ? gb_mkdir(&gate, &pass, GB_ROOT, path, 6, &found)
@@ -93,8 +93,11 @@ static void read_all(int waits, size_t room, int removes)
         is("entries", "number of the directory", (int64_t)found.number, 2);
         is("entries", "at most the room", found.count <= room, 1);
         is("entries", "behind them as it was", is_marked((size_t)found.count), 1);
-        for (uint64_t i = 0; i < found.count; i++)
+        for (uint64_t i = 0; i < found.count; i++) {
+            const char *before = i == 0 ? last.name : page[i - 1].name;
+            is("entries", "in the order of their bytes", memcmp(before, page[i].name, 3) < 0, 1);
             is_entry(&page[i]);
+        }
         if (found.count == 0)
             break;
         last = page[found.count - 1];

@@ -173,7 +173,8 @@ static int judge_resolved(int answer)
 static struct gb_found told;
 static struct gb_gone gone;
 static uint64_t emptied, trail[3];
-static char bytes[ROOM];
+static char bytes[GB_PATH_MOST];
+static struct gb_entry entry;
 
 static void mark(void)
 {
@@ -183,6 +184,7 @@ static void mark(void)
     gone = marked_gone;
     emptied = MARK;
     trail[0] = MARK;
+    entry.number = MARK;
     memset(bytes, '#', sizeof bytes);
 }
 
@@ -193,7 +195,7 @@ static int is_busy(int answer, uint32_t went)
     const struct gb_found none = {0, 0, 0, 0, 0};
     int right = answer == GB_BUSY && memcmp(&told, &none, sizeof told) == 0 && emptied == MARK;
     right = right && gone.number == went && gone.kind == went && gone.last == went;
-    right = right && memcmp(bytes, "########", ROOM) == 0;
+    right = right && memcmp(bytes, "########", ROOM) == 0 && entry.number == MARK;
     mark();
     return right;
 }
@@ -206,6 +208,8 @@ static int are_busy(void)
            is_busy(gb_try_stat(&other, GB_ROOT, "/a", 2, &told), MARK) &&
            is_busy(gb_try_readlink(&other, GB_ROOT, "/a", 2, bytes, ROOM, &told), MARK) &&
            is_busy(gb_try_list(&other, GB_ROOT, "/a", 2, bytes, ROOM, &told), MARK) &&
+           is_busy(gb_try_entries(&other, GB_ROOT, "/a", 2, "", 0, &entry, 1, &told), MARK) &&
+           is_busy(gb_try_path_of(&other, GB_ROOT, bytes, sizeof bytes, &told), MARK) &&
            is_busy(gb_try_mkdir(&other, GB_ROOT, "/m", 2, &told), MARK) &&
            is_busy(gb_try_create(&other, GB_ROOT, "/m", 2, &told), MARK) &&
            is_busy(gb_try_symlink(&other, GB_ROOT, "m", 1, "/m", 2, &told), MARK) &&

@@ -327,8 +327,8 @@ impl Pass {
         Ok(OsString::from_vec(path).into())
     }
 
-    /// The names in a directory at one moment, in no promised order, without dot and dot-dot, as bytes. All others wait
-    /// until every name is read: with ten million names for seconds.
+    /// The names in a directory at one moment, in the order of their bytes, without dot and dot-dot, as bytes. All others
+    /// wait until every name is read: with ten million names for seconds.
     ///
     /// ```
     /// # use gigbewu::{Cache, ROOT};

@@ -5,7 +5,7 @@ use std::iter::FusedIterator;
 use std::os::unix::ffi::OsStringExt;
 use std::slice;
 
-/// The names in a directory at one moment, in no promised order, in one piece of memory, as
+/// The names in a directory at one moment, in the order of their bytes, in one piece of memory, as
 /// [`Pass::list`](crate::Pass::list) answers them.
 ///
 /// ```
@@ -107,7 +107,7 @@ impl<'a> Iterator for Iter<'a> {
 
 impl FusedIterator for Iter<'_> {}
 
-/// The names in a directory at one moment, in no promised order and each owned, as
+/// The names in a directory at one moment, in the order of their bytes and each owned, as
 /// [`Pass::read_dir`](crate::Pass::read_dir) answers them. Changes that come later don't touch it.
 ///
 /// ```

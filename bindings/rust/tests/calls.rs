@@ -28,8 +28,7 @@ fn each_call() -> Result<(), Error> {
     assert_eq!(refused.errno(), Some(22));
     assert_eq!(pass.readlink(ROOT, "/d/f"), Err(refused));
     assert_eq!(pass.evictions()?, 0);
-    let mut names: Vec<_> = pass.read_dir(ROOT, "/")?.collect();
-    names.sort();
+    let names: Vec<_> = pass.read_dir(ROOT, "/")?.collect();
     assert_eq!(names, ["d", "h", "l"]);
     let gone = |number, kind, last| Some(Gone { number, kind, last });
     let file = gone(3, Kind::File, false);
@@ -52,22 +51,18 @@ fn long_lists() -> Result<(), Error> {
     let cache = Cache::new(1_024, 1_001)?;
     let mut pass = cache.pass()?;
     let made: Vec<_> = (0..1_000).map(|it| format!("name_{it:04}")).collect();
-    for name in &made {
+    for name in made.iter().rev() {
         pass.create(ROOT, name)?;
     }
     let names = pass.list(ROOT, "/")?;
-    let mut told: Vec<_> = names.iter().collect();
-    told.sort_unstable();
-    assert!(told.iter().copied().eq(made.iter().map(String::as_bytes)));
+    assert!(names.iter().eq(made.iter().map(String::as_bytes)));
     assert_eq!((names.at(), names.is_empty()), (1_000, false));
     let mut paged = Vec::new();
     for entry in pass.entries(ROOT, "/")? {
         paged.push(entry?.name.into_string().unwrap());
     }
-    paged.sort_unstable();
     assert_eq!(paged, made);
-    let mut owned: Vec<_> = pass.read_dir(ROOT, "/")?.collect();
-    owned.sort();
+    let owned: Vec<_> = pass.read_dir(ROOT, "/")?.collect();
     assert!(owned
         .iter()
         .eq(&made.iter().map(OsString::from).collect::<Vec<_>>()));
@@ -237,6 +232,25 @@ fn errors_of_the_standard_library() {
     }
     let refused = io::Error::from(Error::Refused { errno: 39, at: 0 });
     assert_eq!(refused.raw_os_error(), Some(39));
+}
+
+/// A file has no path, nor has what isn't there, nor a directory whose path would have 4,096 bytes.
+#[test]
+fn no_path() -> Result<(), Error> {
+    let mut pass = Cache::new(64, 100)?.pass()?;
+    let file = pass.create(ROOT, "/f")?.number;
+    let name = "n".repeat(255);
+    let mut above = ROOT;
+    for _ in 0..15 {
+        above = pass.mkdir(above, &name)?.number;
+    }
+    let longest = pass.mkdir(above, &name[1..])?.number;
+    let longer = pass.mkdir(above, &name)?.number;
+    assert_eq!(pass.path_of(longest)?.as_os_str().len(), 4_095);
+    for (number, errno) in [(file, 2), (longer + 1, 2), (0, 2), (longer, 36)] {
+        assert_eq!(pass.path_of(number).unwrap_err().errno(), Some(errno));
+    }
+    Ok(())
 }
 
 #[test]
