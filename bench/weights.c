@@ -1,6 +1,7 @@
 /* What the cache takes of memory and time, by the functions of gigbewu.h.
  *
- * usage: weights table BUCKETS | pass | files LENGTH COUNT | names LENGTH COUNT | rows COUNT | deep COUNT | shrink COUNT
+ * usage: weights table BUCKETS | pass | files LENGTH COUNT | names LENGTH COUNT | rows COUNT | deep COUNT | shrink COUNT |
+ *                page COUNT
  *
  * It prints two numbers. Of a table: the bytes of a cache of this many buckets, and the nanoseconds of making and
  * closing it. Of a pass: the bytes of one more, and the nanoseconds of splitting and closing it. Of files: the bytes of
@@ -8,7 +9,8 @@
  * names of LENGTH bytes of 20 files, and the nanoseconds of a link. Of rows: the bytes that a row takes more once it is
  * filled, and the nanoseconds of the look-up that fills it. Of deep: the nanoseconds of a rename of a directory into one
  * below COUNT others, and of one that is refused since it is beneath itself. Of shrink: how many rows were emptied under
- * one hold, and the nanoseconds of that.
+ * one hold, and the nanoseconds of that. Of page: the nanoseconds of a page of 128 entries from somewhere in a directory
+ * of COUNT files, the median and the 99th in a hundred.
  */
 #include <errno.h>
 #include <gigbewu.h>
@@ -18,7 +20,7 @@
 #include <string.h>
 #include <time.h>
 
-enum { BUCKETS = 1024, MOST_INODES = 1 << 20, FILES = 20, PASSES = 100, LONGEST = 255 };
+enum { BUCKETS = 1024, MOST_INODES = 1 << 20, FILES = 20, PASSES = 100, LONGEST = 255, PAGE = 128, PAGES = 2000 };
 
 static struct gb_gate gate;
 static struct gb_pass pass;
@@ -85,14 +87,19 @@ static const char *name_of(long number, int length)
     return path;
 }
 
-static void files(int length, long count)
+static void make_files(int length, long count)
 {
-    begin(BUCKETS, MOST_INODES);
-    long long before = bytes(), started = now();
     for (long i = 0; i < count; i++) {
         const char *path = name_of(i, length);
         must(gb_create(&gate, &pass, GB_ROOT, path, strlen(path), &found) == 0, "gb_create");
     }
+}
+
+static void files(int length, long count)
+{
+    begin(BUCKETS, MOST_INODES);
+    long long before = bytes(), started = now();
+    make_files(length, count);
     printf("%lld %lld\n", (bytes() - before) / count, (now() - started) / count);
 }
 
@@ -159,6 +166,30 @@ static void shrink(long count)
     printf("%llu %lld\n", (unsigned long long)emptied, now() - started);
 }
 
+static int is_longer(const void *one, const void *other)
+{
+    long long a = *(const long long *)one, b = *(const long long *)other;
+    return (a > b) - (a < b);
+}
+
+/* The pages begin behind names all over the directory, none near its end. */
+static void pages(long count)
+{
+    static struct gb_entry page[PAGE];
+    static long long took[PAGES];
+    begin(BUCKETS, MOST_INODES);
+    make_files(16, count);
+    for (long i = 0; i < PAGES; i++) {
+        const char *after = name_of(i * 7919 % (count - PAGE), 16) + 1;
+        long long started = now();
+        must(gb_try_entries(&pass, GB_ROOT, "/", 1, after, 16, page, PAGE, &found) == 0, "gb_try_entries");
+        took[i] = now() - started;
+        must(found.count == PAGE, "a page");
+    }
+    qsort(took, PAGES, sizeof *took, is_longer);
+    printf("%lld %lld\n", took[PAGES / 2], took[PAGES * 99 / 100]);
+}
+
 int main(int count, char **words)
 {
     const char *what = count > 1 ? words[1] : "";
@@ -178,6 +209,8 @@ int main(int count, char **words)
         deep(first);
     else if (!strcmp(what, "shrink"))
         shrink(first);
+    else if (!strcmp(what, "page") && first > PAGE)
+        pages(first);
     else
         must(0, "its usage");
     return 0;
