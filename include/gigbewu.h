@@ -159,8 +159,9 @@ struct gb_gone {
  * with twice as many rows as such names 4 look-ups in 100 miss, with four times as many 4 in 1,000. A row weighs 380
  * bytes, and 64 more once it is filled; if its name has 32 bytes or more, also these and some 45 besides. Rows take
  * their memory here, and 288 bytes more each until the call returns: 4,194,304 buckets take 6.4 GB, and 11.2 meanwhile.
- * In the tree a name weighs some 70 bytes, and one of more than 16 bytes some 90 besides its own; an inode takes memory
- * when it is made. There may be twice as many names as inodes, in all directories together.
+ * In the tree a name weighs some 70 bytes, and one of more than 16 bytes some 90 besides its own, and each some 35 more
+ * if names are made in rising order; an inode takes memory when it is made. There may be twice as many names as inodes,
+ * in all directories together.
  * The pass must be blank, and no other thread may have its address yet.
  * Proved: the cache is of these sizes, and `blank` is its first pass then.
  * Answers 0, GB_NO_MEMORY, GB_BAD_PASS if the pass is open, GB_BAD_SIZE exactly if the sizes are others. */
