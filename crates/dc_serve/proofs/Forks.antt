@@ -1,5 +1,5 @@
 -- The pass of a phase takes in the passes of its sessions, one after the other.
-use Rattle.std.proofs.Common.{◌≡◌, ℕ, suc, ◌+◌, ◌<◌, ◌≤◌, max, List, [], ◌∷◌, ◌++◌, length, refl, ap, ap₂, sym, ◌∙◌, subst, arith, le_refl, append_assoc, add-one}
+use Rattle.std.proofs.Common.{◌≡◌, ℕ, zero, suc, ◌+◌, ◌-◌, ◌<◌, ◌≤◌, max, List, [], ◌∷◌, ◌++◌, length, refl, ap, ap₂, sym, ◌∙◌, subst, arith, le_refl, append_assoc, add-one}
 use mathlib.Core.Logic.{dite}
 use native.Mathlib.Decide.{ℕ_discrete}
 use Rattle.std.proofs.lemmas.List.{append-nil, length-append}
@@ -19,6 +19,10 @@ use Rattle.dc_serve.proofs.Strands.{orders-append, text-append}
 allrise-append : (p : ℕ) (xs ys : List (List Record)) → AllRise p xs → AllRise p ys → AllRise p (xs ++ ys)
 allrise-append p [] ys a b = b
 allrise-append p (x ∷ xs) ys a b = (a.0, allrise-append p xs ys a.1 b)
+
+-- nobody was served
+pub took_nobody : (a : Book) (most : ℕ) → TookInSome most a a
+took_nobody a most = ([], record { own = refl; joined = sym (append-nil a.joined); rise = tt; seen = le_refl a.seen }, omega arith)
 
 took_weaker : (a b : Book) (j k : ℕ) → j ≤ k → TookInSome j a b → TookInSome k a b
 took_weaker a b j k le t = (t.0, t.1, (let x = t.2 in omega arith))
@@ -152,7 +156,17 @@ took_next v a u b c w session count orders up fork others one =
     took_weaker v.view.book w.view.book (length (of_sessions session orders) + length (of_session session orders)) (length (of_sessions count orders)) (omega arith)
     (took_more v a u b c w (length (of_sessions session orders)) (length (of_session session orders)) fork others one)
 
-pub took_past : (a b : Book) (session count : ℕ) (orders : List Order) → session + 1 ≡ count → TookInSome (length (of_sessions session orders)) a b → TookInSome (length (of_sessions count orders)) a b
-took_past a b session count orders up t =
-    let sum = sessions_count session count orders up in
-    took_weaker a b (length (of_sessions session orders)) (length (of_sessions count orders)) (omega arith) t
+took_over : (a b : Book) (low more : ℕ) (orders : List Order) → TookInSome (length (of_sessions low orders)) a b → TookInSome (length (of_sessions (low + more) orders)) a b
+took_over a b low zero orders t =
+    let same : low ≡ low + zero = omega arith in
+    subst (λ (n : ℕ). TookInSome (length (of_sessions n orders)) a b) same t
+took_over a b low (suc more) orders t =
+    let up : (low + more) + 1 ≡ low + suc more = omega arith in
+    let sum = sessions_count (low + more) (low + suc more) orders up in
+    took_weaker a b (length (of_sessions (low + more) orders)) (length (of_sessions (low + suc more) orders)) (omega arith) (took_over a b low more orders t)
+
+-- as many as the sessions below one have orders are no more than those below a higher one have
+pub took_up : (a b : Book) (low count : ℕ) (orders : List Order) → low ≤ count → TookInSome (length (of_sessions low orders)) a b → TookInSome (length (of_sessions count orders)) a b
+took_up a b low count orders le t =
+    let up : low + (count - low) ≡ count = omega arith in
+    subst (λ (n : ℕ). TookInSome (length (of_sessions n orders)) a b) up (took_over a b low (count - low) orders t)

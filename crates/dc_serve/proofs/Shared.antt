@@ -1,5 +1,5 @@
 -- A share that was cut and put together again is as much as before.
-use Rattle.std.proofs.Common.{◌≡◌, ℕ, ◌+◌, ◌-◌, ◌*◌, ◌^◌, max, ap, ap₂, sym, subst, ◌∙◌, Result, Ok, Err, IfOk, IfErr, arith, pow-add, pow-suc, add-one}
+use Rattle.std.proofs.Common.{◌≡◌, ℕ, ◌+◌, ◌-◌, ◌*◌, ◌^◌, max, refl, ap, ap₂, sym, subst, ◌∙◌, Result, Ok, Err, IfOk, IfErr, arith, pow-add, pow-suc, add-one}
 use Rattle.std.proofs.Math.Nat.{max-eq_left}
 use Rattle.std.specs.declared.thread.PromisedHandle.{PromisedHandle}
 use Rattle.dc_cache.specs.declared.cache.Pass.{Pass}
@@ -46,6 +46,15 @@ same_fork v a u b c w k others one =
       parts = ap (λ (s : Share). s.parts) put ∙ sums.0;
       halvings = ap (λ (s : Share). s.halvings) put ∙ sums.1;
     }
+
+pub same_still : (s : Share) → SameShare s s
+same_still s = record { limit = refl; more = 0; parts = once s.parts; halvings = none s.halvings }
+  where
+    once : (n : ℕ) → n ≡ n * 2 ^ 0
+    once n = omega arith
+
+    none : (n : ℕ) → n ≡ n + 0
+    none n = omega arith
 
 -- a whole share stays whole
 pub whole_same : (s t : Share) → IsWhole s → SameShare s t → IsWhole t

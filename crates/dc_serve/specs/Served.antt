@@ -1,16 +1,17 @@
 -- What was answered and written, said of the passes, lines and replies of the program.
-use Rattle.std.specs.Prelude.{◌≡◌, ◌⊎◌, ℕ, List, [], Option, Result, Ok, Err, IfOk, IfErr, IsErrOf, IsOkAnd}
+use Rattle.std.specs.Prelude.{◌≡◌, ◌⊎◌, ◌+◌, ◌≤◌, ◌<◌, ℕ, List, [], length, Option, Result, Ok, Err, IfOk, IfErr, IsErrOf, IsOkAnd}
 use Rattle.std.specs.Borrow.{Bor}
 use Rattle.std.specs.Io.KnownBytes.{Appends}
 use Rattle.std.specs.declared.thread.PromisedHandle.{PromisedHandle}
 use Rattle.dc_cache.specs.Passes.{known, share, Fits}
 use Rattle.dc_cache.specs.declared.cache.Pass.{Pass}
 use Rattle.dc_lang.specs.Commands.{Order, said_by}
-use Rattle.dc_lang.specs.Phases.{all_ordered, ordered, phases}
+use Rattle.dc_lang.specs.Phases.{all_ordered, of_sessions, ordered, ordered_by, phases}
 use Rattle.dc_lang.specs.declared.line.Line.{Line}
+use Rattle.dc_serve.specs.Bytes.{IsServiceFault}
 use Rattle.dc_serve.specs.Endings.{Serves, ServesFront}
 use Rattle.dc_serve.specs.Rounds.{StopsBy, Wrote}
-use Rattle.dc_serve.specs.Sessions.{Obeyed, ObeyedBelow, progress}
+use Rattle.dc_serve.specs.Sessions.{Obeyed, ObeyedBelow, SameShare, TookInSome, progress}
 use Rattle.dc_serve.specs.Threads.{Adds, Dcache, Returns, book, outcome_of, progress_of}
 use Rattle.dc_table.specs.Shares.{both}
 use Rattle.dc_serve.specs.declared.fault.ServeFault.{ServeFault}
@@ -51,6 +52,29 @@ pub record EndsSession (cache : Dcache) (started : Result (PromisedHandle (Pass 
   pub back : Pass × Result SessionReplies ServeFault
   pub gives : Gives started back
   pub takes : TakesIn cache p others session back q result
+
+-- no session from one up to another, which isn't among them, has a line
+abbrev pub NoLines : (low count : ℕ) → List Line → Type 0
+NoLines low count lines = (session : ℕ) → low ≤ session → session < count → ordered_by session lines ≡ []
+
+-- the session is the highest below a number that has a line
+pub record IsHighest (count : ℕ) (lines : List Line) (session : ℕ) : Type 0 where
+  pub below : session < count
+  pub some : 0 < length (ordered_by session lines)
+  pub none : NoLines (session + 1) count lines
+
+-- the session is the lowest that has a line
+pub record IsLowest (session : ℕ) (lines : List Line) : Type 0 where
+  pub some : 0 < length (ordered_by session lines)
+  pub none : NoLines 0 session lines
+
+-- a session and those below it were served, and a pass took in what they gave back
+pub record ServesDownFrom (cache : Dcache) (session : ℕ) (lines : List Line) (bases : List ℕ) (p q : Pass) (result : Result PhaseReplies ServeFault) : Type 0 where
+  pub fits : Fits cache q
+  pub same_share : SameShare (share p) (share q)
+  pub took_in : TookInSome (length (of_sessions (session + 1) (ordered lines))) (book p) (book q)
+  pub ok : IfOk result (ObeysBelow (session + 1) lines bases p q)
+  pub err : IfErr result (IsServiceFault (book q).seen)
 
 -- with the first pass of a cache these phases were served, and the replies to them written
 abbrev pub WroteAll : (p : Pass) → List (Bor (List Line)) → (old new : Option (List ℕ)) (q : Pass) → Type 0

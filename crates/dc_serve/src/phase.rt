@@ -1,13 +1,14 @@
-//! How a phase is served: each session that has lines in a thread of its own, with a pass of its own.
+//! How a phase is served: each session that has lines in a thread of its own, with a pass of its own. The
+//! thread that serves the phase is that of the lowest session.
 
-ghost use Rattle.std.specs.Prelude.{◌≡◌, ◌≤◌, ◌<◌, ◌⊎◌, true, false, [], length, Result, IfOk, IfErr, IsErrOf};
+ghost use Rattle.std.specs.Prelude.{◌≡◌, ◌<◌, ◌⊎◌, true, false, [], length, None, Result, IfOk, IfErr, IfSome, IsErrOf};
 ghost use Rattle.std.specs.Thread.{IsSync};
 ghost use Rattle.dc_cache.specs.Passes.{share, Fits};
 ghost use Rattle.dc_cache.specs.declared.cache.Pass.{Pass};
 ghost use Rattle.dc_lang.specs.Commands.{meaning_of};
 ghost use Rattle.dc_serve.specs.Bytes.{IsServiceFault};
-ghost use Rattle.dc_lang.specs.Phases.{by_session, of_sessions, ordered, ordered_by};
-ghost use Rattle.dc_serve.specs.Served.{AddsBoth, EndsSession, Gives, ObeysBelow, TakesIn};
+ghost use Rattle.dc_lang.specs.Phases.{by_session, ordered, ordered_by};
+ghost use Rattle.dc_serve.specs.Served.{AddsBoth, EndsSession, Gives, IsHighest, IsLowest, NoLines, ObeysBelow, ServesDownFrom, TakesIn};
 ghost use Rattle.dc_serve.specs.Sessions.{SameShare, TookInSome};
 ghost use Rattle.dc_serve.specs.Threads.{GaveBack, Returns, book, is_order_of};
 ghost use Rattle.dc_serve.specs.declared.fault.ServeFault.{ServeFault};
@@ -177,32 +178,66 @@ fn start<'s, E, R: Wait + Sync, G: Gate>(
     }
 }
 
-/// Serves the sessions below `count` that have lines, each in a thread of its own with a pass of its
-/// own, and takes these passes in. A session stops at its first fault; the others run to their ends.
-fn serve_sessions<'s, E, R: Threads + Wait + Sync, G: Gate>(
+/// The highest session below `count` that has a line.
+fn highest(count: u64, lines: &[Line]) -> Option<u64>
+    ensures none { result ≡ None → NoLines 0 count lines.now }
+    ensures some { IfSome result (IsHighest count lines.now) }
+{
+    if count == 0 {
+        return None;
+    }
+    let session = count - 1;
+    if has_lines(session, lines) {
+        return Some(session);
+    }
+    highest(session, lines)
+}
+
+/// Serves the lowest session that has lines, on this thread, with a pass of its own that is taken in. If
+/// others have lines, their threads run meanwhile.
+fn serve_here<R: Wait, G: Gate>(
+    rt: &R,
+    phase: &Phase<'_, G>,
+    pass: &mut Pass,
+    session: u64,
+    bases: [u64; SESSION_COUNT],
+) -> Result<PhaseReplies, ServeFault>
+    requires pass { Fits phase.now.cache.now pass.old }
+    requires session { session < SESSIONS }
+    requires lowest { IsLowest session phase.now.lines.now }
+    ensures { ServesDownFrom phase.now.cache.now session phase.now.lines.now bases
+        pass.old pass.new result }
+{
+    let mut child = phase.cache.split(pass);
+    let told = phase.serve_lines(rt, &mut child, session, bases[session as usize]);
+    phase.cache.join(pass, child);
+    let nobody = PhaseReplies {
+        texts: Vec::new(phase.alloc),
+        bases,
+    };
+    with_session(Ok(nobody), session, told)
+}
+
+/// Serves a session that has lines and those below it that have some, each in a thread of its own with a
+/// pass of its own, and takes these passes in. This thread serves the lowest, as it would wait for it
+/// otherwise. A session stops at its first fault; the others run to their ends.
+fn serve_down_from<'s, E, R: Threads + Wait + Sync, G: Gate>(
     rt: &'s R,
     scope: &'s Scope<'s, E>,
     phase: &Phase<'s, G>,
     pass: &mut Pass,
-    count: u64,
+    session: u64,
     bases: [u64; SESSION_COUNT],
 ) -> Result<PhaseReplies, ServeFault>
     requires pass { Fits phase.now.cache.now pass.old }
-    requires count { count ≤ SESSIONS }
-    ensures pass { Fits phase.now.cache.now pass.new × SameShare (share pass.old) (share pass.new) }
-    ensures took_in { TookInSome (length (of_sessions count (ordered phase.now.lines.now)))
-        (book pass.old) (book pass.new) }
-    ensures ok { IfOk result (ObeysBelow count phase.now.lines.now bases pass.old pass.new) }
-    ensures err { IfErr result (IsServiceFault (book pass.new).seen) }
+    requires session { session < SESSIONS }
+    requires some { 0 < length (ordered_by session phase.now.lines.now) }
+    ensures { ServesDownFrom phase.now.cache.now session phase.now.lines.now bases
+        pass.old pass.new result }
 {
-    if count == 0 {
-        let texts = Vec::new(phase.alloc);
-        return Ok(PhaseReplies { texts, bases });
-    }
-    let session = count - 1;
-    if !has_lines(session, phase.lines) {
-        return serve_sessions(rt, scope, phase, pass, session, bases);
-    }
+    let Some(below) = highest(session, phase.lines) else {
+        return serve_here(rt, phase, pass, session, bases);
+    };
     let child = phase.cache.split(pass);
     let handed = Handed {
         cache: phase.cache,
@@ -212,23 +247,23 @@ fn serve_sessions<'s, E, R: Threads + Wait + Sync, G: Gate>(
         lines: phase.lines,
     };
     let started = start(rt, scope, phase, handed, child);
-    let others = serve_sessions(rt, scope, phase, pass, session, bases);
+    let others = serve_down_from(rt, scope, phase, pass, below, bases);
     end(rt, phase.cache, pass, others, session, started)
 }
 
-/// Serves a phase: each session that has lines in a thread of its own.
-pub fn serve_phase<R: Threads + Wait + Sync, G: Gate>(
+/// Serves several sessions, of which this one is the highest.
+fn serve_beside<R: Threads + Wait + Sync, G: Gate>(
     rt: &R,
     phase: &Phase<'_, G>,
     pass: Pass,
+    top: u64,
     bases: [u64; SESSION_COUNT],
 ) -> (Pass, Result<PhaseReplies, ServeFault>)
-    requires { Fits phase.now.cache.now pass }
-    ensures pass { Fits phase.now.cache.now result.0 × SameShare (share pass) (share result.0) }
-    ensures took_in { TookInSome (length (by_session (ordered phase.now.lines.now)))
-        (book pass) (book result.0) }
-    ensures ok { IfOk result.1 (ObeysBelow SESSIONS phase.now.lines.now bases pass result.0) }
-    ensures err { IfErr result.1 (IsServiceFault (book result.0).seen) }
+    requires pass { Fits phase.now.cache.now pass }
+    requires session { top < SESSIONS }
+    requires some { 0 < length (ordered_by top phase.now.lines.now) }
+    ensures { ServesDownFrom phase.now.cache.now top phase.now.lines.now bases
+        pass result.0 result.1 }
 {
     let (cache, lines, gate) = (phase.cache, phase.lines, phase.gate);
     let (alloc, first, refused) = (phase.alloc, phase.first, phase.refused);
@@ -236,12 +271,10 @@ pub fn serve_phase<R: Threads + Wait + Sync, G: Gate>(
         thread::scope_env(),
         rt,
         move |scope| -> (Pass, Result<PhaseReplies, ServeFault>)
-            requires { IsSync R.row × IsSync G.row × Fits cache.now pass }
-            ensures pass { Fits cache.entry.now result.0 × SameShare (share pass) (share result.0) }
-            ensures took_in { TookInSome (length (by_session (ordered lines.entry.now)))
-                (book pass) (book result.0) }
-            ensures ok { IfOk result.1 (ObeysBelow SESSIONS lines.entry.now bases pass result.0) }
-            ensures err { IfErr result.1 (IsServiceFault (book result.0).seen) }
+            requires pass { IsSync R.row × IsSync G.row × Fits cache.now pass }
+            requires some { 0 < length (ordered_by top lines.now) × (top < SESSIONS) }
+            ensures { ServesDownFrom cache.entry.now top lines.entry.now bases
+                pass result.0 result.1 }
         {
             let phase = Phase {
                 cache,
@@ -252,8 +285,34 @@ pub fn serve_phase<R: Threads + Wait + Sync, G: Gate>(
                 refused,
             };
             let mut pass = pass;
-            let replies = serve_sessions(rt, scope, &phase, &mut pass, SESSIONS, bases);
+            let replies = serve_down_from(rt, scope, &phase, &mut pass, top, bases);
             (pass, replies)
         },
     )
+}
+
+/// Serves a phase: each session that has lines in a thread of its own, of which this one is the lowest's.
+/// So a phase of one session, of which an input may have a hundred thousand, starts none.
+pub fn serve_phase<R: Threads + Wait + Sync, G: Gate>(
+    rt: &R,
+    phase: &Phase<'_, G>,
+    mut pass: Pass,
+    bases: [u64; SESSION_COUNT],
+) -> (Pass, Result<PhaseReplies, ServeFault>)
+    requires { Fits phase.now.cache.now pass }
+    ensures pass { Fits phase.now.cache.now result.0 × SameShare (share pass) (share result.0) }
+    ensures took_in { TookInSome (length (by_session (ordered phase.now.lines.now)))
+        (book pass) (book result.0) }
+    ensures ok { IfOk result.1 (ObeysBelow SESSIONS phase.now.lines.now bases pass result.0) }
+    ensures err { IfErr result.1 (IsServiceFault (book result.0).seen) }
+{
+    let Some(top) = highest(SESSIONS, phase.lines) else {
+        let texts = Vec::new(phase.alloc);
+        return (pass, Ok(PhaseReplies { texts, bases }));
+    };
+    if highest(top, phase.lines).is_none() {
+        let replies = serve_here(rt, phase, &mut pass, top, bases);
+        return (pass, replies);
+    }
+    serve_beside(rt, phase, pass, top, bases)
 }

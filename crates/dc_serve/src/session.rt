@@ -92,7 +92,7 @@ impl<'a, G: Gate> Phase<'a, G> {
     }
 
     /// Answers the commands of a session, which starts at `base`.
-    fn serve_lines<R: Wait>(
+    pub fn serve_lines<R: Wait>(
         &self,
         rt: &R,
         pass: &mut Pass,

@@ -71,7 +71,7 @@ fn walk_rows_along(
         brief: false,
     };
     let mut walker = Walker {
-        source: &Bucket,
+        source: &Bucket::<false>,
         rows,
     };
     let walked = walk_along(&mut walker, look.base, look.path, look.follow, trail);

@@ -68,23 +68,26 @@ fn ask_rows(
 
 /// Looks at rows whole, for a look that left some after their heads. If a row tells of the key after all,
 /// later keys are sought in whole rows at once.
-// Kept out of line: few look-ups come to it. The key is copied for it, so that it stays in registers in
-// those that don't.
+// Kept out of line: few look-ups come to it. It gets the key by itself, so that what is sought stays in
+// registers in those that don't (measured).
 #[inline(never)]
 fn look_whole(
     rows: &mut Rows<'_>,
     lane: Lane,
-    sought: Sought<'_>,
+    key: Key<'_>,
+    hash: u64,
     earlier: u64,
 ) -> Result<usize, Option<u64>>
-    requires may { MaySeek rows.old (key_in sought) earlier }
+    requires hash { hash ≡ key_hash (key_shown key) }
+    requires may { MaySeek rows.old (key_shown key) earlier }
     requires lies { LiesIn (share rows.old.pass.now).rows lane }
     requires early { spent rows.old + earlier ≤ BUCKET_ROWS }
     ensures on { LooksOn rows.old rows.new }
-    ensures seeks { Seeks rows.old (key_in sought.entry) rows.new lane result }
+    ensures seeks { Seeks rows.old (key_shown key.entry) rows.new lane result }
     ensures looked { IfErr result (λ odd.
-        Looked (now_in rows.new) lane.first (key_in sought.entry) odd lane.len) }
+        Looked (now_in rows.new) lane.first (key_shown key.entry) odd lane.len) }
 {
+    let sought = Sought::new(key, hash);
     match ask_rows(rows, lane, &sought, Extent::Whole, earlier) {
         Ok(at) => {
             rows.slow = true;
@@ -113,13 +116,13 @@ pub(crate) fn seek_row(
     ensures looked { rows.old.brief ≡ false → IfErr result (λ odd.
         Looked (now_in rows.new) lane.first (key_shown key.entry) odd lane.len) }
 {
-    let sought = Sought::new(key, hash);
     if rows.slow {
-        return look_whole(rows, lane, sought, 0);
+        return look_whole(rows, lane, key, hash, 0);
     }
+    let sought = Sought::new(key, hash);
     match ask_rows(rows, lane, &sought, Extent::Head, 0) {
         Ok(at) => Ok(at),
         Err(untold) if rows.brief || !untold.left => Err(untold.odd),
-        Err(_) => look_whole(rows, lane, sought, lane.len),
+        Err(_) => look_whole(rows, lane, key, hash, lane.len),
     }
 }

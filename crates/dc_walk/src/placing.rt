@@ -14,9 +14,8 @@ ghost use Rattle.dc_walk.specs.Findings.{CanWalk};
 ghost use Rattle.dc_walk.specs.Placing.{AreNoted, AreTrue, IsFoundBy};
 
 use crate::look::Look;
-use crate::source::Bucket;
 use crate::used::Room;
-use crate::walk::walk_rows;
+use crate::walk::walk_rows_briefly;
 use dc_names::{Kind, parse};
 use dc_ops::Known;
 use dc_plain::{Call, Follow, Reply, answers_from_true_facts_are_replies};
@@ -81,7 +80,7 @@ pub fn find_front<'a>(
     };
     // Rows of an earlier walk would be taken for this one's.
     room.clear();
-    match walk_rows(&Bucket, reader, pass, room, look, true) {
+    match walk_rows_briefly(reader, pass, room, look) {
         Ok((Reply::Found(dir, Kind::Dir), true)) => Some(Known { base, front, dir }),
         _ => None,
     }

@@ -120,7 +120,9 @@ fn take_in(
             take_short(room, reader, pass, noted, key, &sought.short)
         }
         Label::Name(_) | Label::DotDot | Label::Text => {
-            take_wide(room, reader, pass, noted, key)
+            // Made anew: what is handed to a call lies in memory, in the other arm too if it is the same.
+            let Noted { row, place, top } = noted;
+            take_wide(room, reader, pass, Noted { row, place, top }, key)
         }
     }
 }

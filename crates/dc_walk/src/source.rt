@@ -58,11 +58,12 @@ pub(crate) trait Source {
         ensures refused { OnErr result (locks ≡ true) };
 }
 
-/// The rows of the key's bucket, as they are.
+/// The rows of the key's bucket, as they are, for a walk that is brief or not. The two are types of their own
+/// so that each has one loop over a path, which the compiler then puts into its one caller.
 #[derive(Drop)]
-pub(crate) struct Bucket;
+pub(crate) struct Bucket<const BRIEF: bool>;
 
-impl Source for Bucket {
+impl<const BRIEF: bool> Source for Bucket<BRIEF> {
     ghost locks = { false };
 
     ghost serves = { λ source table. Unit {0} };

@@ -15,7 +15,7 @@ use crate::look::Look;
 use crate::settle::settle;
 use crate::source::Bucket;
 use crate::used::Room;
-use crate::walk::{walk_by, walk_rows};
+use crate::walk::{walk_by, walk_rows_briefly};
 use dc_plain::Stamped;
 use dc_table::{Pass, Reader};
 
@@ -27,7 +27,7 @@ pub fn walk_fast(reader: Reader<'_>, pass: &mut Pass, room: &mut Room, look: Loo
     ensures untried { HasNotTried (known pass.old) (known pass.new) }
     ensures walks { WalksFast look.entry (buckets_of pass.old) (view pass.old) (view pass.new) result }
 {
-    let (fast, _) = walk_by(&Bucket, reader, pass, room, look);
+    let (fast, _) = walk_by(&Bucket::<false>, reader, pass, room, look);
     fast
 }
 
@@ -48,7 +48,7 @@ pub fn walk_briefly(
 {
     // Rows of an earlier walk would be taken for this one's.
     room.clear();
-    let Ok((reply, begun)) = walk_rows(&Bucket, reader, pass, room, look, true) else {
+    let Ok((reply, begun)) = walk_rows_briefly(reader, pass, room, look) else {
         return None;
     };
     if let Fast::Done(stamped) = settle(reader, pass, room, look, reply, begun) {

@@ -1,11 +1,12 @@
 //! The walk that `walk_fast`, `walk_briefly` and `walk_counted` share, over the rows of a source.
 
-ghost use Rattle.std.specs.Prelude.{◌≡◌, [], IfOk, IfErr};
+ghost use Rattle.std.specs.Prelude.{◌≡◌, [], false, true, IfOk, IfErr};
 ghost use Rattle.dc_plain.specs.FactLaws.{outcome_answer};
 ghost use Rattle.dc_plain.specs.Requests.{answer_of};
 ghost use Rattle.dc_resolve.specs.Ends.{outcome_shown};
 ghost use Rattle.dc_table.specs.Holders.{table_of};
-ghost use Rattle.dc_table.specs.Passes.{view, share, IsSamePass, IsIdle};
+ghost use Rattle.dc_table.specs.Passes.{known, view, share, IsSamePass, IsIdle};
+ghost use Rattle.dc_table.specs.Shares.{HasNotTried};
 ghost use Rattle.dc_walk.specs.Findings.{CanWalk, buckets_of};
 ghost use Rattle.dc_walk.specs.Finds.{AllInside};
 ghost use Rattle.dc_walk.specs.Sources.{IsUntried};
@@ -18,7 +19,7 @@ use crate::finder::Walker;
 use crate::look::Look;
 use crate::rows::{Rows, Stop};
 use crate::settle::settle;
-use crate::source::Source;
+use crate::source::{Bucket, Source};
 use crate::used::Room;
 use dc_plain::Reply;
 use dc_resolve::{Walked, walk};
@@ -37,6 +38,9 @@ pub(crate) fn reply_of(end: Walked) -> Reply
 
 /// Walks by rows. It answers the reply, and whether a step was made; or why there is none. If it is `brief`,
 /// it reads no row for the cause, and may answer another.
+// Inlined: an outcome that may be a cause has bytes that are read otherwise than they were written, for which
+// the processor waits (measured).
+#[inline(always)]
 pub(crate) fn walk_rows<'x, S: Source>(
     source: &'x S,
     reader: Reader<'x>,
@@ -74,6 +78,27 @@ pub(crate) fn walk_rows<'x, S: Source>(
         Ok(end) => Ok((reply_of(end), begun)),
         Err(stop) => Err(stop),
     }
+}
+
+/// Walks by the rows of buckets, as `walk_rows` if it is brief.
+// Kept out of line: two walks share it, and neither is as much in haste as `walk_fast`.
+#[inline(never)]
+pub(crate) fn walk_rows_briefly<'x>(
+    reader: Reader<'x>,
+    pass: &'x mut Pass,
+    used: &'x mut Room,
+    look: Look<'x>,
+) -> Result<(Reply, bool), Stop>
+    requires can { CanWalk (table_of reader) pass.old }
+    requires empty { (used.old.items ≡ []) × (used.old.spent ≡ 0) }
+    ensures same { IsSamePass pass.old pass.new × IsIdle pass.new }
+    ensures untried { HasNotTried (known pass.old) (known pass.new) }
+    ensures rows { AllInside (share pass.old).rows used.new.items }
+    ensures went { IfOk result (λ r. WentTo false look.entry pass.old pass.new r.1 used.new r.0) }
+    ensures stopped { IfErr result (λ stop.
+        StoppedAt false true look.entry pass.old pass.new used.new stop.why) }
+{
+    walk_rows(&Bucket::<true>, reader, pass, used, look, true)
 }
 
 /// Where a path leads by rows, with the rows that were used for it, and one that was had and isn't
