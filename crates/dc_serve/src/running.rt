@@ -38,9 +38,10 @@ pub fn understand<R: Read>(
 }
 
 /// Answers the commands of the input, which `understand` reads. In a phase each session that has lines is
-/// served in a thread of its own, which calls the gate round each command; threads take a lock and are
-/// joined, so all that is said holds if they get on. The replies of a phase are written, by session and
-/// line, before the next phase begins, and the writer is flushed once, after the last.
+/// served in a thread of its own, the lowest in the one that calls; it calls the gate round each command.
+/// Threads take a lock and are joined, so all that is said holds if they get on. The replies of a phase
+/// are written, by session and line, before the next phase begins, and the writer is flushed once, after
+/// the last.
 ///
 /// The clauses say what is written then, whichever the answer is, and of the faults: `BadSize` comes
 /// exactly if a size is wrong, before anything is read; `BadLine` of the first bad line of an input
