@@ -38,8 +38,8 @@ pub(crate) fn reply_of(end: Walked) -> Reply
 
 /// Walks by rows. It answers the reply, and whether a step was made; or why there is none. If it is `brief`,
 /// it reads no row for the cause, and may answer another.
-// Inlined: an outcome that may be a cause has bytes that are read otherwise than they were written, for which
-// the processor waits (measured).
+// Inlined (measured): a look-up by rows is then one function, and its outcome, which has other fields at the same
+// bytes if it is a cause, needn't go through memory.
 #[inline(always)]
 pub(crate) fn walk_rows<'x, S: Source>(
     source: &'x S,
