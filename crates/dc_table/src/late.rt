@@ -22,7 +22,10 @@ ghost use Rattle.dc_sleepers.specs.declared.lock.Place.TheVariants.{Trying, Coun
 use crate::acts::Turn;
 use crate::acts::waits::Waits;
 use crate::shared::Shared;
-use crate::{FEWEST_PAUSES, FREE, LOCK, MOST_DOUBLINGS, MOST_LOOKS, MOST_SLEEPS, PATIENCE};
+use crate::{
+    FEW_LOOKS, FEWEST_PAUSES, FREE, LOCK, MOST_DOUBLINGS, MOST_LOOKS, MOST_SLEEPS, PATIENCE,
+    SHORT_PAUSES,
+};
 use dc_sleepers::lock::Thread;
 use std::hint;
 use std::sync::Wait;
@@ -88,6 +91,19 @@ impl Shared {
         self.sleeps.fetch_add(1, Relaxed);
         self.sleep::<W, R>(rt, turn);
         W::count_out(self, turn);
+    }
+
+    /// Watches the lock for a few microseconds at most, until it is seen free. What it sees decides nothing:
+    /// the try that comes next does.
+    // A try takes the word's cache line from the holder, also if it finds the lock taken, and the holder is
+    // about to free the lock there. Most holds end within this time, so that few tries are made in vain.
+    pub(crate) fn watch_briefly(&self) {
+        for _ in 0..FEW_LOOKS {
+            if self.table.shared.peek(LOCK) == FREE {
+                return;
+            }
+            pause(SHORT_PAUSES);
+        }
     }
 
     /// Watches the lock for a while, and answers whether it was seen free. A holder needs it for far less

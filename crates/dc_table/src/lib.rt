@@ -78,6 +78,12 @@ pub(crate) const FREE: u64 = 0;
 /// A pass has the lock.
 pub(crate) const TAKEN: u64 = 1;
 
+/// How often a pass looks at the lock's word before it tries, if it finds the lock taken.
+pub(crate) const FEW_LOOKS: u64 = 16;
+
+/// How many pauses of the processor come after each of these looks. All of them take some microseconds.
+pub(crate) const SHORT_PAUSES: u64 = 16;
+
 /// How often a pass that found the lock taken looks at its word before it sleeps for the first time.
 pub(crate) const MOST_LOOKS: u64 = 20;
 

@@ -26,7 +26,8 @@ use std::sync::Wait;
 use std::sync::atomic::Ordering::Relaxed;
 
 impl Shared {
-    /// Tries the lock, and takes what it guards out of its slot.
+    /// Tries the lock once, and takes what it guards out of its slot. If the lock is held, it watches that
+    /// for a few microseconds before.
     pub(crate) fn try_take(&self, pass: &mut Pass) -> Option<Box<Guarded>>
         requires pass { Fits self.now pass.old × IsIdle pass.old }
         ensures same { IsSamePass pass.old pass.new }
@@ -36,6 +37,7 @@ impl Shared {
         ensures held { IfNone result (FoundHeld pass.old pass.new) }
     {
         events_keep_the_rule();
+        self.watch_briefly();
         if self
             .table
             .shared
@@ -69,8 +71,8 @@ impl Shared {
         unreachable!()
     }
 
-    /// Tries to get the lock with what it guards, and never waits. If another pass has it, this one comes
-    /// back.
+    /// Tries once to get the lock with what it guards. If another pass has it, this one comes back after a
+    /// few microseconds at most: for so long it watches the lock before it tries, and it never sleeps.
     #[must_use]
     pub fn try_lock<'t>(
         &'t self,
