@@ -68,10 +68,11 @@
 //! | `change` | waits, once | for what it makes or moves | `NoMemory`, `Spent` |
 //! | `shrink` | waits, once | none | never |
 //!
-//! A `try_` call tries for the lock once. It answers `None` if another pass has it, and then nothing at
-//! all has changed; a `try_resolve` or a change has then read rows, and may have seen a later clock, but
-//! records nothing. Else it answers as the call that waits. `try_look` asks the tree for the whole path, so
-//! a caller asks the rows first, by `look_fast`, which takes no lock; `try_resolve` does both.
+//! A `try_` call tries for the lock once; if that is held, it watches it for a few microseconds before. It
+//! answers `None` if another pass has it, and then nothing at all has changed; a `try_resolve` or a change
+//! has then read rows, and may have seen a later clock, but records nothing. Else it answers as the call
+//! that waits. `try_look` asks the tree for the whole path, so a caller asks the rows first, by `look_fast`,
+//! which takes no lock; `try_resolve` does both.
 //!
 //! A call that waits takes `rt`, a runtime that can put a thread to sleep (the bound `Wait`); the type of
 //! a call without it says that it returns. A call that may take memory takes `alloc`, the allocator. If

@@ -26,7 +26,8 @@ impl<'t> Guard<'t> {
         Guard { holder, guarded }
     }
 
-    /// Tries to get the lock, and never waits. If another pass has it, this one comes back.
+    /// Tries once to get the lock. If another pass has it, this one comes back after a few microseconds, and
+    /// never sleeps.
     #[must_use]
     pub fn try_lock(shared: &'t Shared, pass: &'t mut Pass) -> Result<Guard<'t>, &'t mut Pass>
         requires pass { Fits shared.now pass.old × IsIdle pass.old }

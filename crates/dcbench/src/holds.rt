@@ -2,8 +2,9 @@
 //!
 //! A thread makes calls of one kind. It tries each once: if that gets the lock, the time of the try is that
 //! of the hold, and of what comes before it, which is little: the path of a change has one name, or its
-//! directory is found by rows. If another thread has the lock, it makes the call that waits, and the time from
-//! the try on is that of the wait and the hold.
+//! directory is found by rows, and a try on a held lock watches that for a few microseconds. If another thread
+//! has the lock then, it makes the call that waits, and the time from the try on is that of the wait and the
+//! hold.
 
 ghost use Rattle.dc_cache.specs.Passes.{Fits, IsChange};
 
