@@ -35,9 +35,9 @@
  * until its last pass is closed. A pass weighs 43 KB, and a split takes 20 to 70 microseconds: keep one for each thread
  * rather than one for each request.
  *
- * No function of the library waits. One that needs the lock tries for it once, and answers GB_BUSY if another pass has
- * it: then the tree is as it was, and the call has no answer. The blocking forms at the end of this file (gb_look,
- * gb_mkdir, ..) try again, and sleep meanwhile.
+ * No function of the library sleeps. One that needs the lock tries for it once; if another pass has it, it watches the
+ * lock for a few microseconds before. It answers GB_BUSY if that pass has it still: then the tree is as it was, and the
+ * call has no answer. The blocking forms at the end of this file (gb_look, gb_mkdir, ..) try again, and sleep meanwhile.
  * Most calls have the lock for a microsecond or less. The longest path, by 40 links whose texts have 4,090 bytes each,
  * takes 10 milliseconds under it, a rename with two such paths 25, and a list of a million names half a second, while
  * others wait: if you don't trust those who make links, refuse long texts.
