@@ -7,7 +7,7 @@ import subprocess
 FILE = pathlib.Path(__file__).resolve().parent / "results.txt"
 MARK = "==== "
 # What measuring writes.
-WRITTEN = ("bench/results.txt", "docs/lookups.svg", "docs/MEASUREMENTS.md", "README.md")
+WRITTEN = ("bench/results.txt", "docs/lookups.svg", "docs/holds.svg", "docs/MEASUREMENTS.md", "README.md")
 
 
 def first_line(*words):
