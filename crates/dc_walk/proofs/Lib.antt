@@ -9,6 +9,7 @@ pub mod Lookings
 pub mod Rooms
 pub mod Shorts
 pub mod Wides
+pub mod Tops
 pub mod Standing
 pub mod Questions
 pub mod Ended

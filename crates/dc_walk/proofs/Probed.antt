@@ -9,7 +9,7 @@ use Rattle.dc_events.specs.Views.{View, Note}
 use Rattle.dc_events.specs.Effects.{noted, read}
 use Rattle.dc_events.specs.Walks.{no_note, extended}
 use Rattle.dc_table.specs.Walking.{CanRead}
-use Rattle.dc_walk.specs.Probes.{probed, fresh_note, read_of, HasRead, IsEarly, IsReading}
+use Rattle.dc_walk.specs.Probes.{probed, fresh_note, read_of, top_of, HasRead, IsEarly, IsReading}
 
 last_place : (xs : List Note) (x : Note) → length (xs ++ x ∷ []) - 1 ≡ length xs
 last_place xs x = let size : length (xs ++ x ∷ []) ≡ length xs + 1 = length-append xs (x ∷ []) in omega arith
@@ -147,3 +147,17 @@ top_read v w row count head number (x ∷ words) size first is = record {
   size = size;
   read = is ∙ ap₂ (λ (n : ℕ) (ws : List ℕ). probed v row n ws) (ap (λ (ws : List ℕ). get_or ws 0 0) (sym first)) (ap (λ (ws : List ℕ). drop 1 ws) (sym first));
 }
+
+-- a row begins with its top
+pub first_three : (words : List ℕ) → length words ≡ ROW_WORDS → take 3 words ≡ get_or words 0 0 ∷ get_or words 1 0 ∷ get_or words 2 0 ∷ []
+first_three [] size = absurd (omega arith)
+first_three (a ∷ []) size = absurd (omega arith)
+first_three (a ∷ b ∷ []) size = absurd (omega arith)
+first_three (a ∷ b ∷ c ∷ rest) size = refl
+
+-- and that is its top
+pub top_is : (words : List ℕ) (count head number : ℕ) → take 3 words ≡ count ∷ head ∷ number ∷ [] → top_of words ≡ record { count = count; head = head; number = number }
+top_is [] c h n e = absurd cc
+top_is (x ∷ []) c h n e = absurd cc
+top_is (x ∷ y ∷ []) c h n e = absurd cc
+top_is (x ∷ y ∷ z ∷ rest) c h n e = let a : x ≡ c = cc in let b : y ≡ h = cc in let d : z ≡ n = cc in λ i. record { count = a i; head = b i; number = d i }

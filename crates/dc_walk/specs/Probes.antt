@@ -1,5 +1,5 @@
 -- What a probe of a row makes of a view.
-use Rattle.std.specs.Prelude.{◌≡◌, ℕ, ◌+◌, ◌-◌, ◌<◌, ◌≤◌, ◌↔◌, List, [], ◌∷◌, ◌++◌, Bool, true, false, Option, Some, None, IsTrue, length, get_or, take, drop}
+use Rattle.std.specs.Prelude.{◌≡◌, ℕ, ◌+◌, ◌-◌, ◌<◌, ◌≤◌, ◌↔◌, List, [], ◌∷◌, ◌++◌, Bool, true, false, if◌then◌else◌, IsTrue, length, get_or, take, drop}
 use Rattle.dc_plain.specs.Facts.{Key, Label, label_bytes}
 use Rattle.dc_plain.specs.Facts.Label.{Entry, Parent, Text}
 use Rattle.dc_row.specs.Narrow.{told_words}
@@ -14,6 +14,9 @@ use Rattle.dc_table.specs.declared.shared.Shared.{Shared}
 use Rattle.dc_walk.specs.Rooms.{Kept}
 use Rattle.dc_walk.specs.declared.probe.Noted.{Noted}
 use Rattle.dc_walk.specs.declared.probe.Top.{Top}
+use Rattle.dc_walk.specs.declared.row.RowAt.{RowAt}
+use Rattle.dc_walk.specs.declared.row.Taken as rust_taken
+use Rattle.dc_walk.specs.declared.row.Taken.TheVariants as takings
 
 -- a note that no check has seen
 abbrev pub fresh_note : ℕ → ℕ → List ℕ → Note
@@ -116,10 +119,34 @@ pub record ReadsWhole (v w : View) (row : ℕ) (words : List ℕ) : Type 0 where
   pub size : length words ≡ ROW_WORDS
   pub read : w ≡ seen_whole v row words
 
--- it was read whole and tells of another key, or of none; or it tells of the key and is kept as the last
-abbrev pub TakesIn : View → View → ℕ → ℕ → Key → Kept → Kept → Option ℕ → Type 0
-TakesIn v w row place key r s None = (words : List ℕ) × ReadsWhole v w row words × (TellsOf words key → ⊥) × (s.items ≡ r.items) × (s.spent ≡ r.spent)
-TakesIn v w row place key r s (Some at) = (words : List ℕ) × ReadsWhole v w row words × TellsOf words key × (s.items ≡ r.items ++ record { row = row; place = place; words = words } ∷ []) × (s.spent ≡ r.spent + told_words words) × (at ≡ length r.items)
+-- a row was read, but not to its end
+pub record ReadsLess (v w : View) (row : ℕ) : Type 0 where
+  pub count : ℕ
+  pub words : List ℕ
+  pub few : length words + 1 < ROW_WORDS
+  pub read : w ≡ probed v row count words
+
+-- of a row whose top was read some words more were read, but not all
+abbrev pub ReadsPart : Pass → Pass → Noted → Type 0
+ReadsPart p q noted = (v : View) → ReadsTop v (view p) noted.row noted.top → ReadsLess v (view q) noted.row
+
+-- it was read whole and tells of another key, or of none; or it was left, for a walk that is brief; or it tells of the key and is kept as the last
+abbrev pub TakesIn : View → View → ℕ → ℕ → Key → Kept → Kept → Bool → rust_taken.Taken → Type 0
+TakesIn v w row place key r s brief takings.Other = (words : List ℕ) × ReadsWhole v w row words × (TellsOf words key → ⊥) × (s.items ≡ r.items) × (s.spent ≡ r.spent)
+TakesIn v w row place key r s brief takings.Left = (brief ≡ true) × ReadsLess v w row × (s.items ≡ r.items) × (s.spent ≡ r.spent)
+TakesIn v w row place key r s brief (takings.Tells at) = (words : List ℕ) × ReadsWhole v w row words × TellsOf words key × (s.items ≡ r.items ++ record { row = row; place = place; words = words } ∷ []) × (s.spent ≡ r.spent + told_words words) × (at ≡ length r.items)
+
+-- the top of a row whose first words are these
+abbrev pub top_of : List ℕ → Top
+top_of words = record { count = get_or words 0 0; head = get_or words 1 0; number = get_or words 2 0 }
+
+-- a row that was noted, whose top stands in a room
+abbrev pub noted_in : RowAt → Kept → Noted
+noted_in at room = record { row = at.row; place = at.place; top = top_of room.next }
+
+-- the label of a text, or of a dot-dot
+abbrev pub bare_label : Bool → Label
+bare_label is_text = if is_text then Text else Parent
 
 -- of a row that was read up to one word, whatever the view was before, the words up to another were read
 abbrev pub ReadsMore : Pass → Pass → ℕ → List ℕ → ℕ → List ℕ → ℕ → Type 0
@@ -134,5 +161,5 @@ abbrev pub ReadsBehind : Pass → Pass → Noted → List ℕ → ℕ → Bool �
 ReadsBehind p q noted text value is_its = (v : View) → ReadsTop v (view p) noted.row noted.top → ReadsShort v (view q) noted.row noted.top text value is_its
 
 -- a row whose top was read was read whole, and is kept as the last if it tells of the key
-abbrev pub TakesRow : Pass → Pass → Noted → Key → Kept → Kept → Option ℕ → Type 0
-TakesRow p q noted key r s kept = (v : View) → ReadsTop v (view p) noted.row noted.top → TakesIn v (view q) noted.row noted.place key r s kept
+abbrev pub TakesRow : Pass → Pass → Noted → Key → Kept → Kept → Bool → rust_taken.Taken → Type 0
+TakesRow p q noted key r s brief taken = (v : View) → ReadsTop v (view p) noted.row noted.top → TakesIn v (view q) noted.row noted.place key r s brief taken

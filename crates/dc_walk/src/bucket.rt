@@ -116,13 +116,14 @@ pub(crate) fn seek_row(
     ensures looked { rows.old.brief ≡ false → IfErr result (λ odd.
         Looked (now_in rows.new) lane.first (key_shown key.entry) odd lane.len) }
 {
-    if rows.slow {
-        return look_whole(rows, lane, key, hash, 0);
+    let mut earlier = 0;
+    if !rows.slow {
+        let sought = Sought::new(key, hash);
+        match ask_rows(rows, lane, &sought, Extent::Head, 0) {
+            Ok(at) => return Ok(at),
+            Err(untold) if rows.brief || !untold.left => return Err(untold.odd),
+            Err(_) => earlier = lane.len,
+        }
     }
-    let sought = Sought::new(key, hash);
-    match ask_rows(rows, lane, &sought, Extent::Head, 0) {
-        Ok(at) => Ok(at),
-        Err(untold) if rows.brief || !untold.left => Err(untold.odd),
-        Err(_) => look_whole(rows, lane, key, hash, lane.len),
-    }
+    look_whole(rows, lane, key, hash, earlier)
 }

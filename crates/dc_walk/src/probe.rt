@@ -1,13 +1,13 @@
 //! A row that is noted and read.
 
-ghost use Rattle.std.specs.Prelude.{◌≡◌, ◌<◌, ◌≤◌, take, IfSome, IfNone};
+ghost use Rattle.std.specs.Prelude.{◌≡◌, ◌<◌, ◌≤◌, true, take, IfSome, IfNone};
 ghost use Rattle.dc_events.specs.Effects.{begins, faulted};
 ghost use Rattle.dc_events.specs.Views.Fault.{Busy};
 ghost use Rattle.dc_names.specs.declared.limits.TheConstants.{ROW_WORDS};
 ghost use Rattle.dc_table.specs.Holders.{table_of};
 ghost use Rattle.dc_table.specs.Passes.{view, share, Fits, IsIdle, StaysOut};
 ghost use Rattle.dc_walk.specs.Looks.{look_shown};
-ghost use Rattle.dc_walk.specs.Probes.{IsEarly, IsReading, MayReadOn, ReadsBehind, ReadsMore, ReadsRest, ReadsTop};
+ghost use Rattle.dc_walk.specs.Probes.{IsEarly, IsReading, MayReadOn, ReadsBehind, ReadsMore, ReadsPart, ReadsRest, ReadsTop};
 
 use crate::look::Look;
 use dc_plain::{Key, Label};
@@ -95,7 +95,8 @@ pub(crate) fn read_top(
 }
 
 /// Reads the rest of a row whose top was read, and answers its value, and whether the words behind are
-/// those of a short text. They are compared as they come, and not kept.
+/// those of a short text. They are compared as they come, and not kept. If it is `brief` it leaves the row
+/// at the first word of the text that differs, and answers `None`.
 // Inlined: the text's words stay in registers.
 #[inline(always)]
 pub(crate) fn read_short(
@@ -103,10 +104,13 @@ pub(crate) fn read_short(
     pass: &mut Pass,
     noted: Noted,
     text: &[u64; SHORT_WORDS],
-) -> (u64, bool)
+    brief: bool,
+) -> Option<(u64, bool)>
     requires on { MayReadOn (table_of reader) pass.old noted }
     ensures same { StaysOut pass.old pass.new }
-    ensures read { ReadsBehind pass.old pass.new noted text.now result.0 result.1 }
+    ensures read { IfSome result (λ r.
+        ReadsBehind pass.old pass.new noted text.now r.0 r.1) }
+    ensures left { IfNone result ((brief ≡ true) × ReadsPart pass.old pass.new noted) }
 {
     let row = noted.row;
     let value = reader.read_word(pass, row, 3);
@@ -115,6 +119,9 @@ pub(crate) fn read_short(
     for i in 0..SHORT_WORDS {
         let word = reader.read_word(pass, row, (TEXT_START + i) as u64);
         differ |= word ^ text[i];
+        if brief && differ != 0 {
+            return None;
+        }
     }
     for block in 0..PAST_BLOCKS {
         for i in 0..BLOCK_WORDS {
@@ -123,7 +130,7 @@ pub(crate) fn read_short(
             differ |= past;
         }
     }
-    (value, differ == 0)
+    Some((value, differ == 0))
 }
 
 /// Reads the words of the row that was noted last from one on, and answers whether they are zero. They are

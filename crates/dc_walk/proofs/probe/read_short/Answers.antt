@@ -1,9 +1,11 @@
-use Rattle.std.proofs.Common.{◌≡◌, ℕ, ◌+◌, ◌*◌, ◌↔◌, [], ◌∷◌, bit_or, bit_xor, get_or, refl, ap₂, sym, ◌∙◌, subst, arith}
+use Rattle.std.proofs.Common.{◌≡◌, ℕ, suc, ◌+◌, ◌*◌, ◌<◌, ◌↔◌, [], ◌∷◌, ◌++◌, bit_or, bit_xor, length, get_or, refl, ap₂, sym, ◌∙◌, subst, arith, length-append}
+use Rattle.dc_names.specs.declared.limits.TheConstants.{ROW_WORDS}
+use Rattle.dc_table.specs.Passes.{view}
 use Rattle.std.proofs.lemmas.Nat.{le_or_l, le_or_r}
 use Rattle.std.specs.Int.Bits.{or_zero_l}
 use Rattle.dc_row.specs.declared.short.TheConstants.{SHORT_WORDS}
 use Rattle.dc_walk.specs.declared.probe.TheConstants.{BLOCK_WORDS}
-use Rattle.dc_walk.proofs.Probed.{can_go_on}
+use Rattle.dc_walk.proofs.Probed.{can_go_on, goes_on}
 use Rattle.dc_walk.proofs.Shorts.{can_read_on, differ_zero, first_more, past_more, reads_more, reads_to, reads_value}
 use Rattle.dc_walk.proofs.probe.read_short.Goals as goal
 
@@ -31,3 +33,16 @@ loop-i-2-preserved c = let e = c.read_word-past.ensures in let w = c.read_word-p
 
 pub loop-block-preserved : goal.loop-block-preserved
 loop-block-preserved c = reads_to (SHORT_WORDS + BLOCK_WORDS * (c.loop-block.block + 1)) (omega (arith, c.loop-i-2-test.false, c.loop-i-2.auto.i-end)) c.loop-i-2.invariant
+
+pub returns-then-differ-ne0-clause-left : goal.returns-then-differ-ne0-clause-left
+returns-then-differ-ne0-clause-left c = (
+  c.if-brief.true,
+  λ v h. let s = c.loop-i.invariant.read v h in let w = c.read_word-word.result in let value = c.read_word-value.result in let t = c.args.noted.top in
+      let more = length-append s.rest (w ∷ []) in let size = s.size in
+      let few : suc (suc (suc (length (s.rest ++ w ∷ [])))) + 1 < ROW_WORDS = omega (arith, c.loop-i-test.true) in record {
+        count = t.count;
+        words = t.head ∷ t.number ∷ value ∷ (s.rest ++ w ∷ []);
+        few = few;
+        read = goes_on v c.args.noted.row t.count (t.head ∷ t.number ∷ value ∷ s.rest) s.read (view c.read_word-word.new.pass) w c.read_word-word.ensures.view;
+      },
+)

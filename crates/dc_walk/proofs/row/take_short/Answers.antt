@@ -12,10 +12,10 @@ use Rattle.dc_walk.proofs.row.take_short.Goals.{then-not-is_its-via-then-not-is_
 
 pub returns-then-not-is_its-clause-takes : goal.returns-then-not-is_its-clause-takes
 returns-then-not-is_its-clause-takes c v t =
-    let key = key_shown c.args.key in let top = c.args.noted.top in let text = c.args.words.now in let value = c.read_short-value.result.0 in
+    let key = key_shown c.args.key in let top = c.args.noted.top in let text = c.args.words.now in let value = c.in-Some.value in
     let bytes = c.bytes-text.ensures in let entry = short_entry key.label c.requires.short in
     let first = c.requires.spelled.first c.requires.short in let past = c.requires.spelled.past c.requires.short in
-    let s = c.read_short-value.ensures.read v t in let words = row_of top value s.rest in (
+    let s = c.in-Some.ensures.read v t in let words = row_of top value s.rest in (
       words,
       record { size = row_size top value s.rest s.size; read = s.read },
       λ tells.
@@ -28,10 +28,10 @@ returns-then-not-is_its-clause-takes c v t =
 
 pub returns-clause-takes : goal.returns-clause-takes
 returns-clause-takes c v t =
-    let key = key_shown c.args.key in let top = c.args.noted.top in let text = c.args.words.now in let value = c.read_short-value.result.0 in
+    let key = key_shown c.args.key in let top = c.args.noted.top in let text = c.args.words.now in let value = c.in-Some.value in
     let bytes = c.bytes-text.ensures in let entry = short_entry key.label c.requires.short in
     let first = c.requires.spelled.first c.requires.short in let past = c.requires.spelled.past c.requires.short in
-    let s = c.read_short-value.ensures.read v t in let words = row_of top value s.rest in
+    let s = c.in-Some.ensures.read v t in let words = row_of top value s.rest in
     let is = s.its.0 c.if-not-is_its.false in
     let has = has_text top value s.rest (label_bytes key.label) text s.size first past is in
     let tells : TellsOf words key = (c.leads.ensures words (has_head top value s.rest s.size) has entry).0 c.if-not-leads.false in
