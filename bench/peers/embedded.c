@@ -67,6 +67,14 @@ int peer_unlink(const char *path)
     return gb_unlink(&gate, &own, ROOT, path, strlen(path), &found, &gone) == 0;
 }
 
+#ifdef RESOLVES
+/* For a caller many of whose look-ups miss. */
+int peer_look(const char *path, size_t length)
+{
+    struct gb_found found;
+    return gb_resolve(&gate, &own, ROOT, path, length, GB_FOLLOW, &found) == 0;
+}
+#else
 /* Of its own, so that a look-up that the rows answer saves no registers for it. */
 static __attribute__((noinline)) int look_filled(const char *path, size_t length)
 {
@@ -82,6 +90,7 @@ int peer_look(const char *path, size_t length)
         return look_filled(path, length);
     return answer == 0;
 }
+#endif
 
 void peer_end(void)
 {
