@@ -11,7 +11,7 @@ use std::{hint, thread};
 pub(crate) const PAUSES: u32 = 20;
 pub(crate) const YIELDS: u32 = 16;
 pub(crate) const FIRST_PAUSES: u32 = 64;
-pub(crate) const DOUBLINGS: u32 = 7;
+pub(crate) const DOUBLINGS: u32 = 5;
 pub(crate) const PATIENCE: Duration = Duration::from_millis(4);
 
 #[derive(Default)]
