@@ -27,7 +27,7 @@ pub use reading::{decode, leads_to, spelled_text, target, text_in};
 pub use row::{Row, RowLabel};
 pub use short::{SHORT_TEXT, SHORT_WORDS, leads, short_words};
 pub use text::RowText;
-pub use writing::encode;
+pub use writing::{encode, encode_entry};
 
 /// How many bytes the words of the text have.
 pub(crate) const ROW_ROOM: usize = 8 * (ROW_WORDS - TEXT_START);

@@ -3,13 +3,16 @@
 ghost use Rattle.std.specs.Prelude.{◌≡◌, ◌≤◌, ◌<◌, ◌↔◌, ◌+◌, ◌*◌, length, slice_index, Some, IfSome, IsSome, IsTrue};
 ghost use Rattle.dc_names.specs.Words.{AreBytes};
 ghost use Rattle.dc_plain.specs.Facts.Fact.{Reads};
+ghost use Rattle.dc_plain.specs.KeysShown.{key_shown};
 ghost use Rattle.dc_row.specs.Rows.{row_shown};
-ghost use Rattle.dc_row.specs.Spelling.{Spells, has_spelling, is_numbered, kind_code, target_number, text_word, fields, IsSpelled};
+ghost use Rattle.dc_row.specs.Spelling.{Spells, entry_of, has_spelling, is_numbered, kind_code, target_number, text_word, fields, IsSpelled};
 ghost use Rattle.dc_names.specs.declared.limits.TheConstants.{ROW_WORDS, ROW_TEXT};
 ghost use Rattle.dc_row.specs.declared.layout.TheConstants.{KIND_UNIT, LENGTH_UNIT};
 
+use crate::entry::has_room;
 use crate::{KIND_UNIT, LENGTH_UNIT, ROW_WORDS, Row, RowLabel, RowText, TEXT_START};
 use dc_names::{Kind, Name, pack_from, parse};
+use dc_plain::{Key, Target};
 
 /// The words of a row, with 0 for its sequence count, or `None` if nothing spells the row.
 ///
@@ -42,6 +45,23 @@ pub fn encode(row: &Row) -> Option<[u64; ROW_WORDS]>
         ),
         Row::Link(number, text) => spell(2, 0, *number, 0, text.bytes()),
     })
+}
+
+/// The words of a row that tells where a key's entry leads, as `encode` gives them, or `None` if nothing
+/// spells the row: of a text there is no entry.
+// It takes the key as it is: a `Row` has room for the longest text, and would be copied several times.
+#[must_use]
+pub fn encode_entry(key: Key<'_>, target: Option<Target>) -> Option<[u64; ROW_WORDS]>
+    ensures spelled { IfSome result (λ words. Spells words (entry_of (key_shown key.entry) target)) }
+    ensures count { IfSome result (λ words. slice_index words 0 ≡ 0) }
+    ensures none { IsSome result ↔ IsTrue (has_spelling (entry_of (key_shown key.entry) target)) }
+{
+    let kind = kind_code(&target);
+    if !is_numbered(&target) || !has_room(key, kind) {
+        return None;
+    }
+    let value = target_number(&target);
+    Some(spell(1, kind, key.number, value, key.label.bytes()))
 }
 
 /// Whether a row has words.

@@ -20,7 +20,7 @@ use crate::shutting::{refill_keys, shut_keys};
 use dc_names::NoMemory;
 use dc_ops::{Known, Plan, carry, plan_knowing};
 use dc_plain::{
-    Call, Reply, calls_touch_the_listed_keys, opening_tree_is_well_formed,
+    Call, MOST_TOUCHED, Reply, calls_touch_the_listed_keys, opening_tree_is_well_formed,
     operations_keep_trees_well_formed, untouched_facts_stay,
 };
 use dc_row::words_have_the_fact_they_spell;
@@ -96,7 +96,8 @@ impl<'t> Guard<'t> {
         let kept: &mut Guarded = &mut self.guarded;
         let keys = plan.keys();
         let keys = keys.as_slice();
-        let rows = shut_keys(holder, kept, keys);
+        let mut rows = [None; MOST_TOUCHED];
+        shut_keys(holder, kept, keys, &mut rows);
         // A reader that finds a row even must find it true. So the rows of what changes stay odd from before
         // the tree changes until they tell of the new one, or of the old one if that stays.
         match carry(alloc, &mut kept.store, plan) {

@@ -10,7 +10,7 @@ ghost use Rattle.dc_table.specs.Rows.{IsOf};
 use dc_index::HashedKey;
 use dc_names::Kind;
 use dc_plain::{Key, Label, Target};
-use dc_row::{ROW_WORDS, Row, RowLabel, RowText, encode};
+use dc_row::{ROW_WORDS, Row, RowText, encode, encode_entry};
 use dc_store::Store;
 
 /// The words of a row that tells where an entry leads, or `None` if no row can tell it. No entry has
@@ -21,12 +21,7 @@ pub(crate) fn entry_words(key: &Key<'_>, target: Option<Target>) -> Option<[u64;
     ensures none { IfNone result
         ((t : Tree) → LeadsTo t (key_shown key.now) target → CanTell t (key_shown key.now) → ⊥) }
 {
-    let label = match key.label {
-        Label::Name(name) => RowLabel::Name(RowText::of(name.bytes())?),
-        Label::DotDot => RowLabel::DotDot,
-        Label::Text => return None,
-    };
-    encode(&Row::Entry(key.number, label, target))
+    encode_entry(*key, target)
 }
 
 /// The words of a row that tells what a store has under a key, or `None` if no row can tell it. The store

@@ -79,30 +79,32 @@ fn shut_key<'a>(holder: &mut Holder<'_>, kept: &mut Guarded, key: Key<'a>) -> Op
     shut_row(holder, kept, key, row)
 }
 
-/// Shuts the rows that have these keys, and answers which row that is for each.
+/// Shuts the rows that have these keys, and writes which row that is for each.
+// Written where the caller keeps them (measured): handed back they would be copied twice, 224 bytes under the
+// lock for each change.
 pub(crate) fn shut_keys<'a>(
     holder: &mut Holder<'_>,
     kept: &mut Guarded,
     keys: &[Key<'a>],
-) -> [Option<OddRow<'a>>; MOST_TOUCHED]
+    rows: &mut [Option<OddRow<'a>>; MOST_TOUCHED],
+)
     requires few { length keys.now ≤ MOST_TOUCHED }
+    requires places { length rows.old ≡ MOST_TOUCHED }
     requires distinct { AreDistinct (map key_shown keys.now) }
     requires stage { StageAt (pass_of holder.old) kept.old 0 0 (map key_shown keys.now) }
     ensures same_reference { holder.new.pass.ghost_name ≡ holder.old.pass.ghost_name }
     ensures pass { OnlyWrites (pass_of holder.old) (pass_of holder.new) }
     ensures tree { KeepsTree kept.old kept.new }
     ensures distinct { AreDistinct (map key_shown keys.now) }
-    ensures found { AreFound kept.new.index (map key_shown keys.now) (length keys.now) result }
+    ensures found { AreFound kept.new.index (map key_shown keys.now) (length keys.now) rows.new }
     ensures stage { StageAt (pass_of holder.new) kept.new 0 (length keys.now)
         (map key_shown keys.now) }
     ensures rows { Shuts (FirstKeys (length keys.now) keys.now)
         holder.old kept.old holder.new kept.new }
 {
-    let mut rows = [None; MOST_TOUCHED];
     for i in 0..keys.len() {
         rows[i] = shut_key(holder, kept, keys[i]);
     }
-    rows
 }
 
 /// Fills an odd row with what the store has under its key, and opens it. If no row can tell that, it is

@@ -229,9 +229,13 @@ impl SlabStore {
 impl Store for SlabStore {
     ghost tree = { λ store. store };
 
-    /// The names of a directory are in the order of their bytes, so the hash is of no use here.
-    fn find_hashed(&self, dir: u64, name: Name<'_>, _hash: u64) -> Option<u64> {
+    /// The names of a directory are in the order of their bytes, so no hash is made.
+    fn find(&self, dir: u64, name: Name<'_>) -> Option<u64> {
         self.inodes.get(dir)?.names.get(name)
+    }
+
+    fn find_hashed(&self, dir: u64, name: Name<'_>, _hash: u64) -> Option<u64> {
+        self.find(dir, name)
     }
 
     fn kind(&self, number: u64) -> Option<Kind> {

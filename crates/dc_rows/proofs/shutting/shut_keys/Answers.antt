@@ -1,4 +1,4 @@
-use Rattle.std.proofs.Common.{rules, arith, map, refl, ◌∙◌, length-set}
+use Rattle.std.proofs.Common.{rules, arith, map, ◌∙◌, length-set}
 use Rattle.dc_plain.specs.KeysShown.{key_shown}
 use Rattle.dc_rows.specs.Refills.{Shut}
 use Rattle.dc_rows.proofs.Retelling.{shut_goes}
@@ -12,7 +12,7 @@ loop-i-init c = record {
   turned = nothing_turned c.args.holder.now c.args.kept.now (search rules) (turned_none _ c.requires.stage.fit.agree Shut (map key_shown c.args.keys.now));
   stage = c.requires.stage;
   found = λ j less. absurd (omega arith);
-  size = refl;
+  size = c.requires.places;
 }
 
 pub shut_key-requires-clause-even : goal.shut_key-requires-clause-even

@@ -4,7 +4,7 @@ use Rattle.dc_store.specs.Names.{name_cmp}
 use Rattle.dc_store.specs.declared.inode.Inode.{Inode}
 use Rattle.dc_store.proofs.Keeps.{keeps_now}
 use Rattle.dc_store.proofs.KeepsMoved.{led_entry}
-use Rattle.dc_store.proofs.slab_store.SlabStoreStore.find_hashed.Goals as goal
+use Rattle.dc_store.proofs.slab_store.SlabStoreStore.find.Goals as goal
 
 pub returns-in_err-get-clause-target : goal.returns-in_err-get-clause-target
 returns-in_err-get-clause-target c =
