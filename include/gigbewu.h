@@ -127,7 +127,7 @@ enum {
     GB_WHY_LINK = 5     /* no row has the text of a link */
 };
 
-/* What was found. With answer 0 every member holds; with a refusal only `at` does (and `count`, of calls that tell a
+/* What was found. With answer 0 every member holds; with a refusal only `at` does (and `count`, of calls that report a
  * trail), with GB_AGAIN only `why`. A member that doesn't hold is 0. GB_BAD_PASS and GB_BAD_ARGUMENT leave this and all
  * else that a call may write to as it was. */
 struct gb_found {
@@ -220,14 +220,14 @@ int gb_try_resolve(struct gb_pass *pass, uint64_t base, const char *path, size_t
 int gb_try_look(struct gb_pass *pass, uint64_t base, const char *path, size_t len, uint32_t follow,
                 struct gb_found *found);
 
-/* Looks a path up as gb_try_resolve does, and tells its trail: the directories in which the path asks for a name or for
- * dot-dot, up to where it ends. Each is listed once, in the order in which they are first asked. `/a/../b` asks in the
- * root, in a, and in the root again: its trail is 1 and the number of a. The trail has what the texts of links lead
+/* Looks a path up as gb_try_resolve does, and reports its trail: the directories in which the path asks for a name or
+ * for dot-dot, up to where it ends. Each is listed once, in the order in which they are first asked. `/a/../b` asks in
+ * the root, in a, and in the root again: its trail is 1 and the number of a. The trail has what the texts of links lead
  * through too, and a path that is refused has one as well. A relative path first asks whether `base` lives, so its
  * trail begins with `base`. A dot asks nothing, nor does the root's dot-dot. Writes the trail into `trail`, which has
  * room for `places` numbers. `count` is how many the trail has, also with a refusal.
  * It is for a caller that keeps modes by inode number: test search permission in each directory of the trail, and only
- * then tell the answer. If one may not be searched, POSIX wants EACCES, even if the tree refuses the path for a name
+ * then hand the answer on. If one may not be searched, POSIX wants EACCES, even if the tree refuses the path for a name
  * further on, as with ENOENT.
  * Without a link on its way, a path of n names and dot-dots has at most n directories in its trail, or one if n is 0.
  * If there are more than `places`, the answer is GB_NO_ROOM: ask again with more. After that and after GB_BUSY what
@@ -244,9 +244,9 @@ int gb_try_look(struct gb_pass *pass, uint64_t base, const char *path, size_t le
 int gb_try_look_along(struct gb_pass *pass, uint64_t base, const char *path, size_t len, uint32_t follow,
                       uint64_t *trail, size_t places, struct gb_found *found);
 
-/* Looks a path up by the rows alone, and tells its trail as gb_try_look_along does, under the terms of gb_look_fast: no
- * lock, no memory, no wait, and a bounded number of loads. If it answers GB_AGAIN or GB_NO_ROOM, what stands in `trail`
- * is no trail, and gb_try_look_along answers.
+/* Looks a path up by the rows alone, and reports its trail as gb_try_look_along does, under the terms of gb_look_fast:
+ * no lock, no memory, no wait, and a bounded number of loads. If it answers GB_AGAIN or GB_NO_ROOM, what stands in
+ * `trail` is no trail, and gb_try_look_along answers.
  * GB_NO_ROOM says that, by the rows that it read, the trail has more directories than `places`. It doesn't check then
  * whether these rows have changed meanwhile, so `places` may still be enough: gb_try_look_along says it exactly.
  * Proved: as of gb_look_fast, and number, kind and trail are those of one moment. What stands in `trail` behind the
@@ -261,7 +261,7 @@ int gb_look_fast_along(struct gb_pass *pass, uint64_t base, const char *path, si
  * Answers 0, a refusal, GB_BUSY, GB_BAD_PASS. */
 int gb_try_stat(struct gb_pass *pass, uint64_t base, const char *path, size_t len, struct gb_found *found);
 
-/* What the rows alone tell of a readlink, under the terms of gb_look_fast: no lock, no memory, no wait. If the path
+/* What the rows alone say of a readlink, under the terms of gb_look_fast: no lock, no memory, no wait. If the path
  * leads to what is no link, or nowhere, it is refused as gb_try_readlink would refuse it. If it leads to a link, the
  * answer is 0 with the link's number, and gb_try_readlink reads its text.
  * Proved: as of gb_look_fast.
@@ -284,10 +284,10 @@ int gb_try_readlink(struct gb_pass *pass, uint64_t base, const char *path, size_
 int gb_try_list(struct gb_pass *pass, uint64_t base, const char *path, size_t len, char *names, size_t room,
                 struct gb_found *found);
 
-/* Where the directory `number` is: its path from the root, as getcwd tells it, of names alone, without a link, a dot or
- * a slash at its end; the root's is a slash. Writes it into `path`, which has room for GB_PATH_MOST bytes or more, and
- * no zero byte behind it. `count` is how many bytes it has. Takes the lock, and no memory. In each directory on the way
- * the names are looked at one after another, up to the one that leads on, while nobody else has the lock.
+/* Where the directory `number` is: its path from the root, as getcwd reports it, of names alone, without a link, a dot
+ * or a slash at its end; the root's is a slash. Writes it into `path`, which has room for GB_PATH_MOST bytes or more,
+ * and no zero byte behind it. `count` is how many bytes it has. Takes the lock, and no memory. In each directory on the
+ * way the names are looked at one after another, up to the one that leads on, while nobody else has the lock.
  * Proved: from the root the names lead to that directory, at the moment of the answer. What stands in `path` behind the
  * path's end may change, up to byte GB_PATH_MOST and no further.
  * Answers 0 with number and kind, ENOENT if no directory has the number (any more), ENAMETOOLONG if its path has more
@@ -297,7 +297,7 @@ int gb_try_path_of(struct gb_pass *pass, uint64_t number, char *path, size_t roo
 /* Entries of a directory, each with its number and kind, without dot and dot-dot: those behind the name `after`, or all
  * if `after_len` is 0. Writes the first `room` of them, or all if there are fewer, and `count` is how many it wrote. To
  * read a directory, call again with the last name that was written, until `count` is less than `room`; the name needn't
- * stand there any more. Such a run tells each name that stands in the directory throughout once, whatever else comes
+ * stand there any more. Such a run lists each name that stands in the directory throughout once, whatever else comes
  * and goes meanwhile. `found` has the number and kind of the directory. Takes the lock, and memory for the entries,
  * which it gives back before it returns.
  * Proved: the entries of one call are those of one moment, in the order of the bytes of their names, the first ones
