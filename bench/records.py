@@ -21,10 +21,10 @@ It prints how many verdicts there were of each kind, and ends with the first tha
 processor for records of 5,000, 10,000 and 20,000 replies of 16 sessions: directories made in the root, and as many looked
 up.
 
-With --long it has one legal record of so many replies judged, of 16 sessions: ENTRIES directories are made in the root (a
+With --long it has one legal record of REPLIES replies judged, of 16 sessions: ENTRIES directories are made in the root (a
 tenth as many as replies by default, and at most 100,000), then they are looked up. It prints the seconds of the processor,
 the memory at its peak, and both for a reply and beside the size of the two files. docs/MEASUREMENTS.md has figures of
-100,000, 1,000,000 and 10,000,000 replies; the files of so many take 400 MB of the folder for temporary files.
+100,000, 1,000,000 and 10,000,000 replies; the files of that many take 400 MB of the folder for temporary files.
 """
 import collections
 import os

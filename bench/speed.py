@@ -12,7 +12,7 @@ and how each grew from the one before: four times the bytes.
 Then look-ups in trees of 1,000, 10,000 and 60,000 inodes, half of them directories in the root and half of them files
 in these. It prints the microseconds of a look-up, which are those that 10,000 look-ups add to the making of the tree.
 
-Then files made and unlinked, and a file given further names: so many, twice and four times as many.
+Then files made and unlinked, and a file given further names: a number of each, then twice and four times as many.
 
 Last, in trees of 1,000, 10,000 and 60,000 inodes, all but 20 of them in the root: the microseconds of a `list` and a `stat` of
 a directory of 20 files, and of a `create` with a `rename` of what it made over another file.
@@ -40,7 +40,7 @@ def phases(number):
 
 
 def lines_of(pair, size):
-    """As many whole pairs of lines as fit into so many bytes."""
+    """As many whole pairs of lines as fit into this many bytes."""
     lines, length, number = [], 0, 0
     while True:
         lines.append(pair(number))

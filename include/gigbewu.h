@@ -15,15 +15,16 @@
  *     }
  *
  * The tree has directories, files and symbolic links: names and inode numbers, no bytes of files. It begins with the
- * root, directory 1. Only the calls below change it. A look-up goes from row to row of the cache without a lock, and
- * checks at its end that no row it used has changed.
+ * root, directory 1. Only the calls below change it. The cache has rows, each of which says where one name in a
+ * directory leads, or that there is no such name. A look-up reads rows without a lock, and at its end checks that none
+ * of those it used has changed.
  *
  * You want                                     Call
  * to look a path up                            gb_look; gb_look_fast if it may not wait
  * the same in one call, quicker if many miss   gb_resolve; gb_try_resolve if it may not wait
- * its kind and names; a link's text; a list    gb_stat; gb_readlink; gb_list
+ * how many names it has; a link's text; a list gb_stat; gb_readlink; gb_list
  * the path of a directory, by its number       gb_path_of
- * to test search permission on a path's way    gb_look_along; gb_look_fast_along if it may not wait
+ * to test search permission along a path       gb_look_along; gb_look_fast_along if it may not wait
  * a large directory, some entries at a time    gb_entries
  * to change the tree                           gb_mkdir, gb_create, gb_symlink, gb_link, gb_unlink, gb_rmdir, gb_rename
  * the same, but never to wait                  gb_try_stat, gb_try_mkdir, .. (GB_BUSY: another pass has the lock)
@@ -35,37 +36,38 @@
  * until its last pass is closed. A pass weighs 43 KB, and a split takes 20 to 70 microseconds: keep one for each thread
  * rather than one for each request.
  *
- * No function of the library sleeps. One that needs the lock tries for it once; if another pass has it, it watches the
- * lock for a few microseconds before. It answers GB_BUSY if that pass has it still: then the tree is as it was, and the
- * call has no answer. The blocking forms at the end of this file (gb_look, gb_mkdir, ..) try again, and sleep meanwhile.
- * Most calls have the lock for a microsecond or less. The longest path, by 40 links whose texts have 4,090 bytes each,
- * takes 10 milliseconds under it, a rename with two such paths 25, and a list of a million names half a second, while
- * others wait: if you don't trust those who make links, refuse long texts.
+ * No function of the library sleeps. One that needs the lock tries for it once; if another pass has the lock, it first
+ * watches it for a few microseconds. If the lock is held still, it answers GB_BUSY: then the tree is as it was, and the
+ * call has no answer. The blocking forms at the end of this file (gb_look, gb_mkdir, ..) try again, and sleep
+ * meanwhile. Most calls have the lock for a microsecond or less. The longest path, through 40 links whose texts have
+ * 4,090 bytes each, takes 10 milliseconds under it, a rename with two such paths 25, and a list of a million names half
+ * a second, while others wait: if you don't trust those who make links, refuse long texts.
  *
  * A path is `len` bytes, without a zero byte at its end. `base` is the number of the directory from which a relative
  * path starts. Names have up to 255 bytes, paths up to 4,095, and one path may pass 40 links. Names may come from
- * anybody: any bytes are safe, and none lead to a wrong answer. Whoever chose the names, a search of a directory
- * compares a number of names that grows with the logarithm of how many it has, and the search for an inode grows
- * likewise, whichever live. Names that somebody chose to fall into one bucket push out each other's rows and those of
- * other names there, so that look-ups of all these take the lock; a cache for each user keeps that apart.
+ * anybody: any bytes are safe, and none lead to a wrong answer. However the names were chosen, the comparisons that a
+ * search in a directory makes grow with the logarithm of the number of its names, and those of a search for an inode
+ * with that of the number of inodes. Names that somebody chose to fall into one bucket push out each other's rows and
+ * those of other names there, so that look-ups of all these take the lock; giving each user a cache keeps that from the
+ * others.
  *
  * Rules:
  *
  *   - Call from any thread at any time, but use a pass in one call at a time. Two calls at once with one pass may
  *     corrupt memory. Some such calls answer GB_BAD_PASS, others go unnoticed.
- *   - Hand a pass to another thread by a lock, by a thread's start or end, or by a seq_cst atomic.
+ *   - Hand a pass to another thread through a lock, at a thread's start or end, or through a seq_cst atomic.
  *   - Don't copy a pass. A closed pass is blank, and using it answers GB_BAD_PASS; a copy made before isn't blank, and
  *     using it is an error that goes unnoticed.
  *   - Don't join passes of two caches. That is usually, not always, reported: see gb_pass_join.
- *   - Pointers must not be null, even with length 0. They lead to as many bytes as is said, which nobody else writes
- *     during the call. If a call writes to one of its pointers, no other pointer of that call may lead to the same
- *     bytes.
+ *   - Pointers must not be null, even with length 0. Each points to as many bytes as the call says, and nobody else may
+ *     write these during the call. If a call writes through one of its pointers, no other pointer of that call may
+ *     point to the same bytes.
  *
- * What is proved: the library as it is written, in Rattle, if you keep these rules. Each function is safe and ends.
+ * What is proved: the library as it is written in Rattle, if you keep these rules. Each function is safe and ends.
  * Whatever the schedule of the threads, each call that answers 0 or a refusal takes effect at one moment between its
- * call and its return, and its answer is the one that the tree of that moment gives. Put in the order of these moments,
- * all answers are those of a single thread. The comment of a function says what else is proved of it, or only tested.
- * docs/PROMISES.md of the library has it clause by clause. Not proved: this file, the compiler, the C library.
+ * start and its return, and its answer is the one that the tree of that moment gives. In the order of these moments,
+ * all answers are those of a single thread. The comment of each function says what else is proved of it, and what is
+ * only tested. docs/PROMISES.md has the clauses. Not proved: this file, the compiler, the C library.
  */
 #ifndef GIGBEWU_H
 #define GIGBEWU_H
@@ -93,14 +95,14 @@ enum {
     GB_AGAIN = -2,        /* the rows don't answer; `why` says why not */
     GB_NO_MEMORY = -3,    /* malloc refused what the call needed */
     GB_SPENT = -4,        /* 2^62 changes were made, and no more can be; look-ups go on */
-    GB_BAD_SIZE = -5,     /* gb_cache_new, gb_cache_with_names: not those numbers of buckets or inodes */
+    GB_BAD_SIZE = -5,     /* gb_cache_new, gb_cache_with_names take no such number of buckets or inodes */
     GB_BAD_PASS = -6,     /* a blank pass for an open one, an open one for a blank one, or one of another cache */
     GB_BAD_ARGUMENT = -7, /* `follow` or `flags` is none of the numbers below; too little room; no name */
     GB_NOT_YET = -8,      /* gb_learn: not that many changes have been made */
     GB_NO_ROOM = -9       /* gb_look_along: the trail has more directories than there are places */
 };
 
-/* The most bytes that a path has, and so the least room of gb_path_of. */
+/* The most bytes that a path has, and so the least room that gb_path_of takes. */
 enum { GB_PATH_MOST = 4095 };
 
 /* What a number names. */
@@ -125,14 +127,14 @@ enum {
     GB_WHY_LINK = 5     /* no row has the text of a link */
 };
 
-/* What was found. With answer 0 all of it holds, with a refusal `at` alone (of calls that tell a trail `count` too),
- * with GB_AGAIN `why` alone, and what doesn't hold is 0. GB_BAD_PASS and GB_BAD_ARGUMENT leave it as it was, as they do
- * all that a call may write to. */
+/* What was found. With answer 0 every member holds; with a refusal only `at` does (and `count`, of calls that report a
+ * trail), with GB_AGAIN only `why`. A member that doesn't hold is 0. GB_BAD_PASS and GB_BAD_ARGUMENT leave this and all
+ * else that a call may write to as it was. */
 struct gb_found {
     uint64_t number; /* what the path leads to; the inode that a change made, or gb_link gave a name; else 0 */
-    uint64_t count;  /* how many names, entries, bytes or directories, of the calls that say so; else 0 */
+    uint64_t count;  /* how many names, entries, bytes or directories, as the call says; else 0 */
     uint64_t at;     /* how many changes came before the moment of this answer */
-    uint32_t kind;   /* GB_DIR, GB_FILE, GB_LINK; of changes 0 */
+    uint32_t kind;   /* GB_DIR, GB_FILE, GB_LINK; for changes 0 */
     uint32_t why;    /* GB_WHY_NONE, or the cause of GB_AGAIN */
 };
 
@@ -145,9 +147,9 @@ struct gb_entry {
 };
 
 /* What a change took away, so that you can let go of what you keep by inode number: the number and kind of what stood
- * at the name, and 1 if that was its last name (numbers are never used again). It is read under the same hold of the
- * lock, from the tree that the change was then made on. All 0 if nothing went, so also with a refusal and with
- * GB_BUSY; as it was with GB_BAD_PASS and GB_BAD_ARGUMENT. */
+ * at the name, and `last`, which is 1 if that was its last name (numbers are never used again). It is read under the
+ * same hold of the lock, from the tree that the change was then made on. All 0 if nothing went, and so with a refusal
+ * and with GB_BUSY; GB_BAD_PASS and GB_BAD_ARGUMENT leave it as it was. */
 struct gb_gone {
     uint64_t number;
     uint32_t kind;
@@ -157,11 +159,11 @@ struct gb_gone {
 /* Makes a cache and opens its first pass. `buckets`, of four rows each, is a power of two from 1 to 4,194,304. `inodes`
  * is how many may live at once, the root among them, from 1 to 4,294,967,296. A name that is looked up takes a row:
  * with twice as many rows as such names 4 look-ups in 100 miss, with four times as many 4 in 1,000. A row weighs 380
- * bytes, and 64 more once it is filled; if its name has 32 bytes or more, also these and some 45 besides. Rows take
- * their memory here, and 288 bytes more each until the call returns: 4,194,304 buckets take 6.4 GB, and 11.2 meanwhile.
- * In the tree a name weighs some 70 bytes, and one of more than 16 bytes some 90 besides its own, and each some 35 more
- * if names are made in rising order; an inode takes memory when it is made. There may be twice as many names as inodes,
- * in all directories together.
+ * bytes, and 64 more once it is filled; a name of 32 bytes or more adds its own bytes and some 45. This call takes the
+ * memory of all rows, and until it returns 288 bytes more for each: 4,194,304 buckets take 6.4 GB, and 11.2 meanwhile.
+ * In the tree a name of up to 16 bytes weighs some 70 bytes, a longer one its own and some 90 more, and each some 35
+ * more if names are made in rising order; an inode takes memory when it is made. There may be twice as many names as
+ * inodes, in all directories together.
  * The pass must be blank, and no other thread may have its address yet.
  * Proved: the cache is of these sizes, and `blank` is its first pass then.
  * Answers 0, GB_NO_MEMORY, GB_BAD_PASS if the pass is open, GB_BAD_SIZE exactly if the sizes are others. */
@@ -176,7 +178,7 @@ int gb_cache_with_names(uint64_t buckets, uint64_t inodes, uint64_t names, struc
 
 /* Opens one more pass of the cache of `pass`, for any thread. It has seen what `pass` has seen, and gets no older
  * answer. The thread that has `pass` makes the call, and hands the new one over. Takes no lock.
- * Proved: the new pass has half of what `pass` had.
+ * Proved: the new pass has seen what `pass` has, and each has half of the share of the cache that `pass` had.
  * Answers 0, GB_NO_MEMORY, GB_BAD_PASS. */
 int gb_pass_split(struct gb_pass *pass, struct gb_pass *blank);
 
@@ -201,11 +203,11 @@ int gb_close(struct gb_pass *pass);
 int gb_look_fast(struct gb_pass *pass, uint64_t base, const char *path, size_t len, uint32_t follow,
                  struct gb_found *found);
 
-/* Looks a path up by the rows alone, as gb_look_fast, and if they don't answer under the lock, for which it tries once.
- * There the rows that it has just read answer again if none of them has changed, and the tree answers for the names
- * behind them, whose rows are filled for the next look-up as far as there is memory. So a miss is quicker than by
- * gb_look_fast and gb_try_look, which asks the tree for the whole path. It never answers GB_NO_MEMORY. A text that is
- * no path is refused without the lock.
+/* Looks a path up by the rows alone, as gb_look_fast, or else under the lock, for which it tries once. Under the lock
+ * the rows that it has just read answer again if none of them has changed; the tree answers for the names that follow,
+ * and their rows are filled for the next look-up as far as there is memory. So a miss is quicker than by gb_look_fast
+ * and gb_try_look, which asks the tree for the whole path. It never answers GB_NO_MEMORY. A text that is no path is
+ * refused without the lock.
  * Proved: the answer. That rows are asked first, and filled, is tested.
  * Answers 0 with number and kind, a refusal, GB_BUSY, GB_BAD_PASS, GB_BAD_ARGUMENT. */
 int gb_try_resolve(struct gb_pass *pass, uint64_t base, const char *path, size_t len, uint32_t follow,
@@ -218,47 +220,48 @@ int gb_try_resolve(struct gb_pass *pass, uint64_t base, const char *path, size_t
 int gb_try_look(struct gb_pass *pass, uint64_t base, const char *path, size_t len, uint32_t follow,
                 struct gb_found *found);
 
-/* Looks a path up as gb_try_resolve does, and tells its trail: each directory in which the path asks for a name or for
- * dot-dot, up to where it ends, once, by when it asks there first. `/a/../b` asks in the root, in a, and in the root
- * again: its trail is 1 and the number of a. What the texts of links lead through is part of it, and a path that is
- * refused has one too. A relative path asks in `base` first, whether that lives; a dot asks nothing, nor does the
- * root's dot-dot. Writes the trail into `trail`, which has room for `places` numbers. How many it has is in `count`,
- * also with a refusal.
+/* Looks a path up as gb_try_resolve does, and reports its trail: the directories in which the path asks for a name or
+ * for dot-dot, up to where it ends. Each is listed once, in the order in which they are first asked. `/a/../b` asks in
+ * the root, in a, and in the root again: its trail is 1 and the number of a. The trail has what the texts of links lead
+ * through too, and a path that is refused has one as well. A relative path first asks whether `base` lives, so its
+ * trail begins with `base`. A dot asks nothing, nor does the root's dot-dot. Writes the trail into `trail`, which has
+ * room for `places` numbers. `count` is how many the trail has, also with a refusal.
  * It is for a caller that keeps modes by inode number: test search permission in each directory of the trail, and only
- * then tell the answer. If one may not be searched, POSIX wants EACCES, even if the tree refuses the path for a name
- * further on, as by ENOENT.
+ * then hand the answer on. If one may not be searched, POSIX wants EACCES, even if the tree refuses the path for a name
+ * further on, as with ENOENT.
  * Without a link on its way, a path of n names and dot-dots has at most n directories in its trail, or one if n is 0.
- * If there are more than `places`, the answer is GB_NO_ROOM: ask again with more. After that and GB_BUSY what stands in
- * `trail` is no trail. A text that is no path is refused without the lock, and has no trail.
+ * If there are more than `places`, the answer is GB_NO_ROOM: ask again with more. After that and after GB_BUSY what
+ * stands in `trail` is no trail. A text that is no path is refused without the lock, and has no trail.
  * The rows are asked first, without the lock. If they don't answer, it tries for the lock once, asks the tree for the
  * whole path, and fills its rows for the next look-up as far as there is memory. It never answers GB_NO_MEMORY.
  * Under the lock others wait while each directory is compared with those before it: a trail of 2,040 takes a
- * millisecond or so, and filling its rows as long again. By 40 links whose texts have 4,090 bytes each a path may ask
- * in 80,000, and take two seconds; with 2,048 places none takes longer than some 50 milliseconds.
+ * millisecond or so, and filling its rows as long again. Through 40 links whose texts have 4,090 bytes each a path may
+ * ask in 80,000 directories, and take two seconds; with 2,048 places none takes longer than some 50 milliseconds.
  * Proved: number, kind and trail are those of one moment, and with GB_NO_ROOM the trail has more than `places`. What
- * stands behind the trail may change up to `places`, and no further. That rows are asked first, and filled, is tested.
+ * stands in `trail` behind the trail's end may change, up to `places` and no further. That rows are asked first, and
+ * filled, is tested.
  * Answers 0 with number and kind, a refusal, GB_BUSY, GB_NO_ROOM, GB_BAD_PASS, GB_BAD_ARGUMENT. */
 int gb_try_look_along(struct gb_pass *pass, uint64_t base, const char *path, size_t len, uint32_t follow,
                       uint64_t *trail, size_t places, struct gb_found *found);
 
-/* Looks a path up by the rows alone, and tells its trail as gb_try_look_along does, under the terms of gb_look_fast: no
- * lock, no memory, no wait, and a bounded number of loads. If it answers GB_AGAIN or GB_NO_ROOM, what stands in `trail`
- * is no trail, and gb_try_look_along answers.
- * GB_NO_ROOM says that by the rows that it read the trail has more directories than `places`. Whether these rows have
- * changed meanwhile isn't checked then, so `places` may be enough all the same: gb_try_look_along says it exactly.
- * Proved: as of gb_look_fast, and number, kind and trail are those of one moment. What stands behind the trail may
- * change up to `places`, and no further.
+/* Looks a path up by the rows alone, and reports its trail as gb_try_look_along does, under the terms of gb_look_fast:
+ * no lock, no memory, no wait, and a bounded number of loads. If it answers GB_AGAIN or GB_NO_ROOM, what stands in
+ * `trail` is no trail, and gb_try_look_along answers.
+ * GB_NO_ROOM says that, by the rows that it read, the trail has more directories than `places`. It doesn't check then
+ * whether these rows have changed meanwhile, so `places` may still be enough: gb_try_look_along says it exactly.
+ * Proved: as of gb_look_fast, and number, kind and trail are those of one moment. What stands in `trail` behind the
+ * trail's end may change, up to `places` and no further.
  * Answers 0 with number and kind, a refusal, GB_AGAIN, GB_NO_ROOM, GB_BAD_PASS, GB_BAD_ARGUMENT. */
 int gb_look_fast_along(struct gb_pass *pass, uint64_t base, const char *path, size_t len, uint32_t follow,
                        uint64_t *trail, size_t places, struct gb_found *found);
 
-/* Number and kind of what a path leads to, a last link followed, and in `count` how many names it has, or of a
+/* The number and kind of what a path leads to, with a last link followed; `count` is how many names it has, or for a
  * directory how many entries. Takes the lock, and no memory.
  * Proved: all three are those of one moment.
  * Answers 0, a refusal, GB_BUSY, GB_BAD_PASS. */
 int gb_try_stat(struct gb_pass *pass, uint64_t base, const char *path, size_t len, struct gb_found *found);
 
-/* What the rows alone tell of a readlink, under the terms of gb_look_fast: no lock, no memory, no wait. If the path
+/* What the rows alone say of a readlink, under the terms of gb_look_fast: no lock, no memory, no wait. If the path
  * leads to what is no link, or nowhere, it is refused as gb_try_readlink would refuse it. If it leads to a link, the
  * answer is 0 with the link's number, and gb_try_readlink reads its text.
  * Proved: as of gb_look_fast.
@@ -274,19 +277,19 @@ int gb_try_readlink(struct gb_pass *pass, uint64_t base, const char *path, size_
 
 /* The names in a directory, in the order of their bytes, without dot and dot-dot. Writes whole names, each with a zero
  * byte behind it, up to the first that doesn't fit into `room`. `count` is how many bytes all of them take: if that is
- * more than `room`, ask again with more. Takes the lock, and all others wait until every name is read: of 300,000 names
- * 0.2 seconds on a busy machine, of 11 million 18.
+ * more than `room`, ask again with more. Takes the lock, and all others wait until every name is read: for 300,000
+ * names 0.2 seconds on a busy machine, for 11 million 18.
  * Proved: the names are those of one moment, and so are the bytes that are written. The rest of `names` is as it was.
  * Answers 0, a refusal (ENOTDIR), GB_BUSY, GB_NO_MEMORY, GB_BAD_PASS. */
 int gb_try_list(struct gb_pass *pass, uint64_t base, const char *path, size_t len, char *names, size_t room,
                 struct gb_found *found);
 
-/* Where the directory `number` is: its path from the root, as getcwd tells it, by names alone, without a link, a dot or
- * a slash at its end; the root's is a slash. Writes it into `path`, which has room for GB_PATH_MOST bytes or more, and
- * no zero byte behind it. `count` is how many bytes it has. Takes the lock, and no memory. In each directory on the way
- * the names are looked at one after another, up to the one that leads on, while nobody else has the lock.
- * Proved: from the root the names lead to that directory, at the moment of the answer. What stands behind the path may
- * change up to byte GB_PATH_MOST, and no further.
+/* Where the directory `number` is: its path from the root, as getcwd reports it, of names alone, without a link, a dot
+ * or a slash at its end; the root's is a slash. Writes it into `path`, which has room for GB_PATH_MOST bytes or more,
+ * and no zero byte behind it. `count` is how many bytes it has. Takes the lock, and no memory. In each directory on the
+ * way the names are looked at one after another, up to the one that leads on, while nobody else has the lock.
+ * Proved: from the root the names lead to that directory, at the moment of the answer. What stands in `path` behind the
+ * path's end may change, up to byte GB_PATH_MOST and no further.
  * Answers 0 with number and kind, ENOENT if no directory has the number (any more), ENAMETOOLONG if its path has more
  * than GB_PATH_MOST bytes, GB_BUSY, GB_BAD_PASS, GB_BAD_ARGUMENT if `room` is less than GB_PATH_MOST. */
 int gb_try_path_of(struct gb_pass *pass, uint64_t number, char *path, size_t room, struct gb_found *found);
@@ -294,9 +297,9 @@ int gb_try_path_of(struct gb_pass *pass, uint64_t number, char *path, size_t roo
 /* Entries of a directory, each with its number and kind, without dot and dot-dot: those behind the name `after`, or all
  * if `after_len` is 0. Writes the first `room` of them, or all if there are fewer, and `count` is how many it wrote. To
  * read a directory, call again with the last name that was written, until `count` is less than `room`; the name needn't
- * stand there any more. Such a run tells each name that stands in the directory throughout once, whatever else comes
- * and goes meanwhile. Number and kind that are found are those of the directory. Takes the lock, and memory for the
- * entries, for no longer than the call.
+ * stand there any more. Such a run lists each name that stands in the directory throughout once, whatever else comes
+ * and goes meanwhile. `found` has the number and kind of the directory. Takes the lock, and memory for the entries,
+ * which it gives back before it returns.
  * Proved: the entries of one call are those of one moment, in the order of the bytes of their names, the first ones
  * behind `after`, and they are written one after the other from the first on. The rest of `entries` is as it was.
  * Answers 0, a refusal (ENOTDIR), GB_BUSY, GB_NO_MEMORY, GB_BAD_PASS, GB_BAD_ARGUMENT if `room` is 0, or if `after` has
@@ -305,24 +308,25 @@ int gb_try_entries(struct gb_pass *pass, uint64_t base, const char *path, size_t
                    size_t after_len, struct gb_entry *entries, size_t room, struct gb_found *found);
 
 /* The seven changes. Each first looks up the directory of its name by rows, and then takes the lock: for the name alone
- * if the rows answered. Of gb_try_link that is the new name. Of gb_try_rename it is the old one, and the new one too if
- * the same bytes stand before it. A change takes memory for what it makes or moves. A last link is never followed.
+ * if the rows answered. For gb_try_link that is the new name. For gb_try_rename it is the old one, and the new one too
+ * if both paths have the same bytes before their last name. A change takes memory for what it makes or moves. A last
+ * link is never followed.
  * Proved of each: it takes effect at one moment, whole or not at all, and every look-up of any thread is on one side of
  * that moment. If it is out of memory, the tree is as it was. What `gone` says is true of the tree at that moment.
  * They answer 0, a refusal, GB_BUSY, GB_NO_MEMORY, GB_SPENT, GB_BAD_PASS. */
 
-/* Makes an empty directory. Its number is found. */
+/* Makes an empty directory. `found` has its number. */
 int gb_try_mkdir(struct gb_pass *pass, uint64_t base, const char *path, size_t len, struct gb_found *found);
 
-/* Makes a file. Its number is found. */
+/* Makes a file. `found` has its number. */
 int gb_try_create(struct gb_pass *pass, uint64_t base, const char *path, size_t len, struct gb_found *found);
 
-/* Makes a symbolic link with a text. Its number is found. The text is tested as a path is: no zero byte, no name of
+/* Makes a symbolic link with a text. `found` has its number. The text is tested as a path is: no zero byte, no name of
  * more than 255 bytes. */
 int gb_try_symlink(struct gb_pass *pass, uint64_t base, const char *text, size_t text_len, const char *path, size_t len,
                    struct gb_found *found);
 
-/* Gives a file or symbolic link, whose number is found, one more name, of up to 65,000. */
+/* Gives a file or symbolic link one more name, of up to 65,000. `found` has its number. */
 int gb_try_link(struct gb_pass *pass, uint64_t base, const char *old_path, size_t old_len, const char *path, size_t len,
                 struct gb_found *found);
 
@@ -334,7 +338,7 @@ int gb_try_unlink(struct gb_pass *pass, uint64_t base, const char *path, size_t 
 int gb_try_rmdir(struct gb_pass *pass, uint64_t base, const char *path, size_t len, struct gb_found *found,
                  struct gb_gone *gone);
 
-/* Gives what the old path names the new path for its name. `gone` says what stood there and was replaced. It is all 0
+/* Renames what the old path names to the new path. `gone` says what stood at the new path and was replaced. It is all 0
  * if nothing stood there, with GB_EXCHANGE, and if both paths name one file, which changes nothing.
  * Before a directory moves into another one, each directory above that is compared with it, under the lock: 100,000 of
  * them take 5 to 20 milliseconds, a million 200, and four times as long on a busy machine.

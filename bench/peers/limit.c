@@ -9,8 +9,8 @@
  * of a row that it uses it reads all words. With -DWHOLE it clears and packs all 32 words of each name, as it did until
  * November 2026.
  *
- * Behind the rows stands a table of all names, which is read and changed by who has the lock. A change makes the counts
- * of its names' rows odd, adds one to the clock, writes what the rows tell now, and makes the counts even. */
+ * Behind the rows stands a table of all names, which is read and changed by the thread that has the lock. A change makes
+ * the counts of its names' rows odd, adds one to the clock, writes what the rows tell now, and makes the counts even. */
 #define _GNU_SOURCE
 #include "peer.h"
 #include <linux/futex.h>
@@ -265,8 +265,8 @@ static enum answer walk(const char *path, size_t length)
     return told.kind == NONE ? ABSENT : FOUND;
 }
 
-/* Takes the lock. Who finds it taken looks again after pauses that double, so that its holder has the word to itself,
- * and sleeps in the end. */
+/* Takes the lock. A thread that finds it taken looks again after pauses that double, so that its holder has the word to
+ * itself, and sleeps in the end. */
 static void take(void)
 {
     for (int i = 0; i < TRIES; i++) {

@@ -141,7 +141,7 @@ static void make_order(void)
         order[i] = asked[draw() % asked_count];
 }
 
-/* The files that a thread changes: every so many of those that are asked, names beside them, or one in the root. */
+/* The files that a thread changes: every n-th of those that are asked, names beside them, or one in the root. */
 static void own(struct worker *worker)
 {
     char first[32], second[32];

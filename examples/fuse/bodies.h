@@ -55,7 +55,7 @@ struct body *body_of(uint64_t number);
 /* One use more of a body that the caller has. */
 void body_keep(struct body *body);
 
-/* Ends so many uses of it. `gone`: its last name was taken away. The last to let go of what has gone ends it. */
+/* Ends this many uses of it. `gone`: its last name was taken away. The last to let go of what has gone ends it. */
 void body_let_go(struct body *body, uint64_t uses, bool gone);
 
 /* Of a body that is locked. What it grows by are zeros, which take no memory. */

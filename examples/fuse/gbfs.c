@@ -2,7 +2,7 @@
  *
  * usage: gbfs [-o size=BYTES] [-o permissions] [libfuse's options] MOUNTPOINT
  *
- * The kernel asks for one name in a directory at a time, by the directory's inode number, and is told to keep none, but for
+ * The kernel asks for one name in a directory at a time, by the directory's inode number, and may keep none but
  * those of a listing (listings.c): so each name on a path is a look-up here, first by rows alone, and if these don't answer
  * under the lock. What the tree doesn't keep is in bodies (bodies.c). A body stays as long as the kernel may ask for its
  * number, also without a name.

@@ -1,6 +1,6 @@
 /* Open directories. A reply has the entries of one page, which is read within that request. The kernel lets no name of the
- * directory change while it asks, so it may keep what is told with attributes: it changes what it kept by itself later.
- * Entries of an earlier page may lead elsewhere by now, and so none is told.
+ * directory change while it asks, so it may keep what is listed with attributes: it changes what it kept by itself later.
+ * Entries of an earlier page may lead elsewhere by now, and so none is listed.
  *
  * An entry's offset has its place in the reply, and a mark of its name. An open directory keeps the names of the last reply,
  * by which the kernel goes on: behind a name, whether that stands there still or not. If a program seeks further back, the

@@ -144,7 +144,7 @@ static bool found(fuse_ino_t directory, const char *name, struct stat *attribute
     return true;
 }
 
-/* From a sticky directory a name is taken by the owner of either. Who takes away nothing is told so by the tree. */
+/* From a sticky directory a name is taken by the owner of either. If there is nothing to take away, the tree says so. */
 static int may_take(fuse_req_t request, fuse_ino_t directory, const char *name)
 {
     struct stat above, below;

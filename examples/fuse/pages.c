@@ -91,7 +91,7 @@ static char *page_made(struct pages *pages, uint64_t page)
     }
 }
 
-/* How many of so many bytes stand in the page of the first. */
+/* How many of this many bytes stand in the page of the first. */
 static size_t in_page(uint64_t at, size_t count)
 {
     size_t left = PAGE - at % PAGE;

@@ -25,7 +25,7 @@ void pages_read(const struct pages *pages, char *to, size_t count, uint64_t from
 /* Answers how many bytes were written: fewer if memory or the limit doesn't allow more. */
 size_t pages_write(struct pages *pages, const char *bytes, size_t count, uint64_t at);
 
-/* Cuts off what is behind so many bytes. */
+/* Cuts off what is behind this many bytes. */
 void pages_cut(struct pages *pages, uint64_t size);
 
 #endif

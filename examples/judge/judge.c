@@ -2,7 +2,7 @@
  *
  * usage: judge DIR [--threads N] [--seconds S] [--calls N] [--seed N] [--depth N] [--mix CALL=N,..]
  *
- * It makes a folder of its own below DIR, works nowhere else, and removes it, also after a fault and when it is told
+ * It makes a folder of its own below DIR, works nowhere else, and removes it, also after a fault and when it has
  * to stop (SIGINT, SIGTERM, SIGHUP). The trace (docs/FORMATS.md) goes to standard output, that folder its root. It ends
  * with 0; with 2 for wrong words; with 3 if memory or a thread was refused; with 4 if a call failed by no fault of its
  * path (EIO, ENOSPC, EINTR ..), the folder can't be made or removed, or the trace not be written; or told to stop, by
@@ -92,7 +92,7 @@ static struct {
     struct actor actors[MOST_THREADS];
 } judge = {.threads = 4, .seconds = 1, .calls = MANY_CALLS, .seed = 1, .depth = DEEPEST};
 
-/* Ends the recording. The first fault is told. */
+/* Ends the recording. The first fault is reported. */
 __attribute__((format(printf, 2, 3))) static void fail(int status, const char *form, ...)
 {
     int none = 0;
@@ -212,8 +212,8 @@ static void perform(struct call *call)
     call->mode = found.st_mode;
 }
 
-/* The errors that are of the tree of names, so that they belong into the trace, and those by which a mount tells that
- * it hasn't a call, or not what was to be made for it. */
+/* The errors that are of the tree of names, so that they belong into the trace, and those by which a mount says that
+ * it doesn't have a call, or not what was to be made for it. */
 static const char of_names[] = {EPERM, ENOENT, EBUSY, EEXIST, ENOTDIR, EISDIR, EINVAL, EMLINK, ENAMETOOLONG, ENOTEMPTY,
     ELOOP, 0};
 static const char of_lacks[] = {EPERM, ENOSYS, EOPNOTSUPP, EINVAL, EMLINK, ENOENT, 0};

@@ -46,7 +46,7 @@ static void must(int right, const char *what)
     }
 }
 
-/* A path: the top, so many times d, and a last name where there is one. */
+/* A path: the top, this many times d, and a last name if there is one. */
 static void write_path(char *path, const char *top, int depth, const char *last)
 {
     size_t used = (size_t)snprintf(path, LONGEST_PATH, "%s", top);

@@ -64,7 +64,7 @@ static long now(void)
     return time.tv_sec * 1000000000L + time.tv_nsec;
 }
 
-/* A path: the top, so many times d, and a last name where there is one. */
+/* A path: the top, this many times d, and a last name if there is one. */
 static void write_path(char *path, const char *top, int depth, const char *last)
 {
     size_t used = (size_t)snprintf(path, LONGEST_PATH, "%s", top);

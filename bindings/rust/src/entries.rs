@@ -136,7 +136,7 @@ impl FusedIterator for Entries<'_> {}
 impl Pass {
     /// The entries of a directory with their numbers and kinds, in the order of the bytes of their names, without dot
     /// and dot-dot. They are read some at a time, so that nobody waits for all of a large directory: those that are
-    /// read at once are of one moment, and each name that stands there throughout is told once. Later ones are read
+    /// read at once are of one moment, and each name that stands there throughout is listed once. Later ones are read
     /// from the same directory even if it was renamed; if it was taken away, the answer is ENOENT.
     ///
     /// ```

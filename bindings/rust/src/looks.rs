@@ -157,15 +157,17 @@ impl Pass {
         .map(Found::of)
     }
 
-    /// Looks a path up, by the rows, or if these don't answer under the lock, which fills them; and tells its trail: each
-    /// directory in which the path asks for a name or for dot-dot, up to where it ends, once, by when it asks there first.
+    /// Looks a path up, by the rows, or if these don't answer under the lock, which fills them; and tells its trail: the
+    /// directories in which the path asks for a name or for dot-dot, up to where it ends, each once, in the order in
+    /// which they are first asked.
     /// `trail` has that and nothing else then, also if the path is refused; after another error it is empty. A relative
-    /// path asks in `base` first, whether that lives. It isn't counted among the [`looks`](Pass::looks).
+    /// path first asks whether `base` lives, so its trail begins with `base`. It isn't counted among the
+    /// [`looks`](Pass::looks).
     ///
     /// It is for a caller that keeps modes by inode number, and tests search permission in each of these directories
     /// before it tells the answer. If one may not be searched, POSIX wants EACCES, even if the tree refuses the path for a
-    /// name further on. If the rows don't answer, all others wait until the trail is told: by 40 links whose texts have
-    /// 4,090 bytes each a path may ask in 80,000 directories, which takes seconds.
+    /// name further on. If the rows don't answer, all others wait until the trail is found: through 40 links whose texts
+    /// have 4,090 bytes each a path may ask in 80,000 directories, which takes seconds.
     ///
     /// ```
     /// # use gigbewu::{Cache, Follow, ROOT};

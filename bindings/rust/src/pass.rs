@@ -27,7 +27,7 @@ impl Shared {
         }
     }
 
-    /// Opens a blank pass. A thread that finds no spare waits for one, and makes one more, since so many ask at once.
+    /// Opens a blank pass. A thread that finds no spare waits for one, and makes one more, since that many ask at once.
     fn open(&self, blank: &mut raw::Pass) -> c_int {
         let mut answer = self.spares.open(blank);
         if answer == raw::BUSY {

@@ -1,8 +1,10 @@
 //! The static library for programs in C: each function calls the proved call of its name.
 //!
 //! A handle is one pointer, null while it is blank, and owns a hold on a cache (`dc_hold::Hold`). Each
-//! function takes the hold out of its handle, calls, and puts it back, so that a handle in a call is blank,
-//! and a second call with it is answered `BadPass`. Each returns what `Status::number` says.
+//! function takes the hold out of its handle, calls, and puts it back, so that a handle in a call is blank. A
+//! second call with it meanwhile breaks the header's rules: it is answered `BadPass` if it finds the handle
+//! blank, but the two may also read the pointer at the same moment, and then both have the hold. Each returns
+//! what `Status::number` says.
 #![tactic(auto)]
 
 mod along;

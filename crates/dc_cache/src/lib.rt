@@ -68,11 +68,11 @@
 //! | `change` | waits, once | for what it makes or moves | `NoMemory`, `Spent` |
 //! | `shrink` | waits, once | none | never |
 //!
-//! A `try_` call tries for the lock once; if that is held, it watches it for a few microseconds before. It
-//! answers `None` if another pass has it, and then nothing at all has changed; a `try_resolve` or a change
-//! has then read rows, and may have seen a later clock, but records nothing. Else it answers as the call
-//! that waits. `try_look` asks the tree for the whole path, so a caller asks the rows first, by `look_fast`,
-//! which takes no lock; `try_resolve` does both.
+//! A `try_` call tries for the lock once; if the lock is held, the call first watches it for a few
+//! microseconds. It answers `None` if another pass has it still, and then nothing at all has changed; a
+//! `try_resolve` or a change has then read rows, and may have seen a later clock, but records nothing. Else
+//! it answers as the call that waits. `try_look` asks the tree for the whole path, so a caller asks the rows
+//! first, by `look_fast`, which takes no lock; `try_resolve` does both.
 //!
 //! A call that waits takes `rt`, a runtime that can put a thread to sleep (the bound `Wait`); the type of
 //! a call without it says that it returns. A call that may take memory takes `alloc`, the allocator. If
@@ -107,14 +107,13 @@
 //! text that is no path is refused so by every call (ENOENT if it is empty, ENAMETOOLONG, EINVAL for a
 //! zero byte); `parse`, which `look_fast` wants called first, says the same as `TextFault`.
 //!
-//! Faults are no answers: nothing is recorded. `MakeFault` comes from `new`, `with_buckets` and
-//! `with_names` alone.
-//! `ChangeFault::Spent` says that the tree was altered 2^62 times. `Why` is the cause of an `Again`:
+//! Faults are no answers: nothing is recorded. `MakeFault` comes from `new`, `with_buckets` and `with_names`
+//! alone. `ChangeFault::Spent` says that the tree was altered 2^62 times. `Why` is the cause of an `Again`:
 //! `Miss` and `Link` if no row has the name or the link's text, `Busy` and `Changed` if a change came
-//! between, `Long` if more than 256 rows would be used (no name is too long for a row),
-//! `Memory` from `look_counted`. After `Busy` and `Changed` a second `look_fast` may well answer; after
-//! the others only a call that takes the lock does: `look_missed`, or `try_look`, and both fill the rows.
-//! If many look-ups miss, ask `resolve` or `try_resolve` at once: a miss is quicker by them.
+//! between, `Long` if more than 256 rows would be used (no name is too long for a row), `Memory` from
+//! `look_counted`. After `Busy` and `Changed` a second `look_fast` may well answer; after the others only a
+//! call that takes the lock does: `look_missed`, or `try_look`, and both fill the rows. If many look-ups
+//! miss, ask `resolve` or `try_resolve` at once: a miss is quicker by them.
 #![tactic(auto)]
 
 mod along;

@@ -1,5 +1,5 @@
 //! The calls that never wait: look-ups by rows alone, and each call whose name begins with `try_`, which
-//! tries for the lock once, and watches it for a few microseconds before if it is held.
+//! tries for the lock once. If the lock is held, it first watches it for a few microseconds.
 
 ghost use Rattle.std.specs.Prelude.{◌≡◌, ◌≢◌, ◌⊎◌, ◌≤◌, ◌+◌, [], None, Some, IfSome, IfNone, IsSome};
 ghost use Rattle.dc_cache.specs.Answers.{Answered, IfFast, IsDone, Made, Told};

@@ -1,4 +1,4 @@
-//! Where a directory is.
+//! The path of a directory, found from its number: under the lock, from the directory up to the root.
 
 ghost use Rattle.std.specs.Prelude.{◌≡◌, ◌<◌, IfNone, IfOk, IfSome};
 ghost use Rattle.dc_cache.specs.Holds.{KeepsRows, ReadsOnce};

@@ -82,8 +82,8 @@ impl Hold {
         Ok(Hold { common, pass })
     }
 
-    /// Whether another hold is of the same cache. It says so of each that is. Of one that isn't it says so
-    /// only if holds of that one's cache are compared in another thread at the same moment.
+    /// Whether another hold is of the same cache. If it is, the answer is always `true`. If it isn't, that is
+    /// the answer only if holds of its cache are compared in another thread at the same moment.
     #[must_use]
     pub fn shares_with(&self, other: &Hold) -> bool {
         // The first number is read before this cache's number grows: else a hold of this cache would find
@@ -324,7 +324,7 @@ impl Hold {
         ensures seen { result.1 ≤ (view self.new.pass).book.seen }
         ensures come { (result.0 ≡ true) ↔ (at ≤ result.1) }
     {
-        // It says how many these are only as it says that they are too few.
+        // `NotYet` alone has the number of them, so what is asked for is a point that never comes.
         let clock = match self.common.cache.learn(&mut self.pass, u64::MAX) {
             Ok(()) => u64::MAX,
             Err(NotYet(clock)) => clock,

@@ -25,7 +25,8 @@ pub enum Status {
     BadSize,
     /// A blank pass for an open one, an open one for a blank one, or one of another cache.
     BadPass,
-    /// A number that says neither how a link is followed nor how a rename may go.
+    /// A number that says neither how a link is followed nor how a rename may go, no room for a path or for
+    /// entries, or bytes in the place of a name that are none.
     BadArgument,
     /// The tree has not been altered this often yet.
     NotYet,

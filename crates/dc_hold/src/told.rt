@@ -14,7 +14,8 @@ use dc_cache::{ChangeFault, Fast, FastLink, Kind, NoMemory, Reply, Stamped, Why}
 pub struct Found {
     /// The number of the inode that was found or made.
     pub number: u64,
-    /// How many names or entries it has, or how many bytes a text or names take.
+    /// How many names or entries it has; how many bytes a text, names or a path take; how many entries were
+    /// written; how many directories a trail has. What it is, the call says.
     pub count: u64,
     /// The point: how many changes came before the answer.
     pub at: u64,

@@ -1,4 +1,4 @@
-//! The guard of the rows: the lock, while all rows rest on the tree.
+//! The lock as a value that a pass has between two changes. `locking` has how it is got and given back.
 
 ghost use Rattle.dc_table.specs.Holders.{pass_of};
 ghost use Rattle.dc_table.specs.Passes.{known};

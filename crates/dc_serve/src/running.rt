@@ -15,7 +15,7 @@ use std::sync::Wait;
 use std::thread::Threads;
 
 /// What the lines of the input say. The sizes are tested first; then the input is read whole, by at most
-/// 1,048,578 reads, and each of its lines. It has no handle, so it waits for nobody and is proved to
+/// 1,048,578 reads, and each of its lines. It takes no runtime, so it waits for nobody and is proved to
 /// return, whatever the reader does. `BadSize` comes exactly if a size is wrong, and `BadLine` of the
 /// first line that is none of the grammar. `Read` is for a read that fails and an input of more than
 /// `MOST_INPUT` bytes, `NoMemory` for memory that was refused: no clause says when these two come.
@@ -38,10 +38,10 @@ pub fn understand<R: Read>(
 }
 
 /// Answers the commands of the input, which `understand` reads. In a phase each session that has lines is
-/// served in a thread of its own, the lowest in the one that calls; it calls the gate round each command.
-/// Threads take a lock and are joined, so all that is said holds if they get on. The replies of a phase
-/// are written, by session and line, before the next phase begins, and the writer is flushed once, after
-/// the last.
+/// served in a thread of its own, the lowest in the one that calls; the gate is called before and after each
+/// command. Threads wait for a lock and are joined, so the clauses hold if it returns, and none says that it
+/// does. The replies of a phase are written, by session and line, before the next phase begins, and the
+/// writer is flushed once, after the last.
 ///
 /// The clauses say what is written then, whichever the answer is, and of the faults: `BadSize` comes
 /// exactly if a size is wrong, before anything is read; `BadLine` of the first bad line of an input

@@ -79,7 +79,7 @@ fn tell_rows<R: Wait, G: Gate>(rt: &R, cache: &Dcache, pass: &mut Pass, options:
     ensures nothing { NothingNew (view pass.old) (view pass.new) }
 {
     if options.stats {
-        // What is emptied was filled: the cache tells of its rows in no other way.
+        // What is emptied was filled, and no session needs it any more. `Counts` would have the number, too.
         gate.ended(cache.shrink(rt, pass, u64::MAX), cache.counts());
     }
 }

@@ -1,9 +1,10 @@
 //! Walks over the shared table: `walk_fast` takes no lock and no memory, and never waits; `walk_counted`
 //! fills and pins the rows that it needs, each under the lock; `walk_locked` asks the tree itself. The
-//! first two are one walk over two sources of rows, so what one of them reads and checks the other
-//! does. The walk's small functions are inlined, each for one reason, which was measured: a call of it
-//! hands the words of a row, or what stands for a key, through memory. The compiler drops the mark if a
-//! function grows too long by it: then `nm` shows a `find_hashed` that is a `Walker`'s.
+//! first two are one walk over two sources of rows, so what one of them reads and checks the other does.
+//! `walk_briefly` is the first without the reason why it gives up. The walk's small functions are
+//! inlined, each for one reason, which was measured: a call of it hands the words of a row, or what
+//! stands for a key, through memory. The compiler drops the mark if a function grows too long by it: then
+//! `nm` shows a `find_hashed` that is a `Walker`'s.
 #![tactic(auto)]
 
 mod along;

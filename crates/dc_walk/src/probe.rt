@@ -48,8 +48,8 @@ pub(crate) struct Noted {
     pub top: Top,
 }
 
-/// Whether a row may tell of a key, by its head and its number alone. Nothing rests on it but time:
-/// before a walk gives up for a key it reads the rows whole.
+/// Whether a row may tell of a key, by its head and its number alone. Nothing rests on it but time: a walk
+/// that says why it gives up for a key reads the rows whole before, and a brief one says nothing of them.
 #[inline(always)]
 pub(crate) fn may_tell(top: Top, key: Key<'_>) -> bool {
     let (tag, text) = match key.label {

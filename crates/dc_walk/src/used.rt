@@ -125,7 +125,7 @@ impl Room {
         self.rows[at].place
     }
 
-    /// The first words of a row that was kept, with zeros past which it is whole.
+    /// The first words of a row that was kept. All its words past them are zero.
     #[inline(always)]
     pub(crate) fn words_at(&self, at: usize) -> &[u64]
         requires kept { at < length self.now.items }

@@ -81,7 +81,7 @@ pub(crate) fn walk_rows<'x, S: Source>(
 }
 
 /// Walks by the rows of buckets, as `walk_rows` if it is brief.
-// Kept out of line: two walks share it, and neither is as much in haste as `walk_fast`.
+// Kept out of line: two walks share it, and neither is called as often as `walk_fast`.
 #[inline(never)]
 pub(crate) fn walk_rows_briefly<'x>(
     reader: Reader<'x>,
