@@ -14,7 +14,8 @@ def spread(values, digits=2):
     if len(values) < 2:
         return f"{values[0]:.{digits}f}" if values else "-"
     low, middle, high = statistics.quantiles(values, n=4, method="inclusive")
-    return f"{middle:.{digits}f} ({low:.{digits}f}-{high:.{digits}f})"
+    to = " to " if low < 0 else "-"
+    return f"{middle:.{digits}f} ({low:.{digits}f}{to}{high:.{digits}f})"
 
 
 def number(value, digits=0):
