@@ -3,8 +3,8 @@
  * usage: along [ROUNDS]
  *
  * One thread looks a file up by gb_look_fast and gb_look_fast_along in turns, 20,000 times each, by paths of one, four
- * and eight names, in ROUNDS rounds, 101 unless given. Prints the median nanoseconds of both in the thread's own time,
- * and the median of the ratios of the turns with their quartiles in brackets.
+ * and eight names, in ROUNDS rounds, 101 unless given. Prints a table of the median nanoseconds of both in the thread's
+ * own time, and of the median of the ratios of the turns with their quartiles in brackets.
  */
 #include <gigbewu.h>
 #include <stdio.h>
@@ -72,7 +72,7 @@ static void measure(struct gb_pass *pass, const char *path, int names, int round
         ratios[round] = along[round] / plain[round];
     }
     double median = at_quarter(ratios, rounds, 2);
-    printf("%d names: %.1f ns, with its trail %.1f ns, %.2f (%.2f-%.2f)\n", names, at_quarter(plain, rounds, 2),
+    printf("%d %-7s  %7.1f  %14.1f  %.2f (%.2f-%.2f)\n", names, names > 1 ? "names" : "name", at_quarter(plain, rounds, 2),
            at_quarter(along, rounds, 2), median, at_quarter(ratios, rounds, 1), at_quarter(ratios, rounds, 3));
 }
 
@@ -84,6 +84,7 @@ int main(int words, char **word)
     struct gb_pass pass = {0};
     struct gb_found found;
     must(gb_cache_new(BUCKETS, INODES, &pass) == 0, "gb_cache_new");
+    printf("%-9s  %7s  %14s  %s\n", "trails", "without", "with its trail", "times as long");
     for (size_t at = 0; at < sizeof DEPTHS / sizeof *DEPTHS; at++) {
         char path[64] = "";
         for (int name = 1; name < DEPTHS[at]; name++) {

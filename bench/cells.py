@@ -18,6 +18,8 @@ Cell = collections.namedtuple("Cell", "work depth hot buckets", defaults=(1_000,
 Tree = collections.namedtuple("Tree", "work names order buckets")
 CHANGES = Cell("change", 1)
 LINKS = [Cell("links", 4), Cell("links", 8)]
+# Who follows links, beside the walk by hand.
+FOLLOWING = (CACHE, FROM_C, TMPFS)
 READS = [Cell("read", 1), Cell("read", 4), Cell("read", 8)]
 COMPARED = [*READS, Cell("absent", 4), Cell("mixed", 4), Cell("churn", 4), CHANGES]
 DEPTHS = (1, 2, 4, 8)

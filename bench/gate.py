@@ -19,6 +19,10 @@ import sys
 import threading
 import time
 
+sys.path.insert(0, str(pathlib.Path(__file__).resolve().parent))
+sys.dont_write_bytecode = True
+from results import commit  # noqa: E402
+
 PARTS = ("proofs", "tests", "first", "edits", "the rest")
 TICKS = os.sysconf("SC_CLK_TCK")
 CRATE = re.compile(r"--crate-name (\w+)")
@@ -91,7 +95,7 @@ def table(told, clock):
     for crate in sorted(rows, key=lambda it: -sum(rows[it])):
         yield line(crate, rows[crate])
     yield line("in all", [sum(it) for it in zip(*rows.values())])
-    yield f"{clock / 60:.1f} minutes by the clock, {len(os.sched_getaffinity(0))} processors"
+    yield f"{clock / 60:.1f} minutes by the clock, {len(os.sched_getaffinity(0))} processors, commit {commit()}"
 
 
 def main():

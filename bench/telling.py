@@ -5,8 +5,8 @@ import statistics
 
 from building import FROM_C, LIMIT, OPENS, TMPFS
 from cells import (
-    CACHE, CHANGES, COMPARED, COUNTS, CROWD, DEPTHS, HOT, LINKS, ONE_HOLD, READS, SIZES, WIDE, WIDE_FROM_C, WIDE_LIMIT,
-    Cell, hot_names, tree_cells, tree_names,
+    CACHE, CHANGES, COMPARED, COUNTS, CROWD, DEPTHS, FOLLOWING, HOT, LINKS, ONE_HOLD, READS, SIZES, WIDE, WIDE_FROM_C,
+    WIDE_LIMIT, Cell, hot_names, tree_cells, tree_names,
 )
 
 def spread(values, digits=2):
@@ -14,7 +14,8 @@ def spread(values, digits=2):
     if len(values) < 2:
         return f"{values[0]:.{digits}f}" if values else "-"
     low, middle, high = statistics.quantiles(values, n=4, method="inclusive")
-    return f"{middle:.{digits}f} ({low:.{digits}f}-{high:.{digits}f})"
+    to = " to " if low < 0 else "-"
+    return f"{middle:.{digits}f} ({low:.{digits}f}{to}{high:.{digits}f})"
 
 
 def number(value, digits=0):
@@ -51,8 +52,9 @@ def show_calls(measured, programs):
     by_threads(names, lambda name, cell, n: number(measured.rate(name, cell, n), 2))
     if LIMIT in names:
         print("Time of a look-up through a link, as a multiple of the walk by hand, one thread:\n")
-        cells = [spread(measured.ratio(CACHE, cell)) for cell in LINKS]
-        table(["links", *(counted(cell.depth, "name") for cell in LINKS)], [[CACHE, *cells]])
+        follow = [name for name in names if name in FOLLOWING]
+        rows = [[name, *(spread(measured.ratio(name, cell)) for cell in LINKS)] for name in follow]
+        table(["links", *(counted(cell.depth, "name") for cell in LINKS)], rows)
     if FROM_C in names:
         print("Nanoseconds that a look-up from C takes more than one of the same text in the benchmark, one thread:\n")
         cells = [spread(measured.figures["texts", cell.depth], 1) for cell in READS]

@@ -40,8 +40,8 @@
  * watches it for a few microseconds. If the lock is held still, it answers GB_BUSY: then the tree is as it was, and the
  * call has no answer. The blocking forms at the end of this file (gb_look, gb_mkdir, ..) try again, and sleep
  * meanwhile. Most calls have the lock for a microsecond or less. The longest path, through 40 links whose texts have
- * 4,090 bytes each, takes 10 milliseconds under it, a rename with two such paths 25, and a list of a million names half
- * a second, while others wait: if you don't trust those who make links, refuse long texts.
+ * 4,090 bytes each, takes 10 to 20 milliseconds under it, a rename with two such paths 25 to 50, and a list of a million
+ * names 200 to 500, while others wait: if you don't trust those who make links, refuse long texts.
  *
  * A path is `len` bytes, without a zero byte at its end. `base` is the number of the directory from which a relative
  * path starts. Names have up to 255 bytes, paths up to 4,095, and one path may pass 40 links. Names may come from
@@ -158,7 +158,7 @@ struct gb_gone {
 
 /* Makes a cache and opens its first pass. `buckets`, of four rows each, is a power of two from 1 to 4,194,304. `inodes`
  * is how many may live at once, the root among them, from 1 to 4,294,967,296. A name that is looked up takes a row:
- * with twice as many rows as such names 4 look-ups in 100 miss, with four times as many 4 in 1,000. A row weighs 380
+ * with twice as many rows as such names 3 or 4 look-ups in 100 miss, with four times as many 1. A row weighs 380
  * bytes, and 64 more once it is filled; a name of 32 bytes or more adds its own bytes and some 45. This call takes the
  * memory of all rows, and until it returns 288 bytes more for each: 4,194,304 buckets take 6.4 GB, and 11.2 meanwhile.
  * In the tree a name of up to 16 bytes weighs some 70 bytes, a longer one its own and some 90 more, and each some 35
@@ -234,9 +234,9 @@ int gb_try_look(struct gb_pass *pass, uint64_t base, const char *path, size_t le
  * stands in `trail` is no trail. A text that is no path is refused without the lock, and has no trail.
  * The rows are asked first, without the lock. If they don't answer, it tries for the lock once, asks the tree for the
  * whole path, and fills its rows for the next look-up as far as there is memory. It never answers GB_NO_MEMORY.
- * Under the lock others wait while each directory is compared with those before it: a trail of 2,040 takes a
- * millisecond or so, and filling its rows as long again. Through 40 links whose texts have 4,090 bytes each a path may
- * ask in 80,000 directories, and take two seconds; with 2,048 places none takes longer than some 50 milliseconds.
+ * Under the lock others wait while each directory is compared with those before it, so the time grows with the square
+ * of the trail's length. Through 40 links whose texts have 4,090 bytes each a path may ask in 80,000 directories; with
+ * 2,048 places none takes longer than some 50 to 70 milliseconds.
  * Proved: number, kind and trail are those of one moment, and with GB_NO_ROOM the trail has more than `places`. What
  * stands in `trail` behind the trail's end may change, up to `places` and no further. That rows are asked first, and
  * filled, is tested.
@@ -277,8 +277,8 @@ int gb_try_readlink(struct gb_pass *pass, uint64_t base, const char *path, size_
 
 /* The names in a directory, in the order of their bytes, without dot and dot-dot. Writes whole names, each with a zero
  * byte behind it, up to the first that doesn't fit into `room`. `count` is how many bytes all of them take: if that is
- * more than `room`, ask again with more. Takes the lock, and all others wait until every name is read: for 300,000
- * names 0.2 seconds on a busy machine, for 11 million 18.
+ * more than `room`, ask again with more. Takes the lock, and all others wait until every name is read: for a million
+ * names 0.2 to 0.5 seconds, for ten million 1.6.
  * Proved: the names are those of one moment, and so are the bytes that are written. The rest of `names` is as it was.
  * Answers 0, a refusal (ENOTDIR), GB_BUSY, GB_NO_MEMORY, GB_BAD_PASS. */
 int gb_try_list(struct gb_pass *pass, uint64_t base, const char *path, size_t len, char *names, size_t room,
@@ -341,7 +341,7 @@ int gb_try_rmdir(struct gb_pass *pass, uint64_t base, const char *path, size_t l
 /* Renames what the old path names to the new path. `gone` says what stood at the new path and was replaced. It is all 0
  * if nothing stood there, with GB_EXCHANGE, and if both paths name one file, which changes nothing.
  * Before a directory moves into another one, each directory above that is compared with it, under the lock: 100,000 of
- * them take 5 to 20 milliseconds, a million 200, and four times as long on a busy machine.
+ * them take 5 to 20 milliseconds, a million 200.
  * Answers GB_BAD_ARGUMENT too. */
 int gb_try_rename(struct gb_pass *pass, uint64_t base, const char *old_path, size_t old_len, const char *path,
                   size_t len, uint32_t flags, struct gb_found *found, struct gb_gone *gone);

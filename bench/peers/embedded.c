@@ -53,6 +53,12 @@ int peer_make(char kind, const char *path)
     return gb_create(&gate, &own, ROOT, path, strlen(path), &found) == 0;
 }
 
+int peer_link(const char *text, const char *path)
+{
+    struct gb_found found;
+    return gb_symlink(&gate, &own, ROOT, text, strlen(text), path, strlen(path), &found) == 0;
+}
+
 int peer_rename(const char *old, const char *new)
 {
     struct gb_found found;

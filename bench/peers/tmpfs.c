@@ -7,6 +7,7 @@
 #include <ftw.h>
 #include <stdio.h>
 #include <stdlib.h>
+#include <string.h>
 #include <sys/stat.h>
 #include <unistd.h>
 
@@ -43,6 +44,12 @@ int peer_make(char kind, const char *path)
 #else
     return mknodat(top, path + 1, S_IFREG | 0600, 0) == 0;
 #endif
+}
+
+/* The text begins at the root, where the link has to stand, as it is relative here. */
+int peer_link(const char *text, const char *path)
+{
+    return !strchr(path + 1, '/') && symlinkat(text + 1, top, path + 1) == 0;
 }
 
 int peer_rename(const char *old, const char *new)
