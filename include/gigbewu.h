@@ -416,7 +416,7 @@ struct gb_gate {
 /* How often a call is tried with pauses in between, and then with yields, before its thread sleeps. The first pause is
  * of GB_FIRST_PAUSES instructions, and the next ones double: a try takes the lock's cache line from its holder, who
  * then waits for it. GB_PATIENCE milliseconds after its first yield or sleep a thread takes a ticket. */
-enum { GB_PAUSES = 20, GB_YIELDS = 16, GB_FIRST_PAUSES = 64, GB_DOUBLINGS = 5, GB_PATIENCE = 4 };
+enum { GB_PAUSES = 9, GB_YIELDS = 16, GB_FIRST_PAUSES = 128, GB_DOUBLINGS = 6, GB_PATIENCE = 4 };
 
 /* How many rows gb_shrink empties under one hold of the lock. */
 enum { GB_PORTION = 1024 };

@@ -8,10 +8,10 @@ use std::sync::{Condvar, Mutex, MutexGuard, PoisonError};
 use std::time::{Duration, Instant};
 use std::{hint, thread};
 
-pub(crate) const PAUSES: u32 = 20;
+pub(crate) const PAUSES: u32 = 9;
 pub(crate) const YIELDS: u32 = 16;
-pub(crate) const FIRST_PAUSES: u32 = 64;
-pub(crate) const DOUBLINGS: u32 = 5;
+pub(crate) const FIRST_PAUSES: u32 = 128;
+pub(crate) const DOUBLINGS: u32 = 6;
 pub(crate) const PATIENCE: Duration = Duration::from_millis(4);
 
 #[derive(Default)]

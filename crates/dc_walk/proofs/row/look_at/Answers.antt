@@ -29,10 +29,7 @@ pub returns-in-Head : goal.returns-in-Head
 returns-in-Head c = let top = c.in-Some.top in let out = c.in-Some.ensures.same in let same = out.same in record {
   on = looks_read (same_step refl refl refl refl refl same) out c.args.row top.count (top.head ∷ top.number ∷ []) c.in-Some.ensures.read;
   slow = refl;
-  saw = (
-    failed_read c.args.row (key_in c.args.sought.now) c.args.earlier c.args.before (same_step refl refl refl refl refl same) out refl c.requires.may.finding top.count (top.head ∷ top.number ∷ []) (omega arith) refl c.in-Some.ensures.read refl refl refl,
-    c.in-Head.is,
-  );
+  saw = (failed_read c.args.row (key_in c.args.sought.now) c.args.earlier c.args.before (same_step refl refl refl refl refl same) out refl c.requires.may.finding top.count (top.head ∷ top.number ∷ []) (omega arith) refl c.in-Some.ensures.read refl refl refl, c.in-Head.is);
 }
 
 pub returns-in-Other : goal.returns-in-Other
@@ -40,10 +37,7 @@ returns-in-Other c = let out = stays_again c.in-Some.ensures.same c.in-Other.ens
     let taken = c.in-Other.ensures.takes (now_in c.args.rows.now) c.in-Some.ensures.read in let words = taken.0 in let whole = taken.1 in let size = rest_size words whole.size in record {
       on = looks_read (same_step refl refl refl refl refl same) out c.args.row (get_or words 0 0) (drop 1 words) whole.read;
       slow = refl;
-      saw = (
-        failed_read c.args.row (key_in c.args.sought.now) c.args.earlier c.args.before (same_step refl refl refl refl refl same) out refl c.requires.may.finding (get_or words 0 0) (drop 1 words) (omega arith) refl whole.read taken.3 taken.4 refl,
-        other_so c.args.row words (key_in c.args.sought.now) whole taken.2,
-      );
+      saw = (failed_read c.args.row (key_in c.args.sought.now) c.args.earlier c.args.before (same_step refl refl refl refl refl same) out refl c.requires.may.finding (get_or words 0 0) (drop 1 words) (omega arith) refl whole.read taken.3 taken.4 refl, other_so c.args.row words (key_in c.args.sought.now) whole taken.2);
     }
 
 pub returns-in-Tells : goal.returns-in-Tells
@@ -61,8 +55,5 @@ returns-in-Left c = let out = stays_again c.in-Some.ensures.same c.in-Left.ensur
     let left = c.in-Left.ensures.takes (now_in c.args.rows.now) c.in-Some.ensures.read in let brief = left.0 in let less = left.1 in let few = less.few in record {
       on = looks_read (same_step refl refl refl refl refl same) out c.args.row less.count less.words less.read;
       slow = refl;
-      saw = (
-        failed_read c.args.row (key_in c.args.sought.now) c.args.earlier c.args.before (same_step refl refl refl refl refl same) out refl c.requires.may.finding less.count less.words (omega arith) refl less.read left.2 left.3 refl,
-        elim c.match-extent.branch [ in-Head-2 w ↦ w.in-Head-2.is | in-Whole w ↦ (let no = w.brief-is in absurd cc) ],
-      );
+      saw = (failed_read c.args.row (key_in c.args.sought.now) c.args.earlier c.args.before (same_step refl refl refl refl refl same) out refl c.requires.may.finding less.count less.words (omega arith) refl less.read left.2 left.3 refl, elim c.match-extent.branch [ in-Head-2 w ↦ w.in-Head-2.is | in-Whole w ↦ (let no = w.brief-is in absurd cc) ]);
     }
