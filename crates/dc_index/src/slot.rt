@@ -10,12 +10,17 @@ ghost use Rattle.dc_index.specs.OwnKeys.{own_label_shown, own_shown, slot_shown}
 
 use dc_names::NAME_MAX;
 use dc_plain::{Key, Label};
+use smallvec::SmallVec;
 use std::alloc::{AllocError, Global};
+
+/// The most bytes of a name that lie in the slot itself. A bucket's keys are compared without a look elsewhere then, and
+/// most names are shorter.
+const MOST_WITHIN: usize = 16;
 
 /// A label with its bytes.
 #[derive(Drop)]
 pub(crate) enum OwnLabel {
-    Name(Vec<u8>),
+    Name(SmallVec<u8, MOST_WITHIN>),
     DotDot,
     Text,
 }
@@ -42,7 +47,7 @@ impl OwnLabel {
         ensures { IfOk result (λ own. own_label_shown own ≡ label_shown label.now) }
     {
         Ok(match label {
-            Label::Name(name) => OwnLabel::Name(Vec::from_slice(alloc, name.bytes())?),
+            Label::Name(name) => OwnLabel::Name(SmallVec::from_slice(alloc, name.bytes())?),
             Label::DotDot => OwnLabel::DotDot,
             Label::Text => OwnLabel::Text,
         })
