@@ -49,8 +49,10 @@ pub fn encode(row: &Row) -> Option<[u64; ROW_WORDS]>
 
 /// The words of a row that tells where a key's entry leads, as `encode` gives them, or `None` if nothing
 /// spells the row: of a text there is no entry.
-// It takes the key as it is: a `Row` has room for the longest text, and would be copied several times.
+// It takes the key as it is: a `Row` has room for the longest text, and would be copied several times. Inlined, as is
+// `spell`: handed back by a call, the words would be copied at each step (measured).
 #[must_use]
+#[inline(always)]
 pub fn encode_entry(key: Key<'_>, target: Option<Target>) -> Option<[u64; ROW_WORDS]>
     ensures spelled { IfSome result (λ words. Spells words (entry_of (key_shown key.entry) target)) }
     ensures count { IfSome result (λ words. slice_index words 0 ≡ 0) }
@@ -120,6 +122,7 @@ pub(crate) fn target_number(target: &Option<(u64, Kind)>) -> u64
 }
 
 /// The words of a row with these fields.
+#[inline(always)]
 pub(crate) fn spell(tag: u64, kind: u64, number: u64, value: u64, text: &[u8]) -> [u64; ROW_WORDS]
     requires tag { tag ≤ 2 }
     requires kind { kind ≤ 3 }

@@ -15,6 +15,8 @@ use dc_store::Store;
 
 /// The words of a row that tells where an entry leads, or `None` if no row can tell it. No entry has
 /// the label `Text`.
+// Inlined, as is `encode_entry`.
+#[inline(always)]
 pub(crate) fn entry_words(key: &Key<'_>, target: Option<Target>) -> Option<[u64; ROW_WORDS]>
     ensures some { IfSome result (λ words.
         (t : Tree) → LeadsTo t (key_shown key.now) target → IsOf t words (key_shown key.now)) }
