@@ -9,7 +9,7 @@ use Rattle.dc_table.specs.declared.table.Guarded.{Guarded}
 use Rattle.dc_rows.specs.Guards.{kept_by, seat_of, rows_of}
 use Rattle.dc_rows.specs.Refills.{Retold}
 use Rattle.dc_rows.proofs.Made.{rows_stay, untouched, altered_tree, retold_as}
-use Rattle.dc_rows.proofs.guard.Guard.change_knowing.Goals as goal
+use Rattle.dc_rows.proofs.guard.Guard.change_planned.Goals as goal
 
 pub returns-in-Err-clause-made : goal.returns-in-Err-clause-made
 returns-in-Err-clause-made w c = let g = c.args.self in let call = request_of c.args.call.now in let limit = (share (seat_of g)).limit in let tree = tree_now (seat_of g) in
