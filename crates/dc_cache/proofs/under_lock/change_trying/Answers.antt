@@ -13,4 +13,4 @@ returns-in-Ok-clause-made g c = let found = c.find_front-found in let got = c.in
 pub going-gone-requires : goal.going-gone-requires
 going-gone-requires g c =
     let h = c.still_known-known.new.guard in
-    plans_live (kept_by h).max_inodes (kept_by h).store c.store.result.now (request_of c.args.call.now) c.plan-planned.result c.store.ensures c.plan-planned.ensures
+    record { lives = plans_live (kept_by h).max_inodes (kept_by h).store c.store.result.now (request_of c.args.call.now) c.plan-planned.result c.store.ensures c.plan-planned.ensures }
