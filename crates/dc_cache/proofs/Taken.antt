@@ -9,7 +9,8 @@ use Rattle.dc_plain.specs.Reads.{count_at}
 use Rattle.dc_plain.specs.Trees.{Tree, Inode, inode_of, kind_of, names_of, target_at}
 use Rattle.dc_plain.specs.Trees.Inode.{Directory, Regular, Symbolic}
 use Rattle.dc_store.specs.Counts.{count_of}
-use Rattle.dc_cache.specs.Losses.{goes_with_a_name, LivesIfWell}
+use Rattle.dc_ops.specs.Plans.{LivesIfWell}
+use Rattle.dc_cache.specs.Losses.{goes_with_a_name}
 
 named : (t : Tree) (n : ℕ) (k : Kind) (o : Option Inode) → inode_of t n ≡ o → option_map {U = Target} (λ inode. (n, kind_of inode)) o ≡ Some (n, k) → k ≢ Dir → ((inode : Inode) → inode_of t n ≡ Some inode → Lives t n inode) → 1 ≤ names_of t n
 named t n k None e is apart lives = absurd cc

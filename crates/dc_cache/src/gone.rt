@@ -1,13 +1,13 @@
 //! What a change takes away.
 
-ghost use Rattle.std.specs.Prelude.{◌≡◌, IfSome, IsTrue};
-ghost use Rattle.dc_cache.specs.Losses.{goes_with_a_name, gone_of, taken_by, LivesIfWell};
-ghost use Rattle.dc_ops.specs.Knowing.{IsKnownOn};
-ghost use Rattle.dc_plain.specs.Requests.{request_of};
+ghost use Rattle.std.specs.Prelude.{◌≡◌, IfOk, IfSome, IsTrue};
+ghost use Rattle.dc_cache.specs.Losses.{goes_with_a_name, gone_by};
+ghost use Rattle.dc_ops.specs.Plans.{LivesIfWell};
+ghost use Rattle.dc_ops.specs.Taken.{taken};
 
 use dc_names::Kind;
-use dc_ops::{Known, leads_to};
-use dc_plain::{Call, Flags};
+use dc_ops::Plan;
+use dc_plain::Reply;
 use dc_store::{SlabStore, Store};
 
 /// What stood at a name that a change took away: of an `Unlink`, a `Rmdir`, or a `Rename` over something.
@@ -21,35 +21,6 @@ pub struct Gone {
     pub last: bool,
 }
 
-/// What the name that a change takes away leads to, before the change.
-fn taken(store: &SlabStore, known: Option<Known<'_>>, call: &Call<'_>) -> Option<(u64, Kind)>
-    requires known { IfSome known (IsKnownOn store.now) }
-    ensures taken { result ≡ taken_by store.now (request_of call.now) }
-    ensures lives { IfSome result (LivesIfWell store.now) }
-{
-    match *call {
-        Call::Unlink { base, path } | Call::Rmdir { base, path } => {
-            leads_to(store, known, base, path)
-        }
-        Call::Rename {
-            base,
-            old,
-            new,
-            flags: Flags {
-                exchange: false,
-                ..
-            },
-        } => {
-            // Most names that something is moved to are free: the one that it comes from isn't sought then.
-            let over = leads_to(store, known, base, new)?;
-            let moved = leads_to(store, known, base, old)?;
-            // A rename of a name onto another of the same inode does nothing, and no name goes.
-            if moved.0 == over.0 { None } else { Some(over) }
-        }
-        _ => None,
-    }
-}
-
 /// Whether an inode has no other name. A directory never has.
 fn is_last(store: &SlabStore, number: u64, kind: Kind) -> bool
     requires lives { LivesIfWell store.now (number, kind) }
@@ -61,20 +32,22 @@ fn is_last(store: &SlabStore, number: u64, kind: Kind) -> bool
     }
 }
 
-/// What a change would take away, as it stands before the change, if that is asked for.
+/// What a change takes away by its plan, as it stands before the change, if that is asked for.
 pub(crate) fn going(
     store: &SlabStore,
-    known: Option<Known<'_>>,
-    call: &Call<'_>,
+    planned: &Result<Plan<'_>, Reply>,
     telling: bool,
 ) -> Option<Gone>
-    requires known { IfSome known (IsKnownOn store.now) }
-    ensures { IsTrue telling → result ≡ gone_of store.now (request_of call.now) }
+    requires lives { IfOk planned.now (λ plan. IfSome (taken plan) (LivesIfWell store.now)) }
+    ensures { IsTrue telling → result ≡ gone_by store.now planned.now }
 {
     if !telling {
         return None;
     }
-    let (number, kind) = taken(store, known, call)?;
+    let Ok(plan) = planned else {
+        return None;
+    };
+    let (number, kind) = plan.taken()?;
     let last = is_last(store, number, kind);
     Some(Gone { number, kind, last })
 }

@@ -164,8 +164,8 @@ pub(crate) fn look_up_trying<W: Wakes>(
 }
 
 /// Makes a change, under a hold of the lock that it tries for once, and tells what goes by it if it is made,
-/// if that is asked for. It looks the directory of the change's name up by rows before. `None` if another
-/// pass has the lock.
+/// if that is asked for. It looks the directory of the change's name up by rows before, and what goes is
+/// what the change's plan has found. `None` if another pass has the lock.
 pub(crate) fn change_trying<W: Wakes>(
     shared: &Shared,
     alloc: Global,
@@ -184,8 +184,9 @@ pub(crate) fn change_trying<W: Wakes>(
     match Guard::try_lock(shared, seat) {
         Ok(mut guard) => {
             let known = still_known(&mut guard, room, found);
-            let gone = going(guard.store(), known, call, telling);
-            let (back, made) = guard.change_knowing::<W>(alloc, call, known);
+            let planned = guard.plan(call, known);
+            let gone = going(guard.store(), &planned, telling);
+            let (back, made) = guard.change_planned::<W>(alloc, call, planned);
             let _seat = back;
             Some((made, gone))
         }

@@ -25,8 +25,14 @@ use Rattle.dc_store.specs.declared.store.New as rust_new
 use Rattle.dc_store.specs.declared.store.New.TheVariants as news
 use Rattle.dc_ops.specs.declared.plans.Plan as rust_plan
 use Rattle.dc_ops.specs.declared.plans.Plan.TheVariants as plans
-use Rattle.dc_ops.specs.Plans.{effect, CanCarry, PlanTakesNoMemory, IsPlanOf, CallTakesNoMemory, Settles, SettlesIf, Plans, Declines}
+use Rattle.dc_ops.specs.Plans.{effect, CanCarry, PlanTakesNoMemory, IsPlanOf, CallTakesNoMemory, LivesIfWell, Settles, SettlesIf, Plans, Declines}
+use Rattle.dc_ops.specs.Taken.{taken_by, taken_if}
 use Rattle.dc_ops.proofs.Distinct.{plan_distinct}
+
+-- what goes by what a call came to is what goes by the call, and lives
+pub record TellsTaken (t : Tree) (request : Request) (found : Option rust_plan.Plan) : Type 0 where
+  pub taken : taken_if found ≡ taken_by t request
+  pub lives : IfSome (taken_if found) (LivesIfWell t)
 
 no_some : (n : ℕ) → ◌≡◌ {A = Option ℕ} None (Some n) → ⊥
 no_some n e = cc
@@ -92,14 +98,14 @@ module _ (total : IsTotalOrder spot_cmp) where
 
   effect_differs : (plan : rust_plan.Plan) (t : Tree) → CanCarry plan t → (effect plan t).1 ≢ t
   effect_differs (plans.Add d name new number) t can = added_differs t d name.bytes.now new can.1
-  effect_differs (plans.Drop d name number lost) t can = dropped_differs t d name.bytes.now number can.0
-  effect_differs (plans.Move from to number reparents lost) t can = moved_differs t (spot_shown from) (spot_shown to) number can.1.other
+  effect_differs (plans.Drop d name number kind lost) t can = dropped_differs t d name.bytes.now number can.0
+  effect_differs (plans.Move from to number reparents over lost) t can = moved_differs t (spot_shown from) (spot_shown to) number can.1.other
   effect_differs (plans.Swap from to first second) t can = swapped_differs t (spot_shown from) first.number (spot_shown to) second.number can
 
   -- a change that comes to a plan
   plans_so : AltersDecides → (limit : ℕ) (t : Tree) (request : Request) (plan : rust_plan.Plan) → IsPlanOf t (change_of limit t request) (listed t request) plan
-      → (CallTakesNoMemory request → PlanTakesNoMemory plan) → Plans limit t request plan
-  plans_so decides limit t request plan is spares =
+      → (CallTakesNoMemory request → PlanTakesNoMemory plan) → TellsTaken t request (Some plan) → Plans limit t request plan
+  plans_so decides limit t request plan is spares goes =
       let whole : operation limit t request ≡ effect plan t = ap (settled t) is.does in
       record {
         operation = whole;
@@ -108,6 +114,8 @@ module _ (total : IsTotalOrder spot_cmp) where
         keys = is.keys ∙ sym (ap (λ change. unless_refused change (listed t request)) is.does);
         distinct = plan_distinct plan t is.can is.loses;
         without_memory = spares;
+        takes = goes.taken;
+        lives = goes.lives;
       }
 
 -- a call that leaves the tree as it is
@@ -129,9 +137,9 @@ reads_if decides t request r shown (Err fault) is e = e
 
 -- a change that may come to nothing
 pub plans_if : IsTotalOrder spot_cmp → AltersDecides → (limit : ℕ) (t : Tree) (request : Request) (found : Option rust_plan.Plan) (plan : rust_plan.Plan) → found ≡ Some plan
-    → SettlesIf t (change_of limit t request) (listed t request) (Ok found) → (CallTakesNoMemory request → IfSome found PlanTakesNoMemory) → Plans limit t request plan
-plans_if total decides limit t request None plan is settles spares = absurd cc
-plans_if total decides limit t request (Some other) plan is settles spares = let same : other ≡ plan = cc in subst (Plans limit t request) same (plans_so total decides limit t request other settles spares)
+    → SettlesIf t (change_of limit t request) (listed t request) (Ok found) → (CallTakesNoMemory request → IfSome found PlanTakesNoMemory) → TellsTaken t request found → Plans limit t request plan
+plans_if total decides limit t request None plan is settles spares goes = absurd cc
+plans_if total decides limit t request (Some other) plan is settles spares goes = let same : other ≡ plan = cc in subst (Plans limit t request) same (plans_so total decides limit t request other settles spares goes)
 
 pub idles_if : AltersDecides → (limit : ℕ) (t : Tree) (request : Request) (found : Option rust_plan.Plan) → found ≡ None → SettlesIf t (change_of limit t request) (listed t request) (Ok found) → Declines limit t request Nothing
 idles_if decides limit t request None is settles = declines_so decides limit t request Nothing (ap (settled t) settles)

@@ -113,17 +113,17 @@ same_spot_by from to e =
 
 pub plan_distinct : (plan : rust_plan.Plan) (t : Tree) → CanCarry plan t → Loses plan t → AreDistinct (keys_of plan)
 plan_distinct (plans.Add dir name new number) t can loses = with_name number (spot_at dir name.bytes.now) (keys_made number new) (own_made number new)
-plan_distinct (plans.Drop dir name number lost) t can loses = with_name number (spot_at dir name.bytes.now) (keys_in lost) (subst (IsOwn number) (sym loses) (own_gone t number))
+plan_distinct (plans.Drop dir name number kind lost) t can loses = with_name number (spot_at dir name.bytes.now) (keys_in lost) (subst (IsOwn number) (sym loses) (own_gone t number))
 plan_distinct (plans.Swap from to first second) t can loses =
     with_names first.number second.number (spot_shown from) (spot_shown to) (keys_reparented first.number first.reparents) (keys_reparented second.number second.reparents)
     (λ e. let both : Some first.number ≡ Some second.number = sym can.first ∙ ap (entry_number t) (sym (same_spot_by (spot_shown from) (spot_shown to) e)) ∙ can.second in let one : first.number ≡ second.number = cc in can.two one)
     can.two (own_reparented first.number first.reparents) (own_reparented second.number second.reparents)
-plan_distinct (plans.Move from to number reparents lost) t can loses = by (entry_number t (spot_shown to)) refl
+plan_distinct (plans.Move from to number reparents over lost) t can loses = by (entry_number t (spot_shown to)) refl
   where
     apart : spot_key (spot_shown to) ≢ spot_key (spot_shown from)
     apart e = can.1.other (ap (entry_number t) (same_spot_by (spot_shown from) (spot_shown to) e) ∙ can.0)
 
-    by : (there : Option ℕ) → entry_number t (spot_shown to) ≡ there → AreDistinct (keys_of (plans.Move from to number reparents lost))
+    by : (there : Option ℕ) → entry_number t (spot_shown to) ≡ there → AreDistinct (keys_of (plans.Move from to number reparents over lost))
     by None e = let none : keys_in lost ≡ [] = loses ∙ ap (λ o. with_number o (keys_gone t)) e in
         with_names number (suc number) (spot_shown from) (spot_shown to) (keys_reparented number reparents) (keys_in lost) apart (λ same. absurd (omega arith)) (own_reparented number reparents) (inl none)
     by (Some m) e = let gone : keys_in lost ≡ keys_gone t m = loses ∙ ap (λ o. with_number o (keys_gone t)) e in

@@ -8,6 +8,7 @@ pub mod Distinct
 pub mod Alters
 pub mod Knowing
 pub mod LastNames
+pub mod Takings
 pub mod SpelledNames
 pub mod Ways
 pub mod Climbing

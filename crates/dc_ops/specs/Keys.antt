@@ -33,8 +33,8 @@ keys_reparented n reparents = if reparents then parent_key n ∷ [] else []
 
 abbrev pub keys_of : rust_plan.Plan → List Key
 keys_of (plans.Add dir name new number) = entry_key dir name.bytes.now ∷ keys_made number new
-keys_of (plans.Drop dir name number lost) = entry_key dir name.bytes.now ∷ keys_in lost
-keys_of (plans.Move from to number reparents lost) =
+keys_of (plans.Drop dir name number kind lost) = entry_key dir name.bytes.now ∷ keys_in lost
+keys_of (plans.Move from to number reparents over lost) =
     spot_key (spot_shown from) ∷ spot_key (spot_shown to) ∷ keys_reparented number reparents ++ keys_in lost
 keys_of (plans.Swap from to first second) =
     spot_key (spot_shown from) ∷ spot_key (spot_shown to) ∷ keys_reparented first.number first.reparents ++ keys_reparented second.number second.reparents

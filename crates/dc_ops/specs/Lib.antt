@@ -7,7 +7,9 @@ pub mod Reads
 pub mod Renames
 pub mod Makes
 pub mod Same
+pub mod Replaced
 pub mod Settled
+pub mod Taken
 pub mod Found
 pub mod Knowing
 pub mod Whereabouts

@@ -1,5 +1,5 @@
 -- What a call comes to: a plan of its change, its refusal, or the reply that alters nothing.
-use Rattle.std.specs.Prelude.{ℕ, List, Option, Result, IfOk, IfSome}
+use Rattle.std.specs.Prelude.{ℕ, List, Option, Result, IfOk, IfSome, MatchResult}
 use Rattle.dc_names.specs.declared.refusal.Refusal.{Refusal}
 use Rattle.dc_plain.specs.declared.call.Call as rust_call
 use Rattle.dc_plain.specs.declared.call.Reply as rust_reply
@@ -11,7 +11,8 @@ use Rattle.dc_plain.specs.Facts.{Teller}
 use Rattle.dc_plain.specs.Tellers.{Extends}
 use Rattle.dc_plain.specs.TouchedKeys.{listed}
 use Rattle.dc_plain.specs.Trees.{Tree, told_of}
-use Rattle.dc_ops.specs.Plans.{Declines, PlanTakesNoMemory, Settles, SettlesIf}
+use Rattle.dc_ops.specs.Plans.{Declines, PlanTakesNoMemory, Plans, Settles, SettlesIf}
+use Rattle.dc_ops.specs.Taken.{TakesNothing}
 use Rattle.dc_ops.specs.declared.plans.Plan as rust_plan
 
 -- a call's change comes to a plan with the keys that are listed for the call, or to its refusal
@@ -37,6 +38,10 @@ FoundTakesNoMemory found = IfOk found (λ plan. IfSome plan (λ plan. PlanTakesN
 -- a call that leaves the tree as it is has this reply
 abbrev pub DeclinesCall : ℕ → Tree → rust_call.Call → rust_reply.Reply → Type 0
 DeclinesCall limit t call reply = Declines limit t (request_of call) (answer_of reply)
+
+-- a call comes to a plan of its change, or to the reply of one that alters nothing and takes nothing away
+abbrev pub IsPlanned : ℕ → Tree → Request → Result rust_plan.Plan rust_reply.Reply → Type 0
+IsPlanned limit t request found = MatchResult found (Plans limit t request) (λ reply. Declines limit t request (answer_of reply) × TakesNothing t request (answer_of reply))
 
 -- by what is said, a look-up has this reply on each tree that tells the same
 abbrev pub RepliesBy : Teller → ℕ → List ℕ → Follow → rust_reply.Reply → Type 0

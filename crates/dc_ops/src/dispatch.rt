@@ -1,18 +1,22 @@
 //! Plans of all changes.
 
 ghost use Rattle.std.specs.Prelude.{◌≡◌, Some, Ok, Err, IfOk, IfErr, IfSome};
-ghost use Rattle.dc_plain.specs.Requests.{request_of};
+ghost use Rattle.dc_plain.specs.Requests.{answer_of, request_of};
 ghost use Rattle.dc_ops.specs.Asked.{IsChange};
 ghost use Rattle.dc_ops.specs.Knowing.{IsKnownOn};
 ghost use Rattle.dc_ops.specs.Plans.{Plans, CallTakesNoMemory};
 ghost use Rattle.dc_ops.specs.Settled.{DeclinesCall, FoundTakesNoMemory, SettlesCallIf};
+ghost use Rattle.dc_ops.specs.Taken.{taken_by, taken_if, TakesNothing};
 
 use crate::makes::{plan_link, plan_make, plan_symlink};
 use crate::renames::plan_rename;
 use crate::takes::{plan_rmdir, plan_unlink};
 use crate::{Known, Plan};
 use dc_names::Refusal;
-use dc_plain::{Call, Reply, alters_tells_whether_trees_differ, names_in_directories_are_in_order};
+use dc_plain::{
+    Call, Reply, alters_tells_whether_trees_differ, names_in_directories_are_in_order,
+    paths_lead_to_the_living,
+};
 use dc_store::{New, Store};
 
 /// The plan of a change, or the reply of one that alters nothing: its refusal, or `Unit` of a rename
@@ -24,6 +28,8 @@ pub fn plan<'a, S: Store>(store: &S, call: &Call<'a>, max_inodes: u64) -> Result
     ensures planned { IfOk result (Plans max_inodes (S.tree store.now) (request_of call.now)) }
     ensures declined { IfErr result (λ reply.
         DeclinesCall max_inodes (S.tree store.now) call.now reply) }
+    ensures idle { IfErr result (λ reply.
+        TakesNothing (S.tree store.now) (request_of call.now) (answer_of reply)) }
 {
     plan_knowing(store, call, max_inodes, None)
 }
@@ -41,9 +47,12 @@ pub fn plan_knowing<'a, S: Store>(
     ensures planned { IfOk result (Plans max_inodes (S.tree store.now) (request_of call.now)) }
     ensures declined { IfErr result (λ reply.
         DeclinesCall max_inodes (S.tree store.now) call.now reply) }
+    ensures idle { IfErr result (λ reply.
+        TakesNothing (S.tree store.now) (request_of call.now) (answer_of reply)) }
 {
     alters_tells_whether_trees_differ();
     names_in_directories_are_in_order();
+    paths_lead_to_the_living();
     match found(store, call, max_inodes, known) {
         Ok(Some(plan)) => Ok(plan),
         Ok(None) => Err(Reply::Unit),
@@ -62,6 +71,8 @@ fn found<'a, S: Store>(
     requires known { IfSome known (IsKnownOn (S.tree store.now)) }
     ensures settled { SettlesCallIf limit (S.tree store.now) (request_of call.now) result }
     ensures without_memory { CallTakesNoMemory (request_of call.now) → FoundTakesNoMemory result }
+    ensures taken { IfOk result (λ found.
+        taken_if found ≡ taken_by (S.tree store.now) (request_of call.now)) }
 {
     match *call {
         Call::Mkdir { base, path } => some(plan_make(store, known, base, path, New::Dir, limit)),

@@ -23,5 +23,5 @@ pub use finder::StoreFinder;
 pub use known::Known;
 pub use pages::page;
 pub use plans::{Moved, Plan};
-pub use reads::{ask, leads_to, look_by, seek};
+pub use reads::{ask, look_by, seek};
 pub use whereabouts::path_of;

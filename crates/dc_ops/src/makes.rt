@@ -1,6 +1,6 @@
 //! Plans of entries that come.
 
-ghost use Rattle.std.specs.Prelude.{◌≡◌, nat_le, false, Some, IfSome, IsTrue};
+ghost use Rattle.std.specs.Prelude.{◌≡◌, nat_le, false, Some, None, IfOk, IfSome, IsTrue};
 ghost use Rattle.dc_ops.specs.Knowing.{IsKnownOn};
 ghost use Rattle.dc_plain.specs.IsWellFormed.{IsWellFormed};
 ghost use Rattle.dc_plain.specs.Requests.Request.{Hard_link, Symlink};
@@ -9,6 +9,7 @@ ghost use Rattle.dc_plain.specs.Trees.{is_live_directory, names_of, target_at};
 ghost use Rattle.dc_names.specs.declared.limits.TheConstants.{MOST_NAMES};
 ghost use Rattle.dc_ops.specs.Makes.{MakesInode, SettlesLink, SettlesMade, may_end_in_slash};
 ghost use Rattle.dc_ops.specs.Settled.{SettlesCall, SettlesUnlimited};
+ghost use Rattle.dc_ops.specs.Taken.{taken};
 
 use crate::conditions::{is_full, is_there, name_or, place_text, present, refuse};
 use crate::paths::{path_of, place_path};
@@ -28,7 +29,8 @@ pub(crate) fn plan_make<'a, S: Store>(
 ) -> Result<Plan<'a>, Refusal>
     requires new { MakesInode new }
     requires known { IfSome known (IsKnownOn (S.tree store.now)) }
-    ensures { SettlesMade max_inodes (S.tree store.now) base path.now new.entry result }
+    ensures settled { SettlesMade max_inodes (S.tree store.now) base path.now new.entry result }
+    ensures taken { IfOk result (λ plan. taken plan ≡ None) }
 {
     paths_lead_to_the_living();
     let at = place_text(store, known, base, path)?;
@@ -61,7 +63,8 @@ pub(crate) fn plan_symlink<'a, S: Store>(
     max_inodes: u64,
 ) -> Result<Plan<'a>, Refusal>
     requires known { IfSome known (IsKnownOn (S.tree store.now)) }
-    ensures { SettlesCall max_inodes (S.tree store.now) (Symlink base text.now path.now) result }
+    ensures settled { SettlesCall max_inodes (S.tree store.now) (Symlink base text.now path.now) result }
+    ensures taken { IfOk result (λ plan. taken plan ≡ None) }
 {
     // The text's fault is refused before the path is looked at.
     let text = path_of(text)?;
@@ -77,7 +80,8 @@ pub(crate) fn plan_link<'a, S: Store>(
     new: &'a [u8],
 ) -> Result<Plan<'a>, Refusal>
     requires known { IfSome known (IsKnownOn (S.tree store.now)) }
-    ensures { SettlesUnlimited (S.tree store.now) (Hard_link base old.now new.now) result }
+    ensures settled { SettlesUnlimited (S.tree store.now) (Hard_link base old.now new.now) result }
+    ensures taken { IfOk result (λ plan. taken plan ≡ None) }
 {
     paths_lead_to_the_living();
     let old_path = path_of(old)?;
@@ -99,7 +103,8 @@ fn link_at<'a, S: Store>(
 ) -> Result<Plan<'a>, Refusal>
     requires { IsWellFormed (S.tree store.now)
         → IsTrue (is_live_directory (S.tree store.now) to.dir) }
-    ensures { SettlesLink (S.tree store.now) from.entry old.entry to.entry new.entry result }
+    ensures settled { SettlesLink (S.tree store.now) from.entry old.entry to.entry new.entry result }
+    ensures taken { IfOk result (λ plan. taken plan ≡ None) }
 {
     let inode = present(store, from.dir, old)?;
     refuse(is_directory(inode), Refusal::NotPermitted)?;

@@ -1,7 +1,10 @@
 //! What a change is to do.
 
-use dc_names::Name;
-use dc_plain::{Key, Spot};
+ghost use Rattle.std.specs.Prelude.{◌≡◌};
+ghost use Rattle.dc_ops.specs.Taken.{taken};
+
+use dc_names::{Kind, Name};
+use dc_plain::{Key, Spot, Target};
 use dc_store::New;
 
 /// An inode that gets another name.
@@ -35,6 +38,8 @@ pub enum Plan<'a> {
         name: Name<'a>,
         /// The number of the inode that the entry leads to.
         number: u64,
+        /// What that inode is.
+        kind: Kind,
         /// The key of that inode's own which goes with its last name.
         lost: Option<Key<'a>>,
     },
@@ -48,6 +53,8 @@ pub enum Plan<'a> {
         number: u64,
         /// Whether that is a directory whose parent becomes another.
         reparents: bool,
+        /// What stands at the new name, if anything.
+        over: Option<Target>,
         /// The key of its own that what stood at the new name has, if that was its last name.
         lost: Option<Key<'a>>,
     },
@@ -62,4 +69,19 @@ pub enum Plan<'a> {
         /// What stands at the other name, and gets the one.
         second: Moved,
     },
+}
+
+impl Plan<'_> {
+    /// What goes by it: what its entry leads to, or what stands where an entry moves. It goes as one of the
+    /// names of an inode, and the inode with it if that is the last.
+    #[must_use]
+    pub fn taken(&self) -> Option<Target>
+        ensures { result ≡ taken self.now }
+    {
+        match *self {
+            Plan::Drop { number, kind, .. } => Some((number, kind)),
+            Plan::Move { over, .. } => over,
+            Plan::Add { .. } | Plan::Swap { .. } => None,
+        }
+    }
 }

@@ -1,28 +1,21 @@
 //! Calls that alter nothing.
 
-ghost use Rattle.std.specs.Prelude.{◌≡◌, ◌+◌, ◌*◌, ℕ, Some, IfOk, IfSome, OnErr, length};
-ghost use Rattle.std.specs.Result.{result_ok};
+ghost use Rattle.std.specs.Prelude.{◌≡◌, ◌+◌, ◌*◌, ℕ, IfOk, OnErr, length};
 ghost use Rattle.dc_names.specs.declared.limits.TheConstants.{MOST_LINKS};
 ghost use Rattle.dc_names.specs.Refusals.{Gives};
-ghost use Rattle.dc_plain.specs.IsWellFormed.{IsWellFormed};
 ghost use Rattle.dc_plain.specs.Reads.{look, stat, readlink, list_names};
 ghost use Rattle.dc_plain.specs.Requests.{answer_of, request_of};
 ghost use Rattle.dc_plain.specs.Refusals.{walk_on};
-ghost use Rattle.dc_plain.specs.Trees.{target_at};
 ghost use Rattle.dc_ops.specs.Asked.{IsSought, IsToldAtLength};
-ghost use Rattle.dc_plain.specs.declared.call.Follow.TheVariants as follow;
 ghost use Rattle.dc_plain.specs.Runs.{reply_of};
-ghost use Rattle.dc_ops.specs.Knowing.{IsKnownOn};
 ghost use Rattle.dc_ops.specs.Reads.{answered, IsAtLength};
 ghost use Rattle.dc_ops.specs.Settled.{DeclinesCall, RepliesBy};
 ghost use Rattle.dc_resolve.specs.Ends.{walk_by};
 ghost use Rattle.dc_resolve.specs.Finders.{KeepsAnswering};
 ghost use Rattle.dc_resolve.specs.Needs.{MayAsk};
 
-use crate::Known;
-use crate::finder::entry;
-use crate::paths::{path_of, place_path, walk_path};
-use dc_names::{Last, NoMemory, PathText, Refusal};
+use crate::paths::{path_of, walk_path};
+use dc_names::{NoMemory, PathText, Refusal};
 use dc_plain::{
     Call, Follow, Reply, Target, alters_tells_whether_trees_differ, paths_lead_to_the_living,
 };
@@ -35,30 +28,6 @@ fn walk_text<S: Store>(store: &S, base: u64, text: &[u8], follow: Follow) -> Res
     ensures { Gives result (λ target. target) (walk_on (S.tree store.now) base text.now follow) }
 {
     walk_path(store, base, path_of(text)?, follow)
-}
-
-/// What a path leads to, if anything; a last link is kept. If the directory of its name is known the store
-/// isn't asked for that.
-pub fn leads_to<S: Store>(
-    store: &S,
-    known: Option<Known<'_>>,
-    base: u64,
-    text: &[u8],
-) -> Option<Target>
-    requires known { IfSome known (IsKnownOn (S.tree store.now)) }
-    ensures leads { result ≡ result_ok (walk_on (S.tree store.now) base text.now follow.No) }
-    ensures lives { IfSome result (λ target. IsWellFormed (S.tree store.now) →
-        target_at (S.tree store.now) target.0 ≡ Some target) }
-{
-    paths_lead_to_the_living();
-    let path = path_of(text).ok()?;
-    if let Ok(at) = place_path(store, known, base, path)
-        && let Last::Normal(name) = at.last
-        && !at.slash
-    {
-        return entry(store, at.dir, name);
-    }
-    walk_path(store, base, path, Follow::No).ok()
 }
 
 /// Answers `Look` (POSIX.1-2017 XBD 4.13) or `Stat`. It takes no memory.

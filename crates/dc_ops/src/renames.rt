@@ -1,6 +1,6 @@
 //! Plans of entries that move.
 
-ghost use Rattle.std.specs.Prelude.{◌≡◌, ◌≤◌, ◌==◌, ◌&&◌, not, true, option_map, Some, IfErr, IfSome, Ok, Err, OnOk, IsTrue};
+ghost use Rattle.std.specs.Prelude.{◌≡◌, ◌≤◌, ◌==◌, ◌&&◌, not, true, option_map, Some, None, IfErr, IfOk, IfSome, Ok, Err, OnOk, IsTrue};
 ghost use Rattle.dc_plain.specs.IsWellFormed.{IsWellFormed};
 ghost use Rattle.dc_plain.specs.KeysShown.{keys_in};
 ghost use Rattle.dc_plain.specs.Operations.{replaceable, same_inode};
@@ -11,7 +11,9 @@ ghost use Rattle.dc_plain.specs.TouchedKeys.{keys_gone, with_number};
 ghost use Rattle.dc_plain.specs.Trees.{is_live_directory, names_of, target_at, entry_number};
 ghost use Rattle.dc_ops.specs.Knowing.{IsKnownOn};
 ghost use Rattle.dc_ops.specs.Renames.{lies_beneath, SettlesMove, SettlesNamed, SettlesSwap};
+ghost use Rattle.dc_ops.specs.Replaced.{TakesMoved, TakesNamed};
 ghost use Rattle.dc_ops.specs.Settled.{FoundTakesNoMemory, SettlesUnlimitedIf};
+ghost use Rattle.dc_ops.specs.Taken.{taken_by, taken_if};
 
 use crate::conditions::{name_or_each, present, refuse};
 use crate::finder::entry;
@@ -37,6 +39,8 @@ pub(crate) fn plan_rename<'a, S: Store>(
     requires known { IfSome known (IsKnownOn (S.tree store.now)) }
     ensures settled { SettlesUnlimitedIf (S.tree store.now)
         (Rename base old.now new.now flags) result }
+    ensures taken { IfOk result (λ found.
+        taken_if found ≡ taken_by (S.tree store.now) (Rename base old.now new.now flags)) }
     ensures without_memory { IsTrue flags.exchange → FoundTakesNoMemory result }
 {
     paths_lead_to_the_living();
@@ -65,6 +69,8 @@ fn plan_named<'a, S: Store>(
         → IsTrue (is_live_directory (S.tree store.now) to.dir) }
     ensures settled { SettlesNamed (S.tree store.now)
         from.entry old.entry to.entry new.entry flags result }
+    ensures taken { IfOk result (TakesNamed (S.tree store.now)
+        from.entry old.entry to.entry new.entry flags.exchange) }
     ensures without_memory { IsTrue flags.exchange → FoundTakesNoMemory result }
 {
     let moved = present(store, from.dir, old)?;
@@ -95,7 +101,8 @@ fn plan_move<'a, S: Store>(
     requires source { entry_number (S.tree store.now) (spot_shown from) ≡ Some moved.0 }
     requires lives { target_at (S.tree store.now) moved.0 ≡ Some moved }
     requires held { IsTrue (is_live_directory (S.tree store.now) to.dir) }
-    ensures { SettlesMove (S.tree store.now) from.entry to.entry moved no_replace result }
+    ensures settled { SettlesMove (S.tree store.now) from.entry to.entry moved no_replace result }
+    ensures taken { IfOk result (TakesMoved (S.tree store.now) to.entry moved) }
 {
     let there = entry(store, to.dir, to.name);
     refuse(no_replace && there.is_some(), Refusal::Exists)?;
@@ -109,6 +116,7 @@ fn plan_move<'a, S: Store>(
         to,
         number: moved.0,
         reparents: reparents(moved, from.dir, to.dir),
+        over: there,
         lost: lost_there(store, there),
     }))
 }
@@ -129,6 +137,7 @@ fn plan_swap<'a, S: Store>(
     requires new_held { IsTrue (is_live_directory (S.tree store.now) to.dir) }
     ensures settled { SettlesSwap (S.tree store.now)
         from.entry old.entry to.entry new.entry moved result }
+    ensures taken { IfOk result (λ found. taken_if found ≡ None) }
     ensures without_memory { FoundTakesNoMemory result }
 {
     let there = present(store, to.dir, new)?;

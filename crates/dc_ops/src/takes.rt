@@ -11,6 +11,7 @@ ghost use Rattle.dc_plain.specs.TouchedKeys.{keys_gone};
 ghost use Rattle.dc_plain.specs.Trees.{names_in, names_of, target_at};
 ghost use Rattle.dc_ops.specs.Plans.{PlanTakesNoMemory};
 ghost use Rattle.dc_ops.specs.Settled.{SettlesUnlimited};
+ghost use Rattle.dc_ops.specs.Taken.{taken, taken_by};
 
 use crate::conditions::{name_or, name_or_each, place_text, present, refuse};
 use crate::{Known, Plan};
@@ -27,6 +28,8 @@ pub(crate) fn plan_unlink<'a, S: Store>(
 ) -> Result<Plan<'a>, Refusal>
     requires known { IfSome known (IsKnownOn (S.tree store.now)) }
     ensures settled { SettlesUnlimited (S.tree store.now) (Unlink base path.now) result }
+    ensures taken { IfOk result (λ plan.
+        taken plan ≡ taken_by (S.tree store.now) (Unlink base path.now)) }
     ensures without_memory { IfOk result PlanTakesNoMemory }
 {
     let at = place_text(store, known, base, path)?;
@@ -38,6 +41,7 @@ pub(crate) fn plan_unlink<'a, S: Store>(
         dir: at.dir,
         name,
         number: inode.0,
+        kind: inode.1,
         lost: lost_key(store, inode),
     })
 }
@@ -51,6 +55,8 @@ pub(crate) fn plan_rmdir<'a, S: Store>(
 ) -> Result<Plan<'a>, Refusal>
     requires known { IfSome known (IsKnownOn (S.tree store.now)) }
     ensures settled { SettlesUnlimited (S.tree store.now) (Rmdir base path.now) result }
+    ensures taken { IfOk result (λ plan.
+        taken plan ≡ taken_by (S.tree store.now) (Rmdir base path.now)) }
     ensures without_memory { IfOk result PlanTakesNoMemory }
 {
     let at = place_text(store, known, base, path)?;
@@ -62,6 +68,7 @@ pub(crate) fn plan_rmdir<'a, S: Store>(
         dir: at.dir,
         name,
         number: inode.0,
+        kind: inode.1,
         lost: lost_key(store, inode),
     })
 }

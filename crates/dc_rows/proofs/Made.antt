@@ -1,9 +1,13 @@
 -- The rows that a change leaves.
-use Rattle.std.proofs.Common.{◌≡◌, ℕ, sym, ap, ◌∙◌, subst}
+use Rattle.std.proofs.Common.{◌≡◌, ℕ, Result, Ok, Err, sym, ap, ◌∙◌, subst}
 use Rattle.dc_plain.specs.Facts.{Key}
 use Rattle.dc_plain.specs.Trees.{Tree, fact_at}
-use Rattle.dc_plain.specs.Requests.{Request, Answer}
+use Rattle.dc_plain.specs.Operations.{operation}
+use Rattle.dc_plain.specs.Requests.{Request, Answer, answer_of}
 use Rattle.dc_plain.specs.Runs.{Touches, tree_after}
+use Rattle.dc_plain.specs.declared.call.Reply.{Reply}
+use Rattle.dc_ops.specs.Settled.{IsPlanned}
+use Rattle.dc_ops.specs.declared.plans.Plan.{Plan}
 use Rattle.dc_events.specs.Views.{View}
 use Rattle.dc_events.specs.Standing.{tree_of}
 use Rattle.dc_table.specs.Changes.{tree_now}
@@ -37,3 +41,8 @@ altered_tree p q call reply a = ap (λ (s : Share). tree_of s.limit (view q).hol
 -- rows that are told anew after one tree are so after the same tree
 pub retold_as : (t u : Tree) (K : Key → Type 0) (s r z : RowState) → t ≡ u → z ≡ r → Turns (Retold t) K s r → Turns (Retold u) K s z
 retold_as t u K s r z same is a = subst (λ (y : RowState). Turns (Retold u) K s y) (sym is) (subst (λ (x : Tree). Turns (Retold x) K s r) same a)
+
+-- a reply that comes in the place of a plan is that of the tree, which it leaves as it is
+pub declined_as : (limit : ℕ) (t : Tree) (call : Request) (planned : Result Plan Reply) (reply : Reply) → planned ≡ Err reply → IsPlanned limit t call planned → operation limit t call ≡ (answer_of reply, t)
+declined_as limit t call (Ok plan) reply is so = absurd cc
+declined_as limit t call (Err other) reply is so = let same : other ≡ reply = cc in subst (λ (r : Reply). operation limit t call ≡ (answer_of r, t)) same so.0.operation

@@ -5,6 +5,7 @@ ghost use Rattle.dc_events.specs.Rows.{most};
 ghost use Rattle.dc_ops.specs.Asked.{IsChange};
 ghost use Rattle.dc_ops.specs.Knowing.{IsKnownOn};
 ghost use Rattle.dc_ops.specs.Plans.{CallTakesNoMemory, Plans};
+ghost use Rattle.dc_ops.specs.Settled.{IsPlanned};
 ghost use Rattle.dc_plain.specs.IsWellFormed.{IsWellFormed};
 ghost use Rattle.dc_plain.specs.Requests.{request_of};
 ghost use Rattle.dc_rows.specs.Changes.{OnlyWrites};
@@ -48,7 +49,7 @@ impl<'t> Guard<'t> {
     /// Makes a change, as `change`, for a caller that knows where a path leads on the tree. The tree isn't
     /// asked for the directory of a name whose path is that one and the name.
     pub fn change_knowing<W: Wakes>(
-        mut self,
+        self,
         alloc: Global,
         call: &Call<'_>,
         known: Option<Known<'_>>,
@@ -58,10 +59,37 @@ impl<'t> Guard<'t> {
         ensures back { IsBack self.entry result.0 }
         ensures made { MakesHeld self.entry result.0.now (request_of call.now) result.1 }
     {
+        let planned = self.plan(call, known);
+        self.change_planned::<W>(alloc, call, planned)
+    }
+
+    /// The plan of a change on the tree of this hold, as `dc_ops::plan_knowing`, for `change_planned`. It
+    /// takes no memory.
+    pub fn plan<'c>(&self, call: &Call<'c>, known: Option<Known<'_>>) -> Result<Plan<'c>, Reply>
+        requires change { IsChange call.now × IfSome known (IsKnownOn (kept_by self.now).store) }
+        ensures { let kept = kept_by self.now in
+            IsPlanned kept.max_inodes kept.store (request_of call.now) result }
+    {
+        plan_knowing(self.store(), call, self.guarded.max_inodes, known)
+    }
+
+    /// Makes a change, as `change`, for a caller that has its plan.
+    pub fn change_planned<W: Wakes>(
+        mut self,
+        alloc: Global,
+        call: &Call<'_>,
+        planned: Result<Plan<'_>, Reply>,
+    ) -> (&'t mut Pass, Result<(Reply, u64), ChangeFault>)
+        requires taken { IsTaken (view (seat_of self)) }
+        requires planned { let kept = kept_by self in
+            IsPlanned kept.max_inodes kept.store (request_of call.now) planned }
+        ensures back { IsBack self.entry result.0 }
+        ensures made { MakesHeld self.entry result.0.now (request_of call.now) result.1 }
+    {
         opening_tree_is_well_formed();
         operations_keep_trees_well_formed();
         let at = self.clock();
-        let plan = match plan_knowing(self.store(), call, self.guarded.max_inodes, known) {
+        let plan = match planned {
             Ok(plan) => plan,
             Err(reply) => return (self.answer::<W>(call), Ok((reply, at))),
         };

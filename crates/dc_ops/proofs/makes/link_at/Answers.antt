@@ -2,8 +2,8 @@ use Rattle.std.proofs.Common.{rules, refl}
 use Rattle.dc_ops.proofs.Rooms.{may_link}
 use Rattle.dc_ops.proofs.makes.link_at.Goals as goal
 
-pub returns : goal.returns
-returns g c =
+pub returns-clause-settled : goal.returns-clause-settled
+returns-clause-settled g c =
     let t = g.S.Store.tree c.args.store.now in record {
       does = search rules;
       can = (

@@ -3,8 +3,8 @@ use Rattle.dc_plain.specs.Spots.{where_shown}
 use Rattle.dc_ops.proofs.Rooms.{room, number_made}
 use Rattle.dc_ops.proofs.makes.plan_make.Goals as goal
 
-pub returns : goal.returns
-returns g c =
+pub returns-clause-settled : goal.returns-clause-settled
+returns-clause-settled g c =
     let t = g.S.Store.tree c.args.store.now in
     let well = c.is_there.ensures.well in record {
       does = search rules;

@@ -5,16 +5,15 @@ use Rattle.dc_plain.specs.Runs.{tree_after, Touches}
 use Rattle.dc_plain.specs.Trees.{Tree}
 use Rattle.dc_table.specs.Changes.{tree_now}
 use Rattle.dc_table.specs.Passes.{known, share}
-use Rattle.dc_table.specs.declared.table.Guarded.{Guarded}
 use Rattle.dc_rows.specs.Guards.{kept_by, seat_of, rows_of}
 use Rattle.dc_rows.specs.Refills.{Retold}
-use Rattle.dc_rows.proofs.Made.{rows_stay, untouched, altered_tree, retold_as}
-use Rattle.dc_rows.proofs.guard.Guard.change_knowing.Goals as goal
+use Rattle.dc_rows.proofs.Made.{declined_as, rows_stay, untouched, altered_tree, retold_as}
+use Rattle.dc_rows.proofs.guard.Guard.change_planned.Goals as goal
 
 pub returns-in-Err-clause-made : goal.returns-in-Err-clause-made
 returns-in-Err-clause-made w c = let g = c.args.self in let call = request_of c.args.call.now in let limit = (share (seat_of g)).limit in let tree = tree_now (seat_of g) in
-    let settled : operation limit tree call ≡ (answer_of c.in-Err.reply, tree) = subst₂ (λ (n : ℕ) (t : Tree). operation n t call ≡ (answer_of c.in-Err.reply, t)) (ap (λ (y : Guarded). y.max_inodes) c.deref.ensures ∙ g.rests.same_limit) (c.store.ensures ∙ g.rests.tree)
-    c.in-Err.ensures.declined.operation in
+    let settled : operation limit tree call ≡ (answer_of c.in-Err.reply, tree) = subst₂ (λ (n : ℕ) (t : Tree). operation n t call ≡ (answer_of c.in-Err.reply, t)) g.rests.same_limit g.rests.tree
+    (declined_as (kept_by g).max_inodes (kept_by g).store call c.args.planned c.in-Err.reply c.in-Err.is c.requires.planned) in
     let same : tree_after limit tree call ≡ tree = ap (λ x. x.1) settled in record {
       done = search rules;
       fault = search rules;
