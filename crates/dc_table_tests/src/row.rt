@@ -7,8 +7,8 @@ use dc_names::{Kind, NAME_MAX, Name};
 use dc_plain::{Key, Label};
 use dc_row::{
     EMPTY_ROW, ROW_TEXT, ROW_WORDS, Row, RowLabel, RowText, counts_tell_nothing, decode,
-    empty_row_spells_nothing, encode, kind, length, number, rows_have_one_spelling, spelled_text,
-    tag, target, tells_of, text_in, text_of, value, words_have_the_fact_they_spell,
+    empty_row_spells_nothing, encode, encode_entry, kind, length, number, rows_have_one_spelling,
+    spelled_text, tag, target, tells_of, text_in, text_of, value, words_have_the_fact_they_spell,
     words_spell_one_row,
 };
 
@@ -75,6 +75,17 @@ fn words_of(at: usize) -> Option<[u64; ROW_WORDS]> {
     encode(&example(at)?)
 }
 
+/// The words of the first examples, which are entries, by their keys, and those of a text, which has none.
+fn words_of_entry(at: usize) -> Option<[u64; ROW_WORDS]> {
+    let (number, label, target) = match at {
+        0 => (1, Label::Name(Name::new(b"usr")?), Some((2, Kind::Dir))),
+        1 => (1, Label::Name(Name::new(b"x")?), None),
+        2 => (2, Label::DotDot, Some((1, Kind::Dir))),
+        _ => (4, Label::Text, None),
+    };
+    encode_entry(Key { number, label }, target)
+}
+
 /// Whether an example is spelled by its words alone.
 fn is_spelled(at: usize) -> bool
     requires { at < 5 }
@@ -89,6 +100,10 @@ fn spells_the_examples(rt: HostRuntime) {
     for at in 0..5 {
         assert!(rt; is_spelled(at), "{at}");
     }
+    for at in 0..3 {
+        assert!(rt; words_of_entry(at) == Some(wide(EXAMPLES[at])), "{at}");
+    }
+    assert!(rt; words_of_entry(3).is_none());
     assert!(rt; decode(&EMPTY_ROW) == Some(Row::Empty));
     rows_have_one_spelling();
     words_have_the_fact_they_spell();
