@@ -158,9 +158,9 @@ struct gb_gone {
 
 /* Makes a cache and opens its first pass. `buckets`, of four rows each, is a power of two from 1 to 4,194,304. `inodes`
  * is how many may live at once, the root among them, from 1 to 4,294,967,296. A name that is looked up takes a row:
- * with twice as many rows as such names 3 or 4 look-ups in 100 miss, with four times as many 1. A row weighs 380
- * bytes, and 64 more once it is filled; a name of 32 bytes or more adds its own bytes and some 45. This call takes the
- * memory of all rows, and until it returns 288 bytes more for each: 4,194,304 buckets take 6.4 GB, and 11.2 meanwhile.
+ * with twice as many rows as such names 3 or 4 look-ups in 100 miss, with four times as many 1. A row weighs 387
+ * bytes, and 31 more once it is filled; a name of more than 16 bytes adds its own bytes and some 15. This call takes the
+ * memory of all rows, and until it returns 260 bytes more for each: 4,194,304 buckets take 6.5 GB, and 10.9 meanwhile.
  * In the tree a name of up to 16 bytes weighs some 70 bytes, a longer one its own and some 90 more, and each some 35
  * more if names are made in rising order; an inode takes memory when it is made. There may be twice as many names as
  * inodes, in all directories together.

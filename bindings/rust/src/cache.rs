@@ -32,7 +32,7 @@ pub struct Cache {
 }
 
 impl Cache {
-    /// `buckets`, of four rows each, is a power of two from 1 to 4,194,304; a row takes 380 bytes at once. `inodes` is how
+    /// `buckets`, of four rows each, is a power of two from 1 to 4,194,304; a row takes 387 bytes at once. `inodes` is how
     /// many may live at once, the root among them, from 1 to 4,294,967,296; each takes memory when it is made. A name that
     /// is looked up takes a row: have two to four times as many rows as names. There may be twice as many names as inodes,
     /// in all directories together.

@@ -34,7 +34,7 @@
 //!
 //! # What it costs
 //!
-//! A cache of 1,024 buckets weighs 1.6 MB: a row takes 380 bytes, and 64 more once it is filled, and four rows are a
+//! A cache of 1,024 buckets weighs 1.6 MB: a row takes 387 bytes, and 31 more once it is filled, and four rows are a
 //! bucket. A [`Pass`] weighs 43 KB and takes 20 to 70 microseconds to make: keep one for each thread, not one for each
 //! request. A cache keeps spare ones, which [`Cache::pass`] splits: from the start as many as the machine runs threads at
 //! once, up to 16. Passes that were dropped are handed out again, which takes no split; no more than 64 are there at
