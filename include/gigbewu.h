@@ -40,8 +40,8 @@
  * watches it for a few microseconds. If the lock is held still, it answers GB_BUSY: then the tree is as it was, and the
  * call has no answer. The blocking forms at the end of this file (gb_look, gb_mkdir, ..) try again, and sleep
  * meanwhile. Most calls have the lock for a microsecond or less. The longest path, through 40 links whose texts have
- * 4,090 bytes each, takes 10 to 20 milliseconds under it, a rename with two such paths 25 to 50, and a list of a million
- * names 200 to 500, while others wait: if you don't trust those who make links, refuse long texts.
+ * 4,090 bytes each, takes 10 to 20 milliseconds under it, a rename with two such paths 20 to 50, and a list of a
+ * million names 200 to 500, while others wait: if you don't trust those who make links, refuse long texts.
  *
  * A path is `len` bytes, without a zero byte at its end. `base` is the number of the directory from which a relative
  * path starts. Names have up to 255 bytes, paths up to 4,095, and one path may pass 40 links. Names may come from
@@ -159,8 +159,9 @@ struct gb_gone {
 /* Makes a cache and opens its first pass. `buckets`, of four rows each, is a power of two from 1 to 4,194,304. `inodes`
  * is how many may live at once, the root among them, from 1 to 4,294,967,296. A name that is looked up takes a row:
  * with twice as many rows as such names 3 or 4 look-ups in 100 miss, with four times as many 1. A row weighs 387
- * bytes, and 31 more once it is filled; a name of more than 16 bytes adds its own bytes and some 15. This call takes the
- * memory of all rows, and until it returns 260 bytes more for each: 4,194,304 buckets take 6.5 GB, and 10.9 meanwhile.
+ * bytes, and 31 more once it is filled; a name of more than 16 bytes adds its own bytes and some 15. This call takes
+ * the memory of all rows, and until it returns 260 bytes more for each: 4,194,304 buckets take 6.5 GB, and 10.9
+ * meanwhile.
  * In the tree a name of up to 16 bytes weighs some 70 bytes, a longer one its own and some 90 more, and each some 35
  * more if names are made in rising order; an inode takes memory when it is made. There may be twice as many names as
  * inodes, in all directories together.
