@@ -33,7 +33,7 @@ impl<W: Wakes> Cache<W> {
     /// A cache as `new` makes it, with rows for as many names as the work looks up: `buckets` may be any
     /// power of two from 1 to 4,194,304, and `max_inodes` from 1 to 4,294,967,296. As a name stands in one
     /// of four rows, some 4 look-ups in 100 miss if there are twice as many rows as names, and 4 in 1,000
-    /// if there are four times as many. A row takes 380 bytes, and 64 more once it is filled; with a name
+    /// if there are four times as many. A row takes 387 bytes, and 31 more once it is filled; with a name
     /// of 32 bytes or more it takes some 45 more and those of the name. An inode takes memory when it is
     /// made. There may be twice as many names as inodes, as `with_names` says.
     pub fn with_buckets(

@@ -1,4 +1,4 @@
--- Some tests after others, and where among them want of memory may stand.
+-- Some tests after others, and where among them a lack of memory may stand.
 use Rattle.std.proofs.Common.{◌≡◌, ◌⊎◌, ℕ, Bool, true, false, true≢false, Option, Some, None, Result, Ok, Err, MatchResult, refl, sym, ap, ◌∙◌, subst, inl, inr}
 use Rattle.dc_plain.specs.Requests.{Request}
 use Rattle.dc_plain.specs.Runs.{alters}
@@ -22,7 +22,7 @@ pub refused_map : (P Q : Option Refusal → Type 0) (M N : Type 0) → ((o : Opt
 refused_map P Q M N f g None lacks = g lacks
 refused_map P Q M N f g (Some why) test = f (Some why) test
 
--- other tests, and another place for want of memory
+-- other tests, and another place for a lack of memory
 pub tested_map : {A : Type 0} (P Q : Option Refusal → Type 0) (M N : Type 0) → ((o : Option Refusal) → P o → Q o) → (M → N) → (r : Result A rust_refused.Refused) → TestedBy P M r → TestedBy Q N r
 tested_map P Q M N f g (Ok value) test = f None test
 tested_map P Q M N f g (Err why) test = refused_map P Q M N f g (refusal_shown why) test

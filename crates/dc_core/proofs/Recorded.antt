@@ -20,7 +20,7 @@ module _ (S : State) (us : List rust_actor.Actor) (j : ℕ) (one : rust_actor.Ac
   abbrev holding : List rust_actor.Actor → List rust_finished.Finished → State
   holding vs fs = record S { actors = map actor_shown vs; finished = map finished_shown fs }
 
-  -- want of memory
+  -- out of memory
   pub unturned : (one' : rust_actor.Actor) (old new : List rust_finished.Finished) → actor_shown one' ≡ actor_shown one → new ≡ old → holding (set us j one') new ≡ holding us old
   unturned one' old new shown same = λ i. record S { actors = unacted us j one one' less is shown i; finished = map finished_shown (same i) }
 

@@ -80,7 +80,7 @@ blank_row ws (Some r) spelled tells = (λ e. subst (Spells ws) (inside e) spelle
 pub next_row : (Test : ℕ → Type 0) (n : ℕ) → ((r : ℕ) → r < n → Test r → ⊥) → (Test n → ⊥) → (r : ℕ) → r < n + 1 → Test r → ⊥
 next_row Test n before here r less t = dite (ℕ_discrete r n) (λ e. here (subst Test e t)) (λ ne. before r (omega arith) t)
 
--- so many words that stand next to one another
+-- this many words that stand next to one another
 pub words_between : (words : List ℕ) (k n : ℕ) → k + n ≤ length words → take n (drop k words) ≡ words_from words k n
 words_between words k zero l = refl
 words_between words k (suc n) l = ap (take (suc n)) (drop-cons words k 0 (omega arith)) ∙ ap (λ (ws : List ℕ). get_or words k 0 ∷ ws) (words_between words (suc k) n (omega arith))

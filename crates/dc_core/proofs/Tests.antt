@@ -89,7 +89,7 @@ module _ (s : rust_state.State) (j : ℕ) (one : rust_actor.Actor) (is : one ≡
   pub no_call_answered : one.call ≡ None → Answers (state_of s) (event_by j (Give true)) (Some NoCall)
   no_call_answered has = answer_after (state_of s) j (Some NoCall) may (inl (giver_busy None has, refl))
 
-  -- want of memory comes before the last test
+  -- a lack of memory comes before the last test
   pub memory_lacked : {A : Type 0} (r : Result A rust_refused.Refused) (call : OwnCall) → r ≡ Err refusals.NoMemory → one.call ≡ Some call → AnsweredAs (state_of s) (event_by j (Give true)) r
   memory_lacked r call wants has = answer_lacks (state_of s) j r wants may (giver_busy (Some call) has)
 

@@ -53,7 +53,7 @@ impl Core {
     }
 
     /// Does an event, or refuses it: exactly if its tests say so, by the first that holds. After a
-    /// refusal the core is as it was. Want of memory is an answer to `Begin`, `Commit`, `Give(true)`,
+    /// refusal the core is as it was. `NoMemory` is an answer to `Begin`, `Commit`, `Give(true)`,
     /// `Note`, `Read`, `Pivot` and `Check` alone; it may stand in the place of `Unaltered`, `Full`,
     /// `Touched` or `Alters`, and else comes after all tests.
     pub fn step(&mut self, alloc: Global, event: Event) -> Result<(), Refused>

@@ -16,7 +16,7 @@ pub struct Finished {
     pub at: u64,
 }
 
-/// What a core has.
+/// A core between two events: its table and tree, what each actor is doing, and what was answered.
 #[derive(Drop)]
 pub struct State {
     /// The clock, the lock, and then `ROW_WORDS` words for each row, its count first.

@@ -65,7 +65,7 @@ impl Actor {
         }
     }
 
-    /// A call begins.
+    /// Takes up a call, with neither notes nor a pivot.
     pub fn begin(&mut self, call: OwnCall)
         ensures { actor_shown self.new
             ≡ record (actor_shown self.old) { walk = walk_begun (own_request call) } }
@@ -75,7 +75,7 @@ impl Actor {
         self.again();
     }
 
-    /// The walk begins anew.
+    /// Forgets what the walk has found, so that it begins anew.
     pub fn again(&mut self)
         ensures { actor_shown self.new ≡ gone_again (actor_shown self.old) }
     {
@@ -83,7 +83,7 @@ impl Actor {
         self.pivot = None;
     }
 
-    /// The call ends.
+    /// Ends the call that the actor makes, and answers it.
     pub fn end(&mut self) -> OwnCall
         requires { (actor_shown self.old).walk.busy ≡ true }
         ensures walk { actor_shown self.new ≡ record (actor_shown self.old) { walk = no_walk } }

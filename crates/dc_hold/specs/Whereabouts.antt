@@ -13,7 +13,7 @@ use Rattle.dc_hold.specs.Tells.{inode, nothing}
 use Rattle.dc_hold.specs.declared.status.Status.TheVariants as statuses
 use Rattle.dc_hold.specs.declared.told.Told.{Told}
 
--- where a directory is, if another pass hadn't the lock
+-- where a directory is, unless another pass had the lock
 abbrev pub Located : Type 0
 Located = Option cache.Whereabouts
 

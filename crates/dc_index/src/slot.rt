@@ -149,7 +149,7 @@ pub(crate) fn place_of_key(slots: &[Slot], key: &Key<'_>) -> Option<usize>
     slots.iter().position(|slot| slot.holds(key))
 }
 
-/// So many free slots.
+/// This many free slots.
 pub(crate) fn free_slots(alloc: Global, rows: u64) -> Result<Vec<Slot>, AllocError>
     ensures { IfOk result (λ slots. slots.items ≡ map (λ _. slot.Free) (range_with_len 0 rows)) }
 {

@@ -40,7 +40,7 @@ word_of-none : word_of [] ≡ 0
 unfolding word_of
 word_of-none = refl
 
--- a shift by so many bytes loses the first ones
+-- a shift by this many bytes loses the first ones
 pub word_of-drop : (k : ℕ) (bs : List ℕ) → length bs ≤ 8 → AreBytes bs → word_of bs / 2 ^ (8 * k) ≡ word_of (drop k bs)
 word_of-drop zero bs short are = omega arith
 word_of-drop (suc k) [] short are = ap (λ (n : ℕ). n / 2 ^ (8 * suc k)) word_of-none ∙ zero-div (2 ^ (8 * suc k)) ∙ sym word_of-none

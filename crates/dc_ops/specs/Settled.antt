@@ -39,7 +39,8 @@ FoundTakesNoMemory found = IfOk found (λ plan. IfSome plan (λ plan. PlanTakesN
 abbrev pub DeclinesCall : ℕ → Tree → rust_call.Call → rust_reply.Reply → Type 0
 DeclinesCall limit t call reply = Declines limit t (request_of call) (answer_of reply)
 
--- a call comes to a plan of its change, or to the reply of one that alters nothing and takes nothing away
+-- a call comes to a plan of its change, or to the reply of one that alters nothing: its refusal, or that of a call
+-- by which nothing goes
 abbrev pub IsPlanned : ℕ → Tree → Request → Result rust_plan.Plan rust_reply.Reply → Type 0
 IsPlanned limit t request found = MatchResult found (Plans limit t request) (λ reply. Declines limit t request (answer_of reply) × TakesNothing t request (answer_of reply))
 

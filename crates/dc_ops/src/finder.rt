@@ -4,7 +4,6 @@ ghost use Rattle.std.specs.Prelude.{◌≡◌, ◌≤◌, refl, Some, option_map
 ghost use Rattle.dc_plain.specs.Facts.Label.{Entry, Parent};
 ghost use Rattle.dc_plain.specs.IsWellFormed.{IsWellFormed};
 ghost use Rattle.dc_plain.specs.Trees.{told_of, entry_of, target_at, names_of};
-ghost use Rattle.dc_names.specs.Hash.{hash_of};
 ghost use Rattle.dc_names.specs.Paths.Part.{DotDot};
 ghost use Rattle.dc_resolve.specs.Asked.{may_be_found};
 ghost use Rattle.dc_ops.specs.Found.{number_at};
@@ -32,18 +31,6 @@ pub(crate) fn entry<S: Store>(store: &S, dir: u64, name: Name<'_>) -> Option<Tar
 {
     names_lead_to_the_living();
     let number = store.find(dir, name)?;
-    let kind = store.kind(number)?;
-    Some((number, kind))
-}
-
-/// Where a name in a directory leads, for a caller that has the hash of the directory's number and the
-/// name.
-fn entry_by<S: Store>(store: &S, dir: u64, name: Name<'_>, hash: u64) -> Option<Target>
-    requires { hash ≡ hash_of dir name.bytes.now }
-    ensures { result ≡ entry_of (S.tree store.now) dir (Entry name.entry.bytes.now) }
-{
-    names_lead_to_the_living();
-    let number = store.find_hashed(dir, name, hash)?;
     let kind = store.kind(number)?;
     Some((number, kind))
 }
@@ -81,18 +68,6 @@ impl<'a, S: Store> Finder for StoreFinder<'a, S> {
             Part::DotDot => Ok(up(self.store, dir)),
             // A walk stays where it is at a dot, and asks nothing: `is_asked` says so.
             Part::Dot => unreachable!(),
-        }
-    }
-
-    fn find_hashed(
-        &mut self,
-        dir: u64,
-        part: Part<'_>,
-        hash: u64,
-    ) -> Result<Option<Target>, Infallible> {
-        match part {
-            Part::Normal(name) => Ok(entry_by(self.store, dir, name, hash)),
-            Part::DotDot | Part::Dot => self.find(dir, part),
         }
     }
 

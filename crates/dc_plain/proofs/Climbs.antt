@@ -1,4 +1,4 @@
--- A climb from a directory towards the root, with so many steps left.
+-- A climb from a directory towards the root, with this many steps left.
 use Rattle.std.proofs.Common.{◌≡◌, ◌≢◌, ◌<◌, ◌-◌, ℕ, zero, suc, ◌==◌, true, false, Some, None, refl, arith}
 use Rattle.dc_plain.specs.Trees.{Tree, holder_of}
 use Rattle.dc_plain.specs.Operations.{is_beneath}

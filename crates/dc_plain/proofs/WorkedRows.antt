@@ -78,12 +78,12 @@ link_to_itself = refl
 abbrev named : ℕ → List ℕ
 named n = (100 + n) ∷ []
 
--- so many links in the root, each made after the one that it leads to
+-- this many links in the root, each made after the one that it leads to
 abbrev chain : ℕ → List Request
 chain zero = []
 chain (suc n) = Symlink 1 (named (suc n)) (47 ∷ named n) ∷ chain n
 
--- so many inodes made, from a number on
+-- this many inodes made, from a number on
 abbrev made : ℕ → ℕ → List Answer
 made first zero = []
 made first (suc n) = Done first ∷ made (suc first) n

@@ -64,7 +64,7 @@ wide_ends words len ends i within = subst (λ (b : ℕ). (i < len) ↔ (b ≢ 0)
 pub narrow_ends : (words : List ℕ) (len : ℕ) → EndsAt (widened words) len → EndsAt words len
 narrow_ends words len ends i within = subst (λ (b : ℕ). (i < len) ↔ (b ≢ 0)) (wide_byte words i) (ends i within)
 
--- so many of the bytes for a text
+-- this many of the bytes for a text
 abbrev front : List ℕ → ℕ → List ℕ
 front words len = bytes_from (byte_in words) 0 len
 

@@ -1,13 +1,11 @@
 //! What a row tells of a key.
 
 ghost use Rattle.std.specs.Prelude.{IfNone, IfSome};
-ghost use Rattle.dc_index.specs.Hashed.{key_in};
 ghost use Rattle.dc_plain.specs.KeysShown.{key_shown};
 ghost use Rattle.dc_plain.specs.Trees.{Tree};
 ghost use Rattle.dc_rows.specs.RowChanges.{CanTell, LeadsTo};
 ghost use Rattle.dc_table.specs.Rows.{IsOf};
 
-use dc_index::HashedKey;
 use dc_names::Kind;
 use dc_plain::{Key, Label, Target};
 use dc_row::{ROW_WORDS, Row, RowText, encode, encode_entry};
@@ -26,15 +24,13 @@ pub(crate) fn entry_words(key: &Key<'_>, target: Option<Target>) -> Option<[u64;
     encode_entry(*key, target)
 }
 
-/// The words of a row that tells what a store has under a key, or `None` if no row can tell it. The store
-/// seeks a name by the key's hash.
-pub(crate) fn words_for<S: Store>(store: &S, hashed: &HashedKey<'_>) -> Option<[u64; ROW_WORDS]>
-    ensures some { IfSome result (λ words. IsOf (S.tree store.now) words (key_in hashed.now)) }
-    ensures none { IfNone result (CanTell (S.tree store.now) (key_in hashed.now) → ⊥) }
+/// The words of a row that tells what a store has under a key, or `None` if no row can tell it.
+pub(crate) fn words_for<S: Store>(store: &S, key: &Key<'_>) -> Option<[u64; ROW_WORDS]>
+    ensures some { IfSome result (λ words. IsOf (S.tree store.now) words (key_shown key.now)) }
+    ensures none { IfNone result (CanTell (S.tree store.now) (key_shown key.now) → ⊥) }
 {
-    let key = &hashed.key;
     let target = match key.label {
-        Label::Name(name) => match store.find_hashed(key.number, name, hashed.hash) {
+        Label::Name(name) => match store.find(key.number, name) {
             Some(number) => store.kind(number).map(|kind| (number, kind)),
             None => None,
         },

@@ -83,7 +83,7 @@ impl Guard<'_> {
         if let Some(row) = self.guarded.index.row_of_hashed(key) {
             return Ok(Some(row));
         }
-        let Some(words) = words_for(&self.guarded.store, key) else {
+        let Some(words) = words_for(&self.guarded.store, &key.key) else {
             return Ok(None);
         };
         self.fill_new(alloc, key, &words)

@@ -124,7 +124,7 @@ fn refill_row(holder: &mut Holder<'_>, kept: &mut Guarded, odd: &OddRow<'_>)
     let row = odd.row;
     // The odd row tells still what it told of its key, so its text is no longer than the key lets it be.
     let end = most_words(&kept.index, row);
-    match words_for(&kept.store, &odd.key) {
+    match words_for(&kept.store, &odd.key.key) {
         Some(words) => open_with(holder, row, &words, end),
         None => {
             open_with(holder, row, &EMPTY_ROW, end);

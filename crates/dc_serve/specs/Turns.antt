@@ -90,7 +90,7 @@ abbrev pub IsTurnwise : List (List Order) → Type 0
 IsTurnwise [] = Unit {0}
 IsTurnwise (orders ∷ phases) = ((session : ℕ) × (session < SESSIONS) × OrdersAre session orders) × IsTurnwise phases
 
--- where one session alone has orders, each run of them tells what the plain server answers
+-- if one session alone has orders, each run of them tells what the plain server answers
 abbrev pub OneSessionIsPlain : (List (List Order) → ℕ → List ℕ) → Type 0
 OneSessionIsPlain plain_text = (limit session : ℕ) (phases : List (List Order)) (turns : List (List Turn))
     → session < SESSIONS → IsRun limit phases turns → IsAlone session phases → text_of (all_of turns) ≡ plain_text phases limit

@@ -123,7 +123,7 @@ impl MapStore {
 impl Store for MapStore {
     ghost tree = { λ store. store };
 
-    fn find_hashed(&self, dir: u64, name: Name<'_>, _hash: u64) -> Option<u64> {
+    fn find(&self, dir: u64, name: Name<'_>) -> Option<u64> {
         self.entries.get(dir, name)
     }
 

@@ -234,10 +234,6 @@ impl Store for SlabStore {
         self.inodes.get(dir)?.names.get(name)
     }
 
-    fn find_hashed(&self, dir: u64, name: Name<'_>, _hash: u64) -> Option<u64> {
-        self.find(dir, name)
-    }
-
     fn kind(&self, number: u64) -> Option<Kind> {
         let inode = self.inode(number)?;
         Some(inode.node.kind())

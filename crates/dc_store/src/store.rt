@@ -1,7 +1,6 @@
 //! What a store of inodes and entries does, as calls on a plain tree.
 
 ghost use Rattle.std.specs.Prelude.{◌≡◌, None, Some, length, option_map, IsTrue, IfSome, IfOk, OnOk, OnErr};
-ghost use Rattle.dc_names.specs.Hash.{hash_of};
 ghost use Rattle.dc_names.specs.Paths.{fault_of};
 ghost use Rattle.dc_plain.specs.BytesShown.{names_shown};
 ghost use Rattle.dc_plain.specs.Conditions.{CanSwap};
@@ -15,7 +14,7 @@ ghost use Rattle.dc_store.specs.Dropped.{CanDrop, Drops};
 ghost use Rattle.dc_store.specs.Moved.{CanStandAt, tree_moved};
 ghost use Rattle.dc_plain.specs.Spots.{spot_at, spot_shown};
 
-use dc_names::{Kind, Name, NoMemory, PathText, hash};
+use dc_names::{Kind, Name, NoMemory, PathText};
 use dc_plain::Spot;
 use std::alloc::Global;
 
@@ -40,16 +39,6 @@ pub trait Store {
     /// The number that a name in a directory leads to. `None` if there is no such entry, or no such
     /// directory.
     fn find(&self, dir: u64, name: Name<'_>) -> Option<u64>
-        ensures target { result ≡ entry_number (tree self.now) (spot_at dir name.entry.bytes.now) }
-        ensures well { IsWellFormed (tree self.now) }
-    {
-        self.find_hashed(dir, name, hash(dir, name.bytes()))
-    }
-
-    /// The number that a name in a directory leads to, for a caller that has the hash of the directory's
-    /// number and the name, as a walk makes it. `None` if there is no such entry, or no such directory.
-    fn find_hashed(&self, dir: u64, name: Name<'_>, hash: u64) -> Option<u64>
-        requires { hash ≡ hash_of dir name.bytes.now }
         ensures target { result ≡ entry_number (tree self.now) (spot_at dir name.entry.bytes.now) }
         ensures well { IsWellFormed (tree self.now) };
 

@@ -30,7 +30,7 @@ use Rattle.dc_walk.proofs.Checks.{use_there}
 use Rattle.dc_walk.proofs.Fronts.{IsTrueAt}
 use Rattle.dc_walk.proofs.Marks.{next_there}
 
--- the pivot counted this many calls, and so many of the rows told what was so then
+-- the pivot counted this many calls, and this many of the rows told what was so then
 pub record WereSoFar (k : Knowing) (limit : ℕ) (room : Kept) (at c : ℕ) : Type 0 where
   pub counts : CountsAt k at
   pub told : (j : ℕ) → j < c → IsTrueAt (tree_of limit counts.history) room j
