@@ -109,7 +109,7 @@ class Script:
         self.first = None
 
     def path(self, process, text, descriptor=None):
-        """A path as the server has it, or None where it leads out of the folder."""
+        """A path as the server has it, or None if it leads out of the folder."""
         text = unescape(text)
         start = self.directories.setdefault(process, self.directories.get(self.first))
         named = re.match(r"\w+<(.*)>$", descriptor or "")
@@ -148,7 +148,7 @@ class Script:
             return self.refused(command, error)
         directory, name, there = self.names.walk(path, True)
         if directory is None or there is not None:
-            raise ValueError(f"{command!r}: made where the calls before left {there}")
+            raise ValueError(f"{command!r}: made although the calls before left {there}")
         number = self.names.make(directory, name, kind, text)
         self.add(command, b"ok %d" % number)
         self.clock += 1
@@ -189,7 +189,7 @@ def spelled(path):
 
 
 def take(script, call):
-    """Makes a line of a call, where it has one."""
+    """Makes a line of a call, if it has one."""
     process, name, arguments, result, error = call
     script.first = script.first or process
     texts = TEXT.findall(arguments)
@@ -228,7 +228,7 @@ def take(script, call):
 
 
 def descriptor_of(name, words, i):
-    """The directory that a path is relative to, where the call names one."""
+    """The directory that a path is relative to, if the call names one."""
     if not name.endswith(("at", "at2", "statx")) or name == "stat" or name == "lstat":
         return None
     if name == "symlinkat":
@@ -237,7 +237,7 @@ def descriptor_of(name, words, i):
 
 
 def opened(script, path, arguments, error):
-    """An open is a look-up, or where it makes the file a creation."""
+    """An open is a look-up, or, if it makes the file, a creation."""
     if "O_CREAT" in arguments:
         exists = script.names.walk(path, False)[2] is not None
         if "O_EXCL" in arguments or not exists:

@@ -1,4 +1,4 @@
-/* The cache itself, by the functions of gigbewu.h: by rows, and where these don't answer under the lock. */
+/* The cache itself, by the functions of gigbewu.h: by rows, and if these don't answer under the lock. */
 #include "peer.h"
 #include <gigbewu.h>
 #include <pthread.h>

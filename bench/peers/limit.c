@@ -341,7 +341,7 @@ static size_t row_with(const struct key *key)
     return find(key->parent, key->hash, key->name, key->length, &told, &note) == FOUND ? note.row : 0;
 }
 
-/* A row that tells nothing, or where there is none the one whose turn it is. */
+/* A row that tells nothing, or if there is none the one whose turn it is. */
 static size_t row_for(uint64_t hash)
 {
     for (size_t i = 0; i < BUCKET_ROWS; i++)

@@ -14,7 +14,7 @@
 
 const char *const peer_name = "rwlock";
 
-/* A name of a directory: the number that it leads to, 0 where it is gone, and whether that is a directory. */
+/* A name of a directory: the number that it leads to, 0 if it is gone, and whether that is a directory. */
 struct entry {
     uint64_t parent, number;
     const char *name;
@@ -69,7 +69,7 @@ void peer_leave(void)
 {
 }
 
-/* The slot of a path's last name, or none where its directory isn't there. */
+/* The slot of a path's last name, or none if its directory isn't there. */
 static struct entry *last_of(const char *path, const char **name)
 {
     struct entry *parent = walk(path, strlen(path), 0);

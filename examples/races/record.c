@@ -8,7 +8,7 @@
  * of the rounds about it are printed as a trace (docs/FORMATS.md), session 0 the thread that renames: first what made
  * the directories, then the changes from the beginning of a round on, and the last few look-ups of each thread.
  *
- * It ends with 1 where no look-up found the file within SECONDS.
+ * It ends with 1 if no look-up found the file within SECONDS.
  */
 #define _GNU_SOURCE
 #include <errno.h>

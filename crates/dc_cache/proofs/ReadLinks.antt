@@ -55,7 +55,7 @@ pub no_link : (k : Kind) → (k ≡ Dir) ⊎ (k ≡ File) → k ≢ Link
 no_link k (inl dir) e = let no : Dir ≡ Link = sym dir ∙ e in absurd cc
 no_link k (inr file) e = let no : File ≡ Link = sym file ∙ e in absurd cc
 
--- the same of a reply that is known by its parts
+-- and so for a reply that is known by its parts
 pub read_invalid : WalksLeadToTheLiving → KeepsRunsWellFormed → IsWellFormed empty_tree → (base : ℕ) (text : List ℕ) (n : ℕ) (k : Kind) → k ≢ Link → (looked : Answer) (number : ℕ) → looked ≡ Found n k → number ≡ refusal_number Invalid
     → ReadsAs base text looked (Refused number)
 read_invalid living runs opened base text n k apart looked number is told = subst (λ m. ReadsAs base text looked (Refused m)) (sym told) (subst (λ a. ReadsAs base text a (Refused (refusal_number Invalid))) (sym is) (read_refused living runs opened base text n k apart))

@@ -38,7 +38,7 @@ ToldAlongTo limit history v w base text how places (Err fault) = LacksPlaces lim
 abbrev pub FindsAlong : Pass → Pass → ℕ → List ℕ → Follow → List ℕ → FastAlong → Type 0
 FindsAlong p q base text how places told = walks.FindsAlong base text how p.seat q.seat places told
 
--- the same of a pass, by the history with which it got the lock for this call
+-- likewise for a pass, by the history with which it got the lock for this call
 abbrev pub TellsAlong : Pass → Pass → ℕ → List ℕ → Follow → List ℕ → Result (Stamped × ℕ) TooFewPlaces → Type 0
 TellsAlong p q base text how places told = ToldAlongTo (share p).limit (known q).got.history (view p) (view q) base text how places told
 

@@ -90,7 +90,7 @@ least low [] up x a = absurd a
 least low (s ∷ ss) up x (inl here) = let same : s.at ≡ x.at = ap (λ (z : Stamp). z.at) here in let first = up.0 in omega arith
 least low (s ∷ ss) up x (inr more) = let after = least s.at ss up.1 x more in let first = up.0 in omega arith
 
--- where no change was met, the first stamp is at the judge's point
+-- if no change was met, the first stamp is at the judge's point
 first_here : (limit : ℕ) (t : Tree) (clock : ℕ) (s : Stamp) (ss : List Stamp) (order : List Stamp) → ((n : ℕ) → of_actor n order ≡ of_actor n (s ∷ ss)) → IsRun limit t clock order → Rises s.at ss → s.at ≡ clock
 first_here limit t clock s ss [] kept run up = absurd (among_kept (s ∷ ss) [] (λ n. sym (kept n)) s (inl refl))
 first_here limit t clock s ss (y ∷ ys) kept run up =
@@ -99,7 +99,7 @@ first_here limit t clock s ss (y ∷ ys) kept run up =
     let high = least s.at (s ∷ ss) (self, up) y (among_kept (y ∷ ys) (s ∷ ss) kept y (inl refl)) in
     let here = run.0 in omega arith
 
--- where one was met and the next stamp is later, it comes first
+-- if one was met and the next stamp is later, it comes first
 record Changed (limit : ℕ) (t : Tree) (clock : ℕ) (p s : Stamp) (ss : List Stamp) : Type 0 where
   pub moves : Moves (judge_at limit t clock (Some p)) s.at
   pub rest : Run (judge_at limit (tree_after limit t p.request) s.at None) (s ∷ ss)

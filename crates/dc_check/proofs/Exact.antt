@@ -1,4 +1,4 @@
--- The stamps are legal exactly where no actor's points fall and the stamps by their points pass.
+-- The stamps are legal exactly if no actor's points fall and the stamps by their points pass.
 use Rattle.std.proofs.Common.{ℕ, List, sym, ◌∙◌}
 use Rattle.dc_plain.specs.LivingLaws.{SameTreeDecides}
 use Rattle.dc_plain.specs.Legal.{Stamp, IsLegal}

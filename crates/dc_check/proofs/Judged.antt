@@ -21,7 +21,7 @@ falling_illegal limit stamps found line none_if is legal =
     let none = none_if.1 (legal_rises limit stamps legal) in
     let both : Some line ≡ None = sym is ∙ none in cc
 
--- stamps that pass are legal, and their marks are in the order of the phases exactly where they are
+-- stamps that pass are legal, and their marks are in the order of the phases exactly if they are
 pub legal_as : SameTreeDecides → (limit : ℕ) (phases : List ℕ) (stamps : List Stamp) (sorted : List rust_numbered.Numbered) (marks : List Mark) → RisesByActor stamps → AreByPoint phases stamps sorted
     → Passes (all_numbered sorted) (opening limit) → all_spans marks ≡ spans_in (opening limit) (all_phased sorted) → IsLegalAs limit phases stamps (InPhases (all_spans marks))
 legal_as decides limit phases stamps sorted marks up by passes is =

@@ -29,7 +29,7 @@ ArePaired (order ∷ orders) (response ∷ responses) = (order.session ≡ respo
 abbrev pub stamp_from : ℕ → Order → Response → Stamp
 stamp_from base order response = record { actor = order.session; request = request_from base order; answer = response.answer; at = response.at }
 
--- each order with its response, where the sessions start here
+-- each order with its response, for sessions that start here
 abbrev pub stamps_from : List ℕ → List Order → List Response → List Stamp
 stamps_from bases [] responses = []
 stamps_from bases (order ∷ orders) [] = []

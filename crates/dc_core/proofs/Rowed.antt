@@ -45,7 +45,7 @@ module _ (s : State) (call : Request) (row : ℕ) where
 even_or : (n : ℕ) → (n % 2 ≡ 1 → ⊥) → n % 2 ≡ 0
 even_or n other = omega arith
 
--- the same of words that were decoded
+-- and so for words that were decoded
 module _ (s : State) (call : Request) (row : ℕ) (words : List ℕ) (o : Option Row) (r : Row) (is : words ≡ row_words s.words row) (some : o ≡ Some r) (tells : TellsRow words (option_map row_shown o)) where
   pub with_fact : (f : Fact) → (count s.words row % 2 ≡ 1 → ⊥) → Spells words (row_shown r) → Some f ≡ row_shown r → (b : Bool) → (IsTrue b ↔ Touches s.limit s.tree call (key_of f)) → IsTrue b ↔ IsTouched s call row
   with_fact f odd spells fact = touched_some s call row (option_map row_shown o) (row_shown r) f (even_or (count s.words row) odd) (ap (option_map row_shown) some)
@@ -54,7 +54,7 @@ module _ (s : State) (call : Request) (row : ℕ) (words : List ℕ) (o : Option
   pub without_fact : row_shown r ≡ None → IsTrue false ↔ IsTouched s call row
   without_fact none = (λ t. absurd (true≢false (sym t)), λ h. absurd (touched_none s call row (option_map row_shown o) (row_shown r) (ap (option_map row_shown) some) (subst (λ l. TellsRow l (option_map row_shown o)) is tells) none h))
 
--- a row with a fact is true where the fact is
+-- a row with a fact is true exactly if the fact is
 pub with_true : (s : State) (row : ℕ) (words : List ℕ) (o : Option Row) (r : Row) → words ≡ row_words s.words row → o ≡ Some r → TellsRow words (option_map row_shown o) → (f : Fact) → Spells words (row_shown r) → Some f ≡ row_shown r
     → (b : Bool) → (IsTrue b ↔ Holds s.tree f) → IsTrue b ↔ IsTrueRow s row
 with_true s row words o r is some tells f spells fact b so = (

@@ -33,7 +33,7 @@ first_line_of (b ∷ c ∷ bs) h =
       | false ↦ ap (onto_first b) rest ∙ one_more b (c ∷ bs) (line_length (c ∷ bs))
     ]
 
--- where the text is cut before the newline, which the rest then begins with
+-- if the text is cut before the newline, the rest begins with that
 pub cut_line : (bytes line rest : List ℕ) (n : ℕ) → 0 < length bytes → n ≡ line_length bytes → line ≡ take n bytes → rest ≡ drop n bytes → lines_of bytes ≡ line ∷ lines_of (drop 1 rest)
 cut_line bytes line rest n some is front back =
     let again : drop 1 rest ≡ drop (line_length bytes + 1) bytes = ap (drop 1) back ∙ drop-drop 1 n bytes ∙ ap (λ (k : ℕ). drop (k + 1) bytes) is in

@@ -30,7 +30,7 @@ module _ {A : Type 0} (Reads : List ℕ → A → Type 0) where
   }
   next_is_bad lines i said NoMemory within all is = tt
 
-  -- the same of lines that are borrowed
+  -- and so for lines that are borrowed
   pub next_read : (lines : List (Bor (List ℕ))) (i : ℕ) (other : Bor (List ℕ)) (said : List A) (one : A) → i < length lines
       → AllRead Reads (take i (map (λ line. line.now) lines)) said → Reads (get_or lines i other).now one → AllRead Reads (take (i + 1) (map (λ line. line.now) lines)) (said ++ one ∷ [])
   next_read lines i other said one within all says =

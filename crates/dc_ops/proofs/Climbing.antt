@@ -40,7 +40,7 @@ directory_in (Some Directory) e = refl
 directory_in (Some Regular) e = cc
 directory_in (Some (Symbolic text)) e = cc
 
--- where an entry leads to a live directory, so it is told
+-- an entry that leads to a live directory is told to lead there, to a directory
 leads_so : (t : Tree) (up n : ℕ) (name : List ℕ) → entry_number t (spot_at up name) ≡ Some n → IsTrue (is_live_directory t n) → entry_of t up (Entry name) ≡ Some (n, Dir)
 leads_so t up n name found live =
     ap (λ (o : Option ℕ). option_and_then (target_at t) o) found
@@ -136,7 +136,7 @@ put_so bytes between after start place name is within first second =
     let two : after ≡ take start between ++ (47 ∷ drop (start + 1) between) = second ∙ append_assoc (take start between) (47 ∷ []) (drop (start + 1) between) in
     ap (drop start) two ∙ drop_at (take start between) (47 ∷ drop (start + 1) between) start (length-take-le start between (omega (arith, long))) ∙ ap (λ (bs : List ℕ). 47 ∷ bs) behind
 
--- where a name was written the buffer has its end
+-- if nothing was written there were no names
 some_length : (names : List (List ℕ)) → length (spelled names) ≡ 0 → names ≡ []
 some_length [] e = refl
 some_length (name ∷ names) e = absurd cc

@@ -40,7 +40,7 @@ never false s x u w e = e
 never true false x u w e = e
 never true true x u w e = e
 
--- where no part is left, in a directory
+-- if no part is left, the path ends in the directory where it stands
 ends_there : (at there : Target) (s : Bool) → Some (ending follow.Dir at s) ≡ Some (Found there) → at ≡ (there.0, Dir)
 ends_there (n, Dir) there true e = let same : (n, Dir) ≡ there = cc in ap (λ (x : Target). (x.0, Dir)) same
 ends_there (n, Dir) there false e = let same : (n, Dir) ≡ there = cc in ap (λ (x : Target). (x.0, Dir)) same

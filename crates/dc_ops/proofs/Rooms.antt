@@ -1,4 +1,4 @@
--- Where an entry may be added, there is room for it.
+-- If an entry may be added, there is room for it.
 use Rattle.std.proofs.Common.{◌≡◌, ℕ, ◌<◌, ◌≤◌, ◌||◌, ◌==◌, nat_le, length, Bool, true, false, Option, Some, None, is_some, option_map, IsTrue, refl, ap, sym, ◌∙◌, arith}
 use Rattle.std.proofs.lemmas.Bool.Decides.{nat_tests}
 use Rattle.dc_names.specs.declared.kind.Kind.TheVariants.{Dir}

@@ -23,11 +23,11 @@ SettlesCall limit t request found = Settles t (change_of limit t request) (liste
 abbrev pub SettlesCallIf : ℕ → Tree → Request → Result (Option rust_plan.Plan) Refusal → Type 0
 SettlesCallIf limit t request found = SettlesIf t (change_of limit t request) (listed t request) found
 
--- the same of a call by which no inode comes: no limit counts there, and 0 stands for any
+-- likewise for a call by which no inode comes: no limit counts there, and 0 stands for any
 abbrev pub SettlesUnlimited : Tree → Request → Result rust_plan.Plan Refusal → Type 0
 SettlesUnlimited t request found = SettlesCall 0 t request found
 
--- and of one that may come to nothing
+-- and for one that may come to nothing
 abbrev pub SettlesUnlimitedIf : Tree → Request → Result (Option rust_plan.Plan) Refusal → Type 0
 SettlesUnlimitedIf t request found = SettlesCallIf 0 t request found
 

@@ -30,19 +30,19 @@ taken_target t spot n =
     let gone = lookup-take spot_cmp spots_total spot spot t.entries ∙ rw (tied spot.dir spot.name) refl in
     either_left (λ u. entry_number u spot ≡ None) t spot.dir spot.name n gone gone
 
--- nor does one that leads nowhere where another is taken
+-- one that leads nowhere still does if another is taken
 still_free : (t : Tree) (spot other : Spot) → entry_number t spot ≡ None → entry_number (without_entry_alone t other.dir other.name) spot ≡ None
 still_free t spot other free =
     lookup-take spot_cmp spots_total other spot t.entries ∙ ap (λ o. cond (not (eq_by_cmp spot_cmp other spot)) o None) free
     ∙ elim (eq_by_cmp spot_cmp other spot) as (λ b. cond {A = Option ℕ} (not b) None None ≡ None) [ true ↦ refl | false ↦ refl ]
 
--- the new name is free where what stood there went
+-- the new name is free once what stood there went
 pub free_over : (t : Tree) (from to : Spot) (there : Option Target) → LeadsTo t to.dir to.name there
     → entry_number (without_moved t from to there) to ≡ None
 free_over t from to None leads = still_free t to from leads
 free_over t from to (Some place) leads = still_free (without_entry t to.dir to.name place.0) to from (taken_target t to place.0)
 
--- two trees are apart where an entry leads elsewhere
+-- two trees differ if an entry leads elsewhere
 apart_by : (t u : Tree) (spot : Spot) → entry_number u spot ≢ entry_number t spot → u ≢ t
 apart_by t u spot other same = other (ap (λ v. entry_number v spot) same)
 

@@ -1,4 +1,4 @@
--- What the steps of a call say where they come to their end.
+-- What the steps of a call say when they come to their end.
 use Rattle.std.proofs.Common.{◌≡◌, ℕ, List, Bool, true, false, Option, Some, None, Result, Ok, Err, refl, subst}
 use Rattle.dc_names.specs.declared.refusal.Refusal.{Refusal}
 use Rattle.dc_plain.specs.Facts.{Target}
@@ -8,7 +8,7 @@ use Rattle.dc_names.specs.Lasts.{Last, name_or, name_or_each}
 use Rattle.dc_names.specs.Lasts.Last.{Root, Dot, DotDot, Name}
 use Rattle.dc_plain.specs.Refusals.{◌>>=◌, refuse, present}
 
--- where a step and what follows it come to an answer, the step was no refusal
+-- if a step and what follows it come to an answer, the step was no refusal
 pub after : {A B : Type 0} {P : Type 0} (r : Result A Refusal) (next : A → Result B Refusal) (b : B) → (r >>= next) ≡ Ok b → ((a : A) → r ≡ Ok a → next a ≡ Ok b → P) → P
 after (Ok a) next b e so = so a refl e
 after (Err refusal) next b e so = absurd cc

@@ -37,7 +37,7 @@ same_held : (o : Option ℕ) (f g : ℕ → Bool) → ((k : ℕ) → o ≡ Some 
 same_held None f g so = refl
 same_held (Some k) f g so = so k refl
 
--- what is met on the way up stays the same where the holders do
+-- what is met on the way up stays the same if the holders do
 is_beneath-kept : (P : ℕ → Type 0) (t u : Tree) → ((d up : ℕ) → P d → holder_of t d ≡ Some up → P up) → ((d : ℕ) → P d → holder_of u d ≡ holder_of t d)
     → (steps d n : ℕ) → P d → is_beneath steps u d n ≡ is_beneath steps t d n
 is_beneath-kept P t u closed same zero d n here = refl
@@ -45,7 +45,7 @@ is_beneath-kept P t u closed same (suc steps) d n here =
     ap (λ b. d == n || not (d == 1) && b) (ap (λ o. if_held o (λ up. is_beneath steps u up n)) (same d here)
     ∙ same_held (holder_of t d) (λ up. is_beneath steps u up n) (λ up. is_beneath steps t up n) (λ up e. is_beneath-kept P t u closed same steps up n (closed d up here e)))
 
--- where a name stands there is an entry of that directory
+-- if no entry is a directory's, none of its names is found
 All-key : (n : ℕ) (spot : Spot) (es : List (Spot × ℕ)) → AllByRecursion (λ (e : Spot × ℕ). e.0.dir ≢ n) es → (v : ℕ) → lookup spot_cmp spot es ≡ Some v → spot.dir ≢ n
 All-key n spot [] all v e = absurd cc
 All-key n spot (x ∷ xs) all v e =

@@ -46,7 +46,7 @@ holder-live t well n up e = by_entry (find (λ e. e.1 == n) t.entries) refl e
         let same : found.0.dir ≡ up = cc in
         subst (λ k. IsTrue (is_live_directory t k)) same stands.held
 
--- the way up is the same where the holders of all on it are
+-- the way up is the same if the holders of all on it are
 pub comes_up-kept : (P : ℕ → Type 0) (t u : Tree) → ((n up : ℕ) → P n → holder_of t n ≡ Some up → P up) → ((n : ℕ) → P n → holder_of u n ≡ holder_of t n)
     → (steps n : ℕ) → P n → IsTrue (comes_up steps t n) → IsTrue (comes_up steps u n)
 comes_up-kept P t u closed same zero n here h = h

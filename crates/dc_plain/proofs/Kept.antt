@@ -14,7 +14,7 @@ use Rattle.dc_plain.proofs.Found.{makes}
 use Rattle.dc_plain.proofs.Chains.{after, left_with}
 use Rattle.dc_plain.proofs.Spotted.{path_is}
 
--- the tree that is left is well formed, and within the limit where the first one was
+-- the tree that is left is well formed, and within the limit if the first one was
 abbrev pub IsKept : ℕ → Tree → Tree → Type 0
 IsKept limit t left = IsWellFormed left × (IsWithin limit t → IsWithin limit left)
 

@@ -1,4 +1,4 @@
--- A call alters the tree where it touches some key.
+-- A call alters the tree if it touches some key.
 use Rattle.std.proofs.Common.{◌≡◌, ◌≢◌, ◌⊎◌, inl, inr, ℕ, List, [], ◌∷◌, Bool, true, false, Option, Some, None, Result, Ok, Err, refl, ap, sym, ◌∙◌}
 use Rattle.dc_names.specs.Laws.{PartsAreNamesOrDots}
 use Rattle.dc_names.specs.declared.refusal.Refusal.{Refusal}

@@ -90,7 +90,7 @@ move-exact t from old to new moved well source (Some p) at apart unentered ready
           (gone-each t to new p.0 leads.inode well leads.target (unentered p refl) leads.lives (moved_to (without_entry t to new p.0) from old to new moved.0) refl),
     )
 
--- where both names lead to one inode no key is listed
+-- if both names lead to one inode no key is listed
 pub stay_keys : (t : Tree) (from : ℕ) (old : List ℕ) (to : ℕ) (new : List ℕ) (flags : Flags) (moved there : Target) → Leads t from old moved → Leads t to new there → (moved.0 == there.0) ≡ true → keys_by flags t from old to new ≡ []
 stay_keys t from old to new flags moved there source at same = by_test flags.exchange refl
   where

@@ -38,7 +38,7 @@ pub renamed_keys : (t : Tree) (from : ℕ) (old : List ℕ) (to : ℕ) (new : Li
     → entry_number t (record { dir = to; name = new }) ≡ there → lead_to_one (Some n) there ≡ false → keys_renamed t from old to new ≡ entry_key from old ∷ entry_key to new ∷ keys_moved t from to n ++ with_number there (keys_gone t)
 renamed_keys t from old to new n there source at apart = (λ i. by_targets t from old to new (source i) (at i)) ∙ rw apart refl
 
--- where both lead to one inode
+-- if both lead to one inode
 pub unmoved_keys : (t : Tree) (from : ℕ) (old : List ℕ) (to : ℕ) (new : List ℕ) (n m : ℕ) → entry_number t (record { dir = from; name = old }) ≡ Some n → entry_number t (record { dir = to; name = new }) ≡ Some m → (n == m) ≡ true
     → keys_renamed t from old to new ≡ []
 unmoved_keys t from old to new n m source at same = (λ i. by_targets t from old to new (source i) (at i)) ∙ rw same refl
@@ -77,7 +77,7 @@ module _ (t : Tree) (from : ℕ) (old : List ℕ) (to : ℕ) (new : List ℕ) (n
         ]
       ]
 
-  -- what each of the keys says afterwards, where the tree before the move is v
+  -- what each of the keys says afterwards, if the tree before the move is v
   module _ (v : Tree) (ready : IsReady v from old to new n) (same_inode : inode_of v n ≡ inode_of t n) (there : Option Target) (at : entry_of t to (Entry new) ≡ there) (apart : Some (n, kind_of inode) ≢ there)
       (gone : List Key) (each_gone : (key : Key) → IsAmong key gone → fact_at (moved_to v from old to new n) key ≢ fact_at t key) where
     moved_key : (key : Key) (b c : Bool) → is_live_directory t n ≡ b → (from == to) ≡ c → IsAmong key (if b && not c then record { number = n; label = Parent } ∷ [] else []) → fact_at (moved_to v from old to new n) key ≢ fact_at t key

@@ -34,7 +34,7 @@ pub swapped_keys : (t : Tree) (from : ℕ) (old : List ℕ) (to : ℕ) (new : Li
     → keys_swapped t from old to new ≡ entry_key from old ∷ entry_key to new ∷ keys_moved t from to m ++ keys_moved t to from n
 swapped_keys t from old to new m n first second apart = (λ i. by_both t from old to new (first i) (second i)) ∙ rw apart refl
 
--- where both lead to one inode
+-- if both lead to one inode
 pub unswapped_keys : (t : Tree) (from : ℕ) (old : List ℕ) (to : ℕ) (new : List ℕ) (m n : ℕ) → entry_number t (spot_at from old) ≡ Some m → entry_number t (spot_at to new) ≡ Some n → (m == n) ≡ true
     → keys_swapped t from old to new ≡ []
 unswapped_keys t from old to new m n first second same = (λ i. by_both t from old to new (first i) (second i)) ∙ rw same refl
@@ -58,7 +58,7 @@ module _ (t : Tree) (from : ℕ) (old : List ℕ) (moved : Target) (to : ℕ) (n
       let dir = names-live t (spot_at from old) moved.0 well can.first in
       parent-fact swapped there.0 from dir.held live (not_root t to new from old there.0 at.inode well at.target at.lives) (facts.held_too live)
 
-  -- where the two names stand in one directory it is the one that it was
+  -- if the two names stand in one directory it is the one that it was
   own_parent : (n up down : ℕ) → (IsTrue (is_live_directory t n) → entry_of t n Parent ≡ Some (up, Dir)) → (IsTrue (is_live_directory t n) → entry_of swapped n Parent ≡ Some (down, Dir))
       → (b : Bool) → is_live_directory t n ≡ b → (c : Bool) → (up == down) ≡ c
       → IsAmong (record { number = n; label = Parent }) (if b && not c then record { number = n; label = Parent } ∷ [] else []) ⊎ (entry_of swapped n Parent ≡ entry_of t n Parent)

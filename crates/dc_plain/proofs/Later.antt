@@ -1,4 +1,4 @@
--- An outcome stays where more is told.
+-- An outcome stays as it is when more is told.
 use Rattle.std.proofs.Common.{◌≡◌, ℕ, zero, suc, List, [], ◌∷◌, ◌++◌, ◌-◌, ◌==◌, ◌&&◌, ◌||◌, not, Bool, true, false, cond, Option, Some, None, refl, option_map, if◌then◌else◌, length, take, slice_get}
 use Rattle.dc_names.specs.declared.refusal.Refusal.TheVariants.{TooManyLinks}
 use Rattle.dc_names.specs.declared.limits.TheConstants.{MOST_LINKS}

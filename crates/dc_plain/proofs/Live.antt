@@ -1,4 +1,4 @@
--- Where a path leads, an inode lives.
+-- An inode lives where a path leads.
 use Rattle.std.proofs.Common.{◌≡◌, ℕ, zero, suc, List, [], ◌∷◌, ◌++◌, ◌==◌, ◌&&◌, ◌||◌, not, Bool, true, false, cond, Option, Some, None, refl, ap, sym, ◌∙◌, option_map, option_and_then, subst, if◌then◌else◌}
 use Rattle.dc_names.specs.declared.refusal.Refusal.TheVariants.{NotFound, NotDirectory, TooManyLinks}
 use Rattle.dc_names.specs.Bytes.{is_empty}

@@ -1,4 +1,4 @@
--- Which refusals a resolution comes to, and that it stays where more is told.
+-- Which refusals a resolution comes to, and that it stays as it is when more is told.
 use Rattle.std.proofs.Common.{◌≡◌, ℕ, zero, suc, List, [], ◌∷◌, ◌++◌, ◌-◌, ◌==◌, ◌&&◌, ◌||◌, not, Bool, true, false, Option, Some, None, refl, arith, subst, if◌then◌else◌, length, take, slice_get}
 use Rattle.dc_names.specs.declared.refusal.Refusal.{Refusal}
 use Rattle.dc_names.specs.declared.refusal.Refusal.TheVariants.{NotFound, NotDirectory, TooManyLinks}

@@ -1,4 +1,4 @@
--- A tree without an entry, and without its inode where that was its last name, stays well formed.
+-- A tree without an entry, and without its inode if that was its last name, stays well formed.
 use Rattle.std.proofs.Common.{◌≡◌, ◌≢◌, ℕ, ◌+◌, ◌≤◌, ◌==◌, List, [], ◌∷◌, Bool, true, false, cond, not, Option, Some, None, is_some, IsTrue, refl, ap, sym, ◌∙◌, arith, find, option_map, subst, if◌then◌else◌, map, filter}
 use Rattle.std.specs.Ordering.{nat_cmp, is_eq}
 use Rattle.std.specs.List.{AllByRecursion}

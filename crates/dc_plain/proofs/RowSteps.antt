@@ -18,7 +18,7 @@ module _ (from to : Spot) (there : Option Target) (t room made : Tree) (rows : m
   way : made ≡ without_moved t from to there
   way = rows ∙ ap (λ u. without_moved u from to there) same
 
-  -- where way was made the new name is free
+  -- once way was made the new name is free
   pub way_is_free : LeadsTo t to.dir to.name there → lookup spot_cmp (spot_at to.dir name) made.entries ≡ None
   way_is_free leads = (λ i. lookup spot_cmp (spot_at to.dir (is i)) (way i).entries) ∙ free_over t from to there leads
 

@@ -118,7 +118,7 @@ by_trees t u false e other = refl
 pub alters_so : (limit : ℕ) (t : Tree) (request : Request) → tree_after limit t request ≢ t → alters limit t request ≡ true
 alters_so limit t request other = by_trees (tree_after limit t request) t (same_tree (tree_after limit t request) t) refl other
 
--- what is true exactly where a call alters the tree is the test of it
+-- what is true exactly if a call alters the tree is the test of it
 pub alters_decided : (limit : ℕ) (t : Tree) (request : Request) (b : Bool) → (IsTrue b ↔ Alters limit t request) → b ≡ alters limit t request
 alters_decided limit t request true is = sym (alters_so limit t request (is.0 refl))
 alters_decided limit t request false is = sym (by_test (same_tree (tree_after limit t request) t) refl)

@@ -86,7 +86,7 @@ among_directories (suc steps) t d n well live up dead =
       | false ↦ λ h. held_none (holder_of t d) (λ up. comes_up steps t up) (λ up. is_beneath (suc steps) t up n) (λ k is here. among_directories steps t k n well (holder-live t well d k is) here dead) h
     ] up)
 
--- so a way up meets an inode only where that is a directory which may be met
+-- so a way up meets an inode only if that is a directory which may be met
 pub way_past : (t : Tree) (d n : ℕ) → IsWellFormed t → IsTrue (is_live_directory t d) → (IsTrue (is_live_directory t n) → (steps : ℕ) × (is_beneath steps t d n ≡ false)) → (steps : ℕ) × (is_beneath steps t d n ≡ false)
 way_past t d n well live so = by_kind (is_live_directory t n) refl
   where

@@ -50,7 +50,7 @@ some_word : (b : ℕ) (ps : List (List ℕ)) → is_empty (map part_of (filter (
 some_word b [] = search rules
 some_word b (p ∷ ps) = search rules
 
--- a part stands there exactly where some byte is no slash
+-- a part stands there exactly if some byte is no slash
 pub beyond_slashes : (bytes : List ℕ) → list_any (λ b. not (b == 47)) bytes ≡ not (is_empty (parts_of bytes))
 beyond_slashes [] = refl
 beyond_slashes (b ∷ bs) =
@@ -120,7 +120,7 @@ module _ {front text : List ℕ} (f : IsFront front text) where
         ∙ sym (ap (λ fr. has_parts fr && has_parts f.before.piece) w.1 ∙ ap (λ b. b && has_parts f.before.piece) (valid_joined w.0 [] ∙ and_true (has_parts w.0)))
   ]
 
-  -- nothing stands behind it only where there is nothing at all
+  -- nothing stands behind it only if there is nothing at all
   pub nothing_cut : ends_in_slash text ≡ false → f.before.piece ≡ [] → parts_of text ≡ []
   nothing_cut unended none = elim f.ends [
     | inl e ↦ ap parts_of (f.before.is ∙ (λ i. e i ++ none i))

@@ -71,7 +71,7 @@ module _ {F T S : Type 0} (g : Ghosts F T S) where
         ap (λ ps. resolve teller how links place ps slash) (sym (append-nil (parts_of bytes))) ∙ need teller told none,
   )
 
-  -- a part of what is left, where a walk has come to it
+  -- a part of what is left, once a walk has come to it
   pub first_over : {finder f : F} {how : Follow} {links left : ℕ} {slash is_last : Bool} {start place : Target} {bytes rest : List ℕ}
       → MayAskOver g finder how links slash start bytes is_last → g.becomes finder f → CameTo how slash is_last links start bytes (g.said f) left place rest → MayAskFirst (g.may_ask f) place (parts_of rest)
   first_over {f = f} {how = how} {left = left} {slash = slash} {place = place} {rest = rest} may on came part more is asked =

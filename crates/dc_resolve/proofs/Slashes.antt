@@ -1,4 +1,4 @@
--- Where a directory is wanted, a slash behind the path says nothing more.
+-- If a directory is wanted, a slash behind the path says nothing more.
 use Rattle.std.proofs.Common.{◌≡◌, ℕ, zero, suc, ◌&&◌, ◌||◌, not, List, [], ◌∷◌, ◌++◌, Bool, true, false, if◌then◌else◌, Option, Some, None, refl, ap, sym, ◌∙◌}
 use Rattle.dc_names.specs.Bytes.{is_empty}
 use Rattle.dc_names.specs.Paths.{Part, path_in}

@@ -66,7 +66,7 @@ end_zeros (suc x ∷ xs) (suc len) fits ends =
     let at = ends (suc i) (omega arith) in (λ lt. at.0 (omega arith), λ some. let lt = at.1 some in omega arith)) in
     omega (arith, no_bit x, pow-suc 2 len, pow-suc 2 (length xs))
 
--- the bits of the zeros are those from a place on just where the bytes end there
+-- the bits of the zeros are those from a place on exactly if the bytes end there
 pub zeros_tell : (bytes : List ℕ) (len : ℕ) → length bytes ≡ 8 → len ≤ 8 → (zeros bytes ≡ 2 ^ 8 - 2 ^ len) ↔ HasBytes bytes len
 zeros_tell bytes len size fits =
     let whole = ap (λ (n : ℕ). 2 ^ n) size in

@@ -1,4 +1,4 @@
--- Where one session alone has orders, its run is the plain one.
+-- If one session alone has orders, its run is the plain one.
 use Rattle.std.proofs.Common.{length-append, ◌≡◌, ◌≢◌, ℕ, zero, suc, ◌+◌, ◌<◌, ◌≤◌, ◌==◌, Bool, true, false, cond, List, [], ◌∷◌, ◌++◌, length, map, set, refl, ap, ap₂, sym, ◌∙◌, subst, arith, ⊎_elim}
 use mathlib.Core.Logic.{dite}
 use mathlib.Core.Option.{some, some-injective, some-ne-none}
@@ -44,7 +44,7 @@ strands_at k turns j u e = dite (dec_lt j k)
     (λ less. some-injective (strand j turns) u (sym (strands_here k turns j less) ∙ e))
     (λ more. let l = strands_long k turns in absurd (past_all (strands k turns) j u (omega arith) e))
 
--- where one list alone has records, they are in its order
+-- if one list alone has records, they are in its order
 pub one_order : (ss : List (List Record)) (i : ℕ) (s : List Record) (order : List Record) → get_elem? ss i ≡ some s → ((j : ℕ) (u : List Record) → j ≢ i → get_elem? ss j ≡ some u → u ≡ []) → Merges ss order → order ≡ s
 one_order ss i s [] at others m = sym (m i s at)
 one_order ss i s (x ∷ xs) at others m = dite (ℕ_discrete m.0 i)

@@ -70,7 +70,7 @@ once_sum m (suc n) le =
     let one : once_below n m ≡ 1 = ap (λ b. cond b 1 0) (lt-ltb n m (omega arith)) in
     omega arith
 
--- where each call of a history is one record's, there are as many records
+-- if each call of a history is one record's, there are as many records
 pub history_short : (ss : List (List Record)) (m : ℕ) → ((p : ℕ) → all_hits p ss ≡ once_below p m) → m ≤ size ss
 history_short ss m once =
     let most = all_most ss m in

@@ -89,7 +89,7 @@ serving_ends limit streams said NoMemory good is = inr record { said = said; und
 serving_ends limit streams said Spent good is = never_spent good.input said good.read.fits good.says is
 serving_ends limit streams said Write good is = record { said = said; understood = good; count = is.0; served = is.1 }
 
--- if the sizes are right, a cache isn't made only if memory ran out
+-- if the sizes are right, only a lack of memory keeps a cache from being made
 pub unmade : {A : Type 0} (limit : ℕ) (phases : List (List Order)) (old : Option (List ℕ)) (right : Bool) (made : Result A MakeFault) (why : MakeFault) → right ≡ true → (made ≡ Err makings.BadSize → right ≡ false)
     → made ≡ Err why → (fault : ServeFault) → fault ≡ from_making why → ServesFront limit phases old old fault
 unmade limit phases old right made makings.BadSize is wrong was fault from = absurd (true≢false (sym is ∙ wrong was))

@@ -1,4 +1,4 @@
--- Where in each phase one session alone has orders, the run is the plain one.
+-- If in each phase one session alone has orders, the run is the plain one.
 use Rattle.std.proofs.Common.{◌≡◌, ◌≢◌, ℕ, zero, suc, ◌<◌, ◌≤◌, ◌==◌, Bool, true, false, cond, List, [], ◌∷◌, ◌++◌, filter, length, map, drop, refl, ap, sym, ◌∙◌, subst, arith, eq-eqb, ne_eqb}
 use mathlib.Core.Logic.{dite}
 use mathlib.Core.Option.{some, some-injective, some-ne-none}
@@ -53,7 +53,7 @@ flat_rise p q (t ∷ turns) r a =
       subst (λ l. ends p l ≤ q) (sym is) (omega arith),
     )
 
--- a session's list is empty where it has no orders
+-- a session's list is empty if it has no orders
 hits_other : (p s k : ℕ) (turns : List Turn) → OrdersAre s (orders_of turns) → k ≢ s → hits p (strand k turns) ≡ 0
 hits_other p s k [] a ne = refl
 hits_other p s k (t ∷ turns) a ne =

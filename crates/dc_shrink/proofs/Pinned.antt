@@ -6,7 +6,7 @@ use Rattle.dc_shrink.specs.Uses.{KeepsUse, SetsUse}
 use Rattle.dc_shrink.proofs.Steps.{dropped_pinned}
 use Rattle.dc_shrink.proofs.Uses.{kept, set_again, used_if_pinned}
 
--- what holds anyway holds where it fails
+-- what holds anyway holds if it fails
 pub on_err : {T E P : Type 0} (r : Result T E) → P → OnErr r P
 on_err (Ok x) h = tt
 on_err (Err e) h = h

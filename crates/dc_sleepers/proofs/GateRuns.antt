@@ -87,7 +87,7 @@ pub runs_sound : (s : State) → IsSound s → (es : List Event) → AllCan s es
 runs_sound s S [] can near = S
 runs_sound s S (e ∷ es) can near = runs_sound (after s e) (steps s e.thread can.0.0 S e.act can.0.1 near.0) es can.1 near.1
 
--- where nobody is
+-- no thread passes a test that an idle one fails
 none : (threads : ℕ) (test : Thread → Bool) → test idle ≡ false → how_many (opening threads) test ≡ 0
 none threads test fails = count_none test idle fails threads
 

@@ -29,7 +29,7 @@ names_counted n entries =
     counted (λ (m : ℕ). m == n) (map (λ (e : Vec ℕ × ℕ). e.1) entries) ∙ how_many-map (λ (m : ℕ). m == n) (λ (e : Vec ℕ × ℕ). e.1) entries
     ∙ sym (how_many-map (λ (e : Spot × ℕ). e.1 == n) entry_shown entries)
 
--- a key is for an entry in a directory exactly where its number is the directory's
+-- a key is for an entry in a directory exactly if its number is the directory's
 is_held : (d : ℕ) (key : List ℕ) → d < 2 ^ 64 → IsKey key → bytes_eq (take 8 key) (number_bytes d) ≡ ((spot_in key).dir == d)
 is_held d key fits is =
     let front : take 8 key ≡ number_bytes (spot_in key).dir =

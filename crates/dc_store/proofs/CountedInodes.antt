@@ -20,7 +20,7 @@ abbrev pub one : Option ℕ → ℕ → ℕ
 one None q = 0
 one (Some n) q = cond (n == q) 1 0
 
--- an inode has the count of its entries, and one more where it has just lost one
+-- an inode has the count of its entries, and one more if it has just lost one
 abbrev pub IsCounted : Option ℕ → List (ℕ × Inode) → List (Spot × ℕ) → Type 0
 IsCounted lost inodes entries = (q : ℕ) (inode : Inode) → inode_at inodes q ≡ Some inode → inode.count ≡ how_many (λ (e : Spot × ℕ). e.1 == q) entries + one lost q
 
@@ -104,7 +104,7 @@ module _ (inodes : List (ℕ × Inode)) (sorted : T (is_sorted nat_cmp inodes)) 
       nodes_either true = nodes_less (changed n one_down inodes) (sorted_changed n one_down inodes sorted) n ∙ ap (remove_entry (is_at (nat_cmp n))) same_nodes
       nodes_either false = same_nodes
 
-      -- its node goes where no entry leads to it
+      -- its node goes if no entry leads to it
       pub lost_nodes : nodes_of (inodes_after (Some n) inodes) ≡ nodes_after (Some n) entries (nodes_of inodes)
       lost_nodes = nodes_either (count_kept (changed n one_down inodes) n == 0) ∙ ap (λ (k : ℕ). if k == 0 then remove_entry (is_at (nat_cmp n)) (nodes_of inodes) else nodes_of inodes) count_left
 

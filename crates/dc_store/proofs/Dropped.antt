@@ -1,4 +1,4 @@
--- A store without an entry, and without the node where that was its last name.
+-- A store without an entry, and without the node if that was its last name.
 use Rattle.std.proofs.Common.{◌≡◌, ◌≢◌, ℕ, ◌==◌, not, List, Bool, true, false, cond, map, Option, Some, None, IfSome, IsSomeAnd, IsTrue, refl, ap, sym, ◌∙◌, subst, arith, if◌then◌else◌}
 use Rattle.std.specs.BTreeMap.{is_at}
 use Rattle.std.specs.Cmp.{nat_cmp_total, unsigned_tied}
@@ -25,7 +25,7 @@ nodes_without n nodes in_order =
     remove_shown nat_cmp nat_cmp_total (λ k. k) node_shown (nat_cmp n) n nodes (all_of_each _ (λ e. refl) nodes) (to_test _ in_order)
     ∙ (λ i. where_key nat_cmp (λ other. not (unsigned_tied n other i)) (map inode_shown nodes))
 
--- the entries that are left where one goes
+-- the entries that are left when one goes
 pub entries_left : (t : Tree) (d : ℕ) (name : List ℕ) (n : ℕ) → (without_entry t d name n).entries ≡ without_spot (spot_at d name) t.entries
 entries_left t d name n = by_last (names_of (record t { entries = without_spot (spot_at d name) t.entries }) n == 0)
   where

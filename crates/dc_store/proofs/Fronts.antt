@@ -37,7 +37,7 @@ one_deeper Less p q e = refl
 one_deeper Equal p q e = e
 one_deeper Greater p q e = refl
 
--- where the first bytes of two names decide, so do the names
+-- two names compare as their first bytes do, if these decide
 first_decide : (k m n : ℕ) (a b : List ℕ) → k ≤ m → k ≤ n
     → ordering_then (slice_cmp nat_cmp (take k (a ++ replicate m 0)) (take k (b ++ replicate n 0))) (slice_cmp nat_cmp a b) ≡ slice_cmp nat_cmp a b
 first_decide k m n [] [] p q = then_equal _ (zeros_tie k m n p q)

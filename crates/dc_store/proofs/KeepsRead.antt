@@ -23,7 +23,7 @@ module _ {inodes : List (ℕ × Inode)} {next : ℕ} {t : Tree} (now : Keeps ino
   names_of_tree : IsTrue (is_sorted name_cmp (names_at (inode_at inodes n))) → map (λ e. e.0) (names_at (inode_at inodes n)) ≡ names_in t n
   names_of_tree ordered = sym (names_listed inodes (from_test _ (in_order now)) n ordered) ∙ ap (names_by n) (entries_are now)
 
-  -- where nothing lives no name stands
+  -- if nothing lives there no name stands
   none_in : inode_at inodes n ≡ None → [] ≡ names_in t n
   none_in none = sym (ap (λ o. map (λ e. e.0) (names_at o)) none) ∙ names_of_tree (subst (λ o. IsTrue (is_sorted name_cmp (names_at o))) (sym none) refl)
 
@@ -63,7 +63,7 @@ module _ {inodes : List (ℕ × Inode)} {next : ℕ} {t : Tree} (now : Keeps ino
   pub entries_told : (inode : Inode) → Some inode ≡ inode_at inodes n → IsTrue (is_sorted name_cmp inode.names) → inode.names ≡ entries_in t n
   entries_told inode e ordered = ap names_at e ∙ pairs_of_tree (subst (λ o. IsTrue (is_sorted name_cmp (names_at o))) e ordered)
 
-  -- where nothing lives there is none
+  -- if nothing lives there is none
   pub no_entries : None ≡ inode_at inodes n → [] ≡ entries_in t n
   no_entries none = ap names_at none ∙ pairs_of_tree (subst (λ o. IsTrue (is_sorted name_cmp (names_at o))) none refl)
 

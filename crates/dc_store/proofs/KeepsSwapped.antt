@@ -19,7 +19,7 @@ use Rattle.dc_store.proofs.NodesKept.{nodes_kept, held_shown, held_set}
 use Rattle.dc_store.proofs.Stores.{Shows}
 use Rattle.dc_store.proofs.Swaps.{after_swap}
 
--- where one entry leads elsewhere another one is there still
+-- if one entry is led elsewhere another one is there still
 pub there_after : (a b : Spot) (n : ℕ) (es : List (Spot × ℕ)) → IsSome (lookup spot_cmp b es) → IsSome (lookup spot_cmp b (put spot_cmp a n es))
 there_after a b n es there = subst IsSome (sym (find-put spot_cmp spots_total b a n es)) (by_test (eq_by_cmp spot_cmp b a))
   where

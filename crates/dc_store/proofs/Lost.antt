@@ -53,7 +53,7 @@ held_by t spot (x ∷ xs) all v e =
       | false ↦ λ other found. held_by t spot xs all.1 v found
     ] refl e
 
--- where nothing lives no entry stands
+-- if nothing lives there no entry stands
 none_stands : (t : Tree) (n : ℕ) (name : List ℕ) → IsWellFormed t → inode_of t n ≡ None → entry_number t (spot_at n name) ≡ None
 none_stands t n name well none = by_entry (entry_number t (spot_at n name)) refl
   where

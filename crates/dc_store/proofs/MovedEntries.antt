@@ -18,7 +18,7 @@ ties_both_ways : (x y : Spot) → eq_by_cmp spot_cmp x y ≡ eq_by_cmp spot_cmp 
 ties_both_ways x y = ap is_eq (spots_total.antisymm x y) ∙ turned (spot_cmp y x)
 
 module _ (a b : Spot) (n : ℕ) (es : List (Spot × ℕ)) (sorted : IsTrue (is_sorted spot_cmp es)) (apart : eq_by_cmp spot_cmp a b ≡ false) where
-  -- what is left where the old entry goes after the new one was put in
+  -- what is left if the old entry goes after the new one was put in
   found_after : (q : Spot) → lookup spot_cmp q (without_spot a (put spot_cmp b n es)) ≡ cond (not (eq_by_cmp spot_cmp a q)) (cond (eq_by_cmp spot_cmp q b) (Some n) (lookup spot_cmp q es)) None
   found_after q = lookup-take spot_cmp spots_total a q (put spot_cmp b n es) ∙ ap (λ o. cond (not (eq_by_cmp spot_cmp a q)) o None) (find-put spot_cmp spots_total q b n es)
 

@@ -21,11 +21,11 @@ use Rattle.dc_store.proofs.Decides.{same_number, other_number}
 exact : (m n : ℕ) → nat_cmp m n ≡ Equal → m ≡ n
 exact m n e = same_number m n (ap is_eq e)
 
--- by the order two numbers are one where they are equal
+-- two numbers tie in the order whichever of them comes first
 pub tied_ways : (m n : ℕ) → eq_by_cmp nat_cmp m n ≡ eq_by_cmp nat_cmp n m
 tied_ways m n = grind (arith, nat_tests)
 
--- lists of inodes in order are one where each number finds the same
+-- lists of inodes in order are one if each number finds the same
 pub same_inodes : (es fs : List (ℕ × Inode)) → T (is_sorted nat_cmp es) → T (is_sorted nat_cmp fs) → ((q : ℕ) → inode_at es q ≡ inode_at fs q) → es ≡ fs
 same_inodes = same_entries nat_cmp nat_cmp_total exact
 

@@ -27,7 +27,7 @@ equal_of Greater e = cc
 pub same_spot : (a b : Spot) → eq_by_cmp spot_cmp a b ≡ true → a ≡ b
 same_spot a b e = exact a b (equal_of (spot_cmp a b) e)
 
--- lists in order are one where each name finds the same
+-- lists in order are one if each name finds the same
 pub same_spots : (es fs : List (Spot × ℕ)) → T (is_sorted spot_cmp es) → T (is_sorted spot_cmp fs) → ((q : Spot) → lookup spot_cmp q es ≡ lookup spot_cmp q fs) → es ≡ fs
 same_spots = same_entries spot_cmp spots_total exact
 

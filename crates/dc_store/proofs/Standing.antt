@@ -32,7 +32,7 @@ same_test m n e = grind (arith, nat_tests)
 one_here : (m n : ℕ) → m ≡ n → ◌≡◌ {A = ℕ} (cond (m == n) 1 0) 1
 one_here m n e = ap (λ b. cond {A = ℕ} b 1 0) (same_test m n e)
 
--- where an entry is found, at least one leads there
+-- if an entry is found, at least one leads where it does
 leads_one : (n : ℕ) (es : List (Spot × ℕ)) (q : Spot) → lookup spot_cmp q es ≡ Some n → 1 ≤ how_many (λ (e : Spot × ℕ). e.1 == n) es
 leads_one n [] q e = absurd cc
 leads_one n (x ∷ xs) q e = elim (eq_by_cmp spot_cmp q x.0) as (λ b. cond b (Some x.1) (lookup spot_cmp q xs) ≡ Some n → 1 ≤ cond (x.1 == n) 1 0 + how_many (λ (e : Spot × ℕ). e.1 == n) xs) [

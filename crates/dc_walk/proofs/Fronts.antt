@@ -60,7 +60,7 @@ module _ (v : View) (us : List Use) (d : Use) (j : ℕ) (marked : Marked 0 0 v.w
     counted = is.count;
   }
 
-  -- and its fact is true, where the note is
+  -- and its fact is true, if the note is
   true_there : SpelledIsRead → (limit : ℕ) → IsTrueNow limit v use_of.place → Holds (tree_of limit v.hold.history) use_of.fact
   true_there read limit t =
       let words : List ℕ = note_words (note_at v use_of.place) in

@@ -330,7 +330,7 @@ fn do_free<R: Wait>(rt: &R, cache: &Dcache, pass: &mut Pass)
     cache.join(pass, other);
 }
 
-/// What a call that tries for the lock comes to in one thread, where nobody else has it.
+/// What a call that tries for the lock comes to in one thread, if nobody else has it.
 fn at_once(told: Option<Result<Stamped, Unanswered>>) -> Result<Stamped, Unanswered> {
     match told {
         Some(told) => told,

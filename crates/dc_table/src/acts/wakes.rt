@@ -7,7 +7,7 @@
 //!
 //! A body of such a step that doesn't wake, or that wakes before the store, isn't proved: the step promises
 //! `W.woken` of the pass that it hands back. Of a type parameter nothing is known but what its methods say,
-//! so `rest` alone gives the fact, once the acts have led to the machine's `Out`, and `freed`, where they
+//! so `rest` alone gives the fact, once the acts have led to the machine's `Out`, and `freed`, with which they
 //! begin, asks for a pass that has given the lock back.
 
 ghost use Rattle.dc_table.specs.Passes.{Fits, IsIdle};

@@ -6,7 +6,7 @@ use Rattle.dc_check.specs.Judging.{RisesByActor}
 use Rattle.dc_check.proofs.Floors.{RiseFrom}
 use Rattle.dc_check.proofs.order.first_falling.Given as goal
 
--- the points of what is left rise from those met exactly where all of them rise
+-- the points of what is left rise from those met exactly if all of them rise
 abbrev pub invariant-loop-i : goal.invariant-loop-i
 invariant-loop-i l = record {
   on : RiseFrom (λ n. unwrap_or (get nat_cmp l.latest n) 0) (stamps_of (drop l.i l.stamps)) → RisesByActor (stamps_of l.stamps);

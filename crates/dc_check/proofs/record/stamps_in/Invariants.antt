@@ -5,7 +5,7 @@ use Rattle.dc_check.specs.Records.{AreSessions, ArePaired, served_orders, stamps
 use Rattle.dc_check.specs.Stamps.{stamps_of}
 use Rattle.dc_check.proofs.record.stamps_in.Given as goal
 
--- what is left pairs exactly where all of it does, and its stamps come behind those so far
+-- what is left pairs exactly if all of it does, and its stamps come behind those so far
 abbrev pub invariant-loop-one : goal.invariant-loop-one
 invariant-loop-one l = record {
   small : AreSessions (map response_of l.left.items);
