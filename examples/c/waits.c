@@ -6,8 +6,9 @@
  * some milliseconds a time. Beside them one thread makes changes, and another looks up names that no row has. Prints the
  * median and the longest wait of both, each for SECONDS (5 unless given), and how many lists ended within one wait at
  * most: as the header hands the lock to a thread that was passed over, and unless the third word is `tickets` as it
- * would be without that. It ends with 1 if with tickets more than MOST_LISTS ended within one wait. Built with -DUNFAIR
- * no ticket is ever taken, so that it fails.
+ * would be without that. It ends with 1 if with tickets more than MOST_LISTS ended within one wait, and also more than one
+ * in FEWER of as many as do without them: on a busy machine a thread that has the ticket may itself be kept off the
+ * processor, which no lock can help. Built with -DUNFAIR no ticket is ever taken, so that it fails.
  */
 #define _GNU_SOURCE
 #include <gigbewu.h>
@@ -19,7 +20,8 @@
 #include <time.h>
 #include <unistd.h>
 
-enum { HOGS = 3, BUCKETS = 256, INODES = 1048576, NAMES = 20000, SECONDS = 5, MOST = 1000000, REST = 200, MOST_LISTS = 12 };
+enum { HOGS = 3, BUCKETS = 256, INODES = 1048576, NAMES = 20000, SECONDS = 5, MOST = 1000000, REST = 200, MOST_LISTS = 12,
+       FEWER = 10 };
 
 #ifdef UNFAIR
 #define CLOCK NULL
@@ -68,6 +70,11 @@ static void *list(void *given)
     return NULL;
 }
 
+static long most(long one, long other)
+{
+    return one > other ? one : other;
+}
+
 struct wait {
     double began;
     long lists;
@@ -82,7 +89,7 @@ static struct wait begin_wait(void)
 static void end_wait(struct caller *caller, struct wait wait)
 {
     long passed = atomic_load(&lists) - wait.lists;
-    caller->passed = passed > caller->passed ? passed : caller->passed;
+    caller->passed = most(caller->passed, passed);
     if (caller->calls < MOST)
         caller->waited[caller->calls++] = now() - wait.began;
     usleep(REST);
@@ -169,7 +176,7 @@ static long measure(int hogs, unsigned seconds)
     printf("\n");
     free(changer.waited);
     free(looker.waited);
-    return changer.passed > looker.passed ? changer.passed : looker.passed;
+    return most(changer.passed, looker.passed);
 }
 
 int main(int count, char **words)
@@ -184,14 +191,15 @@ int main(int count, char **words)
     for (long i = 0; i < names; i++)
         must(gb_create(&gate, &pass, GB_ROOT, path, (size_t)sprintf(path, "/long/%ld", i), &found) == 0, "a name");
     printf("milliseconds waited, median and longest, and lists at most, beside threads that list %ld names:\n", names);
-    long passed = 0;
+    long passed = 0, without = 0;
     for (int hogs = 1; hogs <= HOGS; hogs++) {
         gate.now = CLOCK;
-        long now_passed = measure(hogs, seconds);
-        passed = now_passed > passed ? now_passed : passed;
+        passed = most(passed, measure(hogs, seconds));
         gate.now = NULL;
         if (!is_with_tickets_alone)
-            measure(hogs, seconds);
+            without = most(without, measure(hogs, seconds));
     }
-    return gb_close(&pass) != 0 || passed > MOST_LISTS;
+    for (int hogs = 1; hogs <= HOGS && is_with_tickets_alone && passed > MOST_LISTS; hogs++)
+        without = most(without, measure(hogs, seconds));
+    return gb_close(&pass) != 0 || (passed > MOST_LISTS && FEWER * passed > without);
 }
